@@ -1,0 +1,47 @@
+-- How large totals and gains of a loaded catalogue get: they fit 32 bits. Assumes nothing.
+use Prim.Native.Nat.{ℕ, zero, suc, _+_, _-_, _*_, _≤_, _<_}
+use native.Mathlib.Nat.{mul-le-mul-left}
+use native.Mathlib.Omega.{arith}
+use mathlib.Core.Path.{_≡_, refl, sym, ap, _∙_, subst}
+use mathlib.Core.Bool.{Bool, true, false, _&&_, cond}
+use mathlib.Core.List.{List, [], _∷_}
+use lib.Dec.{eqb, ltb}
+use lib.IntN.{ℤ, pos, natAbs, _-ℤ_}
+use lib.ListN.{length}
+use Rattle.laws.specs.Choice.{cond-le}
+use Rattle.laws.specs.Integer.{natAbs-diff}
+use Rattle.laws.specs.Fold.{sumOver, All, sumOver-le}
+use Rattle.laws.specs.Sum.{countTo-le}
+use Rattle.model.specs.Catalogue.{Limits, Net, Hypergraph}
+use Rattle.model.specs.Measure.{Contraction, pin, pinCount, connectivity, metric, freed, drawn, gain}
+use Rattle.guarantees.specs.Loads.{Loaded}
+
+module _ (limits : Limits) (narrow : limits .blockLimit ≤ 16) (h : Hypergraph) (g : Loaded limits h) (few : length (h .nets) ≤ 1024) (cs : List Contraction) (p : ℕ → ℕ) where
+  pub freed-le : (v : ℕ) → freed h cs p v ≤ 1024000
+  unfolding freed
+  freed-le v = omega (arith, sumOver-le (h .nets) _ (λ e. cond (pin cs e v && eqb (pinCount h cs p e (p v)) 1) (e .weight) 0) 1000 (g .net-weights) (λ e r. cond-le (pin cs e v && eqb (pinCount h cs p e (p v)) 1) (e .weight) 1000 (r .1)))
+
+  pub drawn-le : (v t : ℕ) → drawn h cs p v t ≤ 1024000
+  unfolding drawn
+  drawn-le v t = omega (arith, sumOver-le (h .nets) _ (λ e. cond (pin cs e v && eqb (pinCount h cs p e t) 0) (e .weight) 0) 1000 (g .net-weights) (λ e r. cond-le (pin cs e v && eqb (pinCount h cs p e t) 0) (e .weight) 1000 (r .1)))
+
+  pub gain-le : (v t : ℕ) → natAbs (gain h cs p v t) ≤ 1024000
+  unfolding gain
+  gain-le v t = go (eqb (p v) t)
+    where
+      go : (b : Bool) → natAbs (cond b (pos 0) (pos (freed h cs p v) -ℤ pos (drawn h cs p v t))) ≤ 1024000
+      go true = omega arith
+      go false = natAbs-diff (freed h cs p v) (drawn h cs p v t) 1024000 (freed-le v) (drawn-le v t)
+
+  connectivity-le : (e : Net) → connectivity h cs p e ≤ h .blocks
+  unfolding connectivity
+  connectivity-le e = countTo-le (h .blocks) (λ b. ltb 0 (pinCount h cs p e b))
+
+  pub metric-le : metric h cs p ≤ 15360000
+  unfolding metric
+  metric-le = omega (arith, sumOver-le (h .nets) _ (λ e. e .weight * (connectivity h cs p e - 1)) 15000 (g .net-weights) (λ e r. each e (r .1)))
+    where
+      each : (e : Net) → e .weight ≤ 1000 → e .weight * (connectivity h cs p e - 1) ≤ 15000
+      each e l =
+          let c : connectivity h cs p e - 1 ≤ 15 = omega (arith, connectivity-le e, g .blocks-high) in
+          omega (arith, mul-le-mul-left (e .weight) c)

@@ -1,0 +1,314 @@
+-- The states that calls reach: the stack is one that J makes, every board lot has a session, and so on; and what A promises. Assumes nothing.
+use Prim.Native.Nat.{ℕ, zero, suc, _+_, _-_, _*_, _≤_, _<_}
+use native.Mathlib.Decide.{ℕ-discrete}
+use native.Mathlib.Omega.{arith}
+use mathlib.Core.Path.{_≡_, refl, sym, ap, ap₂, _∙_, subst}
+use mathlib.Core.Logic.{_⊎_, inl, inr, ⊎-elim}
+use mathlib.Core.Bool.{Bool, true, false, not, _||_, _&&_, true≢false, cond}
+use mathlib.Core.List.{List, [], _∷_}
+use borrow.Author.Tests.{eq-eqb, ne-eqb, eqb-true, eqb-false, leb-true, ltb-true, ltb-false, le-ltb, not-true, not-false}
+use lib.Dec.{eqb, leb, ltb}
+use lib.IntN.{ℤ, pos}
+use lib.Signed.{_≤ℤ_}
+use Rattle.laws.specs.Choice.{one, and-left, and-right, cond-zero}
+use Rattle.laws.specs.Sum.{sumTo, countTo, sumTo-change, countTo-le}
+use Rattle.laws.specs.Place.{place, place-at, place-off, place-back}
+use Rattle.model.specs.Catalogue.{Net, Hypergraph, vertices, drafted, isVertex, isBlock, averageWeight}
+use Rattle.model.specs.Measure.{Contraction, above, onBoard, weight, blockWeight, adjacent, metric, gain, hasRoom}
+use Rattle.model.specs.Machine.{Call, callJ, callS, callM, callB, callW, callP, callA, Move, State, Step, fresh, settle, refusesJ, contract, doesJ, refusesM, doesM, uncontract, doesS, doesB}
+use Rattle.model.specs.Search.{Best, none, best, bestPair, Walk, Coarse, Fine, canGo, walk, walked, polish, rating, canJoin, joinBest, joinTurn, boardSize, coarsen, refine, refusesW, doesW, doesP, refusesA, doesA, call}
+use Rattle.guarantees.specs.Climbs.{Joins, Sound, above-gone, above-other}
+use Rattle.guarantees.specs.Joins.{metric-join}
+use Rattle.guarantees.specs.Weights.{blockWeight-join}
+use Rattle.guarantees.specs.Tops.{Top, best-top}
+use Rattle.guarantees.specs.Ends.{Placed, At, Pair, placed-move, Polished, polish-ends}
+use Rattle.guarantees.specs.Walks.{walked-metric}
+
+module _ (h : Hypergraph) where
+  pub vertex-range : (v : ℕ) → isVertex h v ≡ true → (1 ≤ v) × (v ≤ vertices h)
+  vertex-range v q = (leb-true 1 v (and-left _ _ q), leb-true v (vertices h) (and-right (leb 1 v) _ q))
+
+  pub block-range : (b : ℕ) → isBlock h b ≡ true → (1 ≤ b) × (b ≤ h .blocks)
+  block-range b q = (leb-true 1 b (and-left _ _ q), leb-true b (h .blocks) (and-right (leb 1 b) _ q))
+
+  abbrev pub Inside : Contraction → Type 0
+  Inside c = (1 ≤ c .into) × (c .into ≤ vertices h) × (1 ≤ c .gone) × (c .gone ≤ vertices h)
+
+  abbrev pub AllInside : List Contraction → Type 0
+  AllInside [] = Unit {0}
+  AllInside (c ∷ cs) = Inside c × AllInside cs
+
+  -- the moves on the record are of board lots, from sessions
+  abbrev pub Recorded : List Contraction → List Move → Type 0
+  Recorded cs [] = Unit {0}
+  Recorded cs (m ∷ ms) = ((above cs (m .vertex) ≡ 0) × (1 ≤ m .from) × (m .from ≤ h .blocks)) × Recorded cs ms
+
+  pub record Legal (s : State) : Type 0 where
+    pub sound : Sound (s .stack)
+    pub inside : AllInside (s .stack)
+    pub placed : Placed h (s .stack) (s .block)
+    pub recorded : Recorded (s .stack) (s .journal)
+
+  -- ---- a join and a split
+  pub placed-join : (cs : List Contraction) (c : Contraction) (p : ℕ → ℕ) → Joins cs c → Placed h cs p → Placed h (c ∷ cs) (place p (c .gone) 0)
+  placed-join cs c p j ok x xl xu = go (ℕ-discrete x (c .gone))
+    where
+      go : Dec (x ≡ c .gone) → At h (c ∷ cs) (place p (c .gone) 0) x
+      go (yes q) = record {
+        board = λ o. absurd (omega (arith, j .real, above-gone cs c x (sym q)));
+        off = λ o. ap (place p (c .gone) 0) q ∙ place-at p (c .gone) 0;
+      }
+      go (no n) = record {
+        board = λ o. omega (arith, place-off p (c .gone) 0 x n, ok x xl xu .board (sym (above-other cs c x (λ r. n (sym r))) ∙ o));
+        off = λ o. place-off p (c .gone) 0 x n ∙ ok x xl xu .off (λ r. o (above-other cs c x (λ r. n (sym r)) ∙ r));
+      }
+
+  pub into-on : (cs : List Contraction) (c : Contraction) → Joins cs c → above (c ∷ cs) (c .into) ≡ 0
+  into-on cs c j = above-other cs c (c .into) (λ r. j .two (sym r)) ∙ j .into-on
+
+  pub placed-split : (cs : List Contraction) (c : Contraction) (p : ℕ → ℕ) → Joins cs c → Inside c → Placed h (c ∷ cs) p → Placed h cs (uncontract p c)
+  unfolding uncontract
+  placed-split cs c p j r ok x xl xu = go (ℕ-discrete x (c .gone))
+    where
+      to : ℕ
+      to = p (c .into)
+
+      go : Dec (x ≡ c .gone) → At h cs (place p (c .gone) (p (c .into))) x
+      go (yes q) = record {
+        board = λ o. omega (arith, ap (place p (c .gone) (p (c .into))) q, place-at p (c .gone) (p (c .into)), ok (c .into) (r .0) (r .1) .board (into-on cs c j));
+        off = λ o. absurd (o (ap (above cs) q ∙ j .gone-on));
+      }
+      go (no n) = record {
+        board = λ o. omega (arith, place-off p (c .gone) (p (c .into)) x n, ok x xl xu .board (above-other cs c x (λ r. n (sym r)) ∙ o));
+        off = λ o. place-off p (c .gone) (p (c .into)) x n ∙ ok x xl xu .off (λ r. o (sym (above-other cs c x (λ r. n (sym r))) ∙ r));
+      }
+
+  -- the total after a split
+  pub metric-split : (cs : List Contraction) (c : Contraction) (p : ℕ → ℕ) → Sound (c ∷ cs) → Inside c → Placed h (c ∷ cs) p → metric h cs (uncontract p c) ≡ metric h (c ∷ cs) p
+  unfolding uncontract
+  metric-split cs c p s r ok =
+      sym (metric-join h cs c s (place p (c .gone) (p (c .into))) (r .0) (r .1) (r .2) (r .3) together)
+      ∙ ap (metric h (c ∷ cs)) (ap (place (place p (c .gone) (p (c .into))) (c .gone)) (sym zero-there) ∙ place-back p (c .gone) (p (c .into)))
+    where
+      together : place p (c .gone) (p (c .into)) (c .into) ≡ place p (c .gone) (p (c .into)) (c .gone)
+      together = place-off p (c .gone) (p (c .into)) (c .into) (s .0 .two) ∙ sym (place-at p (c .gone) (p (c .into)))
+
+      zero-there : p (c .gone) ≡ 0
+      zero-there = ok (c .gone) (r .2) (r .3) .off (λ o. omega (arith, s .0 .real, above-gone cs c (c .gone) refl))
+
+  -- ---- A's joins
+  pub record Coarsened (p : ℕ → ℕ) (c : Coarse) : Type 0 where
+    pub sound : Sound (c .stack)
+    pub inside : AllInside (c .stack)
+    pub placed : Placed h (c .stack) (c .block)
+    pub same : metric h (c .stack) (c .block) ≡ metric h [] p
+    pub same-weights : (b : ℕ) → blockWeight h (c .stack) (c .block) b ≡ blockWeight h [] p b
+
+  -- what a pair that A may join is
+  pub can-join : (cs : List Contraction) (p : ℕ → ℕ) (u v : ℕ) → 1 ≤ u → canJoin h cs p u v ≡ true → Joins cs (record { into = u; gone = v }) × (p u ≡ p v)
+  unfolding canJoin
+  can-join cs p u v l q =
+      let q4 = and-left _ _ (and-left _ _ q) in
+      let q3 = and-left _ _ q4 in
+      let q2 = and-left _ _ q3 in (
+        record {
+          real = l;
+          into-on = eqb-true (above cs u) 0 (and-right (ltb u v) _ q2);
+          gone-on = eqb-true (above cs v) 0 (and-right (ltb u v && onBoard cs u) _ q3);
+          two = λ r. omega (arith, ltb-true u v (and-left _ _ q2));
+        },
+        eqb-true (p u) (p v) (and-right (ltb u v && onBoard cs u && onBoard cs v) _ q4),
+      )
+
+  join-turn : (p : ℕ → ℕ) (c : Coarse) (on : Coarse → Coarse) → Coarsened p c → ((c′ : Coarse) → Coarsened p c′ → Coarsened p (on c′))
+      → (b : Best) → Top (canJoin h (c .stack) (c .block)) (λ u v. pos (rating h (c .stack) u v)) (λ u v. (1 ≤ u) × (u ≤ vertices h) × (1 ≤ v) × (v ≤ vertices h)) b → Coarsened p (joinTurn h c on b)
+  unfolding joinTurn
+  join-turn p c on k ih none top = k
+  join-turn p c on k ih (best u v g) top =
+      let r = top .there in
+      let j = can-join (c .stack) (c .block) u v (r .0) (top .open-pair) in
+      ih _ (record {
+        sound = (j .0, k .sound);
+        inside = (r, k .inside);
+        placed = placed-join (c .stack) (record { into = u; gone = v }) (c .block) (j .0) (k .placed);
+        same = metric-join h (c .stack) (record { into = u; gone = v }) (j .0, k .sound) (c .block) (r .0) (r .1) (r .2) (r .3) (j .1) ∙ k .same;
+        same-weights = λ b. blockWeight-join h (c .stack) (record { into = u; gone = v }) (j .0, k .sound) (c .block) (r .0) (r .1) (r .2) (r .3) (j .1) b ∙ k .same-weights b;
+      })
+
+  pub coarsened : (n : ℕ) (p : ℕ → ℕ) (c : Coarse) → Coarsened p c → Coarsened p (coarsen h n c)
+  unfolding coarsen joinBest
+  coarsened zero p c k = k
+  coarsened (suc n) p c k = go (coarsened n p) (ltb (2 * h .blocks) (boardSize h (c .stack)))
+    where
+      go : ((c′ : Coarse) → Coarsened p c′ → Coarsened p (coarsen h n c′)) → (b : Bool) → Coarsened p (cond b (joinTurn h c (coarsen h n) (joinBest h (c .stack) (c .block))) c)
+      go ih true = join-turn p c (coarsen h n) k ih _ (best-top (canJoin h (c .stack) (c .block)) (λ u v. pos (rating h (c .stack) u v)) (vertices h) (vertices h))
+      go ih false = k
+
+  -- ---- A's splits and walks
+  pub refined : (cs : List Contraction) (f : Fine) → Sound cs → AllInside cs → Placed h cs (f .block) → Placed h [] (refine h cs f .block) × (metric h [] (refine h cs f .block) ≤ metric h cs (f .block))
+  unfolding refine
+  refined [] f s r ok = (ok, omega arith)
+  refined (c ∷ cs) f s r ok =
+      let ok′ = placed-split cs c (f .block) (s .0) (r .0) ok in
+      let w = walked-metric h cs (uncontract (f .block) c) (c .into) (c .gone) ok′ in
+      let end = refined cs _ (s .1) (r .1) (w .0) in
+      (end .0, omega (arith, end .1, w .2, metric-split cs c (f .block) s (r .0) ok))
+
+  -- ---- A: no join stands, the total is no higher, and no single move that has space lowers it
+  pub solves : (s : State) → Placed h [] (s .block) → Polished h [] (s .block) (doesA h s .state .block)
+  unfolding doesA
+  solves s ok =
+      let k = coarsened (vertices h) (s .block) (record { stack = []; block = s .block }) (record { sound = tt; inside = tt; placed = ok; same = refl; same-weights = λ b. refl }) in
+      let f = refined _ _ (k .sound) (k .inside) (k .placed) in
+      let e = polish-ends h [] _ (f .0) in
+      record { placed = e .placed; lower = omega (arith, e .lower, f .1, k .same); stuck = e .stuck }
+
+  -- ---- every call leaves a state legal
+  -- a refusal leaves the state; so it is enough to show it where the number is 0
+  settled : (q : ℕ) (s : State) (done : Step) → Legal s → (q ≡ 0 → Legal (done .state)) → Legal (settle q s done .state)
+  unfolding settle
+  settled zero s done ok f = f refl
+  settled (suc q) s done ok f = ok
+
+  pub legal-J : (s : State) (u v : ℕ) → Legal s → refusesJ h s u v ≡ 0 → Legal (doesJ h s u v .state)
+  unfolding refusesJ doesJ contract
+  legal-J s u v ok q =
+      let a = cond-zero (not (isVertex h u && isVertex h v)) 9 _ (omega arith) q in
+      let b = cond-zero (eqb u v) 11 _ (omega arith) (a .1) in
+      let c = cond-zero (not (onBoard (s .stack) u && onBoard (s .stack) v)) 10 _ (omega arith) (b .1) in
+      let r = not-false _ (a .0) in
+      let ru = vertex-range u (and-left _ _ r) in
+      let rv = vertex-range v (and-right (isVertex h u) _ r) in
+      let o = not-false _ (c .0) in
+      let j : Joins (s .stack) (record { into = u; gone = v }) = record {
+        real = ru .0;
+        into-on = eqb-true (above (s .stack) u) 0 (and-left _ _ o);
+        gone-on = eqb-true (above (s .stack) v) 0 (and-right (onBoard (s .stack) u) _ o);
+        two = eqb-false u v (b .0);
+      } in
+      record {
+        sound = (j, ok .sound);
+        inside = ((ru .0, ru .1, rv .0, rv .1), ok .inside);
+        placed = placed-join (s .stack) (record { into = u; gone = v }) (s .block) j (ok .placed);
+        recorded = tt;
+      }
+
+  pub legal-S : (s : State) (cs : List Contraction) → s .stack ≡ cs → Legal s → Legal (doesS s cs .state)
+  unfolding doesS
+  legal-S s [] q ok = ok
+  legal-S s (c ∷ cs) q ok =
+      let so : Sound (c ∷ cs) = subst Sound q (ok .sound) in
+      let ins : AllInside (c ∷ cs) = subst AllInside q (ok .inside) in
+      record {
+        sound = so .1;
+        inside = ins .1;
+        placed = placed-split cs c (s .block) (so .0) (ins .0) (subst (λ (l : List Contraction). Placed h l (s .block)) q (ok .placed));
+        recorded = tt;
+      }
+
+  pub legal-M : (s : State) (v t : ℕ) → Legal s → refusesM h s v t ≡ 0 → Legal (doesM h s v t .state)
+  unfolding refusesM doesM
+  legal-M s v t ok q =
+      let a = cond-zero (not (isVertex h v && isBlock h t)) 9 _ (omega arith) q in
+      let b = cond-zero (not (onBoard (s .stack) v)) 10 _ (omega arith) (a .1) in
+      let r = not-false _ (a .0) in
+      let rv = vertex-range v (and-left _ _ r) in
+      let rt = block-range t (and-right (isVertex h v) _ r) in
+      let on = eqb-true (above (s .stack) v) 0 (not-false _ (b .0)) in
+      let here = ok .placed v (rv .0) (rv .1) .board on in
+      record {
+        sound = ok .sound;
+        inside = ok .inside;
+        placed = placed-move h (s .stack) (s .block) v t (ok .placed) on (rt .0) (rt .1);
+        recorded = ((on, here .0, here .1), ok .recorded);
+      }
+
+  pub legal-B : (s : State) (ms : List Move) → s .journal ≡ ms → Legal s → Legal (doesB h s ms .state)
+  unfolding doesB
+  legal-B s [] q ok = ok
+  legal-B s (m ∷ ms) q ok =
+      let r : Recorded (s .stack) (m ∷ ms) = subst (Recorded (s .stack)) q (ok .recorded) in
+      record {
+        sound = ok .sound;
+        inside = ok .inside;
+        placed = placed-move h (s .stack) (s .block) (m .vertex) (m .from) (ok .placed) (r .0 .0) (r .0 .1) (r .0 .2);
+        recorded = r .1;
+      }
+
+  pub legal-W : (s : State) (u v : ℕ) → Legal s → Legal (doesW h s u v .state)
+  unfolding doesW
+  legal-W s u v ok = record { sound = ok .sound; inside = ok .inside; placed = walked-metric h (s .stack) (s .block) u v (ok .placed) .0; recorded = tt }
+
+  pub legal-P : (s : State) → Legal s → Legal (doesP h s .state)
+  unfolding doesP
+  legal-P s ok = record { sound = ok .sound; inside = ok .inside; placed = polish-ends h (s .stack) (s .block) (ok .placed) .placed; recorded = tt }
+
+  pub legal-A : (s : State) (cs : List Contraction) → s .stack ≡ cs → Legal s → refusesA h s cs ≡ 0 → Legal (doesA h s .state)
+  unfolding refusesA doesA
+  legal-A s [] q ok e = record { sound = tt; inside = tt; placed = solves s (subst (λ (l : List Contraction). Placed h l (s .block)) q (ok .placed)) .placed; recorded = tt }
+  legal-A s (c ∷ cs) q ok e = absurd (omega arith)
+
+  pub legal-call : (s : State) (c : Call) → Legal s → Legal (call h s c .state)
+  unfolding call
+  legal-call s (callJ u v) ok = settled (refusesJ h s u v) s (doesJ h s u v) ok (legal-J s u v ok)
+  legal-call s callS ok = legal-S s (s .stack) refl ok
+  legal-call s (callM v t) ok = settled (refusesM h s v t) s (doesM h s v t) ok (legal-M s v t ok)
+  legal-call s callB ok = legal-B s (s .journal) refl ok
+  legal-call s (callW u v) ok = settled (refusesW h s u v) s (doesW h s u v) ok (λ q. legal-W s u v ok)
+  legal-call s callP ok = legal-P s ok
+  legal-call s callA ok = settled (refusesA h s (s .stack)) s (doesA h s) ok (legal-A s (s .stack) refl ok)
+
+  -- a fresh machine is legal where the draft has each lot in a session
+  pub legal-fresh : ((x : ℕ) → 1 ≤ x → x ≤ vertices h → (1 ≤ drafted h x) × (drafted h x ≤ h .blocks)) → Legal (fresh h)
+  unfolding fresh above
+  legal-fresh d = record {
+    sound = tt;
+    inside = tt;
+    placed = λ x l u. record { board = λ o. d x l u; off = λ o. absurd (o refl) };
+    recorded = tt;
+  }
+
+  -- ---- A's joins end by their own rule: at most 2 × k lots are on the board, or no pair may be joined
+  board-join : (cs : List Contraction) (c : Contraction) → Joins cs c → 1 ≤ c .gone → c .gone ≤ vertices h → boardSize h (c ∷ cs) + 1 ≡ boardSize h cs
+  unfolding boardSize
+  board-join cs c j l u = omega (
+    arith,
+    sumTo-change (vertices h) (c .gone) (λ x. one (onBoard (c ∷ cs) x)) (λ x. one (onBoard cs x)) l u (λ x _ _ n. ap (λ (y : ℕ). one (eqb y 0)) (above-other cs c x (λ r. n (sym r)))),
+    ap one (eq-eqb (above cs (c .gone)) 0 (j .gone-on)),
+    ap one (ne-eqb (above (c ∷ cs) (c .gone)) 0 (λ r. omega (arith, j .real, above-gone cs c (c .gone) refl))),
+  )
+
+  abbrev pub Coarsest : Coarse → Type 0
+  Coarsest c = (ltb (2 * h .blocks) (boardSize h (c .stack)) ≡ false) ⊎ (joinBest h (c .stack) (c .block) ≡ none)
+
+  join-over : (n : ℕ) (c : Coarse) → boardSize h (c .stack) ≤ suc n → ((c′ : Coarse) → boardSize h (c′ .stack) ≤ n → Coarsest (coarsen h n c′))
+      → (b : Best) → joinBest h (c .stack) (c .block) ≡ b → Top (canJoin h (c .stack) (c .block)) (λ u v. pos (rating h (c .stack) u v)) (λ u v. (1 ≤ u) × (u ≤ vertices h) × (1 ≤ v) × (v ≤ vertices h)) b → Coarsest (joinTurn h c (coarsen h n) b)
+  unfolding joinTurn
+  join-over n c l ih none q top = inr q
+  join-over n c l ih (best u v g) q top =
+      let r = top .there in
+      ih _ (omega (arith, board-join (c .stack) (record { into = u; gone = v }) (can-join (c .stack) (c .block) u v (r .0) (top .open-pair) .0) (r .2) (r .3)))
+
+  pub coarsen-ends : (n : ℕ) (c : Coarse) → boardSize h (c .stack) ≤ n → Coarsest (coarsen h n c)
+  unfolding coarsen joinBest
+  coarsen-ends zero c l = inl (le-ltb (2 * h .blocks) (boardSize h (c .stack)) (omega arith))
+  coarsen-ends (suc n) c l = go (coarsen-ends n) (ltb (2 * h .blocks) (boardSize h (c .stack))) refl
+    where
+      go : ((c′ : Coarse) → boardSize h (c′ .stack) ≤ n → Coarsest (coarsen h n c′)) → (b : Bool) → ltb (2 * h .blocks) (boardSize h (c .stack)) ≡ b → Coarsest (cond b (joinTurn h c (coarsen h n) (joinBest h (c .stack) (c .block))) c)
+      go ih true e = join-over n c l ih _ refl (best-top (canJoin h (c .stack) (c .block)) (λ u v. pos (rating h (c .stack) u v)) (vertices h) (vertices h))
+      go ih false e = inl e
+
+  -- ---- a list of calls
+  unfoldable pub after : State → List Call → State
+  after s [] = s
+  after s (c ∷ cs) = after (call h s c .state) cs
+
+  pub legal-after : (s : State) (cs : List Call) → Legal s → Legal (after s cs)
+  unfolding after
+  legal-after s [] ok = ok
+  legal-after s (c ∷ cs) ok = legal-after (call h s c .state) cs (legal-call s c ok)
+
+  -- so they do in A
+  pub A-joins-end : (s : State) → Coarsest (coarsen h (vertices h) (record { stack = []; block = s .block }))
+  unfolding boardSize
+  A-joins-end s = coarsen-ends (vertices h) (record { stack = []; block = s .block }) (countTo-le (vertices h) (λ v. onBoard [] v))

@@ -1,0 +1,250 @@
+-- No session is ever above its cap. Assumes nothing.
+use Prim.Native.Nat.{ℕ, zero, suc, _+_, _-_, _*_, _≤_, _<_}
+use native.Mathlib.Decide.{ℕ-discrete}
+use native.Mathlib.Omega.{arith}
+use mathlib.Core.Path.{_≡_, refl, sym, ap, ap₂, _∙_, subst}
+use mathlib.Core.Bool.{Bool, true, false, not, _||_, _&&_, cond}
+use mathlib.Core.List.{List, [], _∷_}
+use borrow.Author.Tests.{eq-eqb, ne-eqb, eqb-true, leb-true, not-false, not-true}
+use lib.Dec.{eqb, leb, ltb}
+use lib.IntN.{pos}
+use lib.Signed.{ltZ}
+use Rattle.laws.specs.Place.{place, place-back, place-at, place-off}
+use Rattle.laws.specs.Choice.{and-left, and-right, cond-zero}
+use Rattle.model.specs.Catalogue.{Hypergraph, vertices, isVertex, isBlock, capacity}
+use Rattle.model.specs.Measure.{Contraction, above, onBoard, weight, blockWeight, gain, metric, hasRoom}
+use Rattle.model.specs.Search.{Best, none, best, Walk, Polish, canGo, isOpen, walkBest, walkMove, walkTurn, walkOn, walk, walked, polishBest, polishTurn, polishOn, polish, reversed, Coarse, Fine, canJoin, joinBest, joinTurn, boardSize, coarsen, refine, rating, refusesW, doesW, doesP, refusesA, doesA, call}
+use Rattle.model.specs.Machine.{Call, callJ, callS, callM, callB, callW, callP, callA, Move, State, Step, fresh, settle, refusesJ, contract, doesJ, refusesM, doesM, uncontract, doesS, doesB}
+use Rattle.guarantees.specs.Tops.{Top, best-top}
+use Rattle.guarantees.specs.Ends.{Placed, Pair, can-on, can-away}
+use Rattle.guarantees.specs.Walks.{moved, prefix, prefix-now, after, after-old, after-new, reversed-nil, walk-ends, walked-metric}
+use Rattle.guarantees.specs.Weights.{blockWeight-join, blockWeight-move}
+use Rattle.guarantees.specs.Climbs.{Joins, Sound, above-gone}
+use Rattle.guarantees.specs.Calls.{Inside, AllInside, Legal, Coarsened, coarsened, can-join, placed-join, placed-split, legal-J, legal-S, legal-M, legal-B, legal-W, legal-P, legal-A, legal-call, vertex-range, block-range, after as afterCalls}
+
+module _ (h : Hypergraph) (cs : List Contraction) where
+  abbrev pub Capped : (ℕ → ℕ) → Type 0
+  Capped p = (b : ℕ) → 1 ≤ b → b ≤ h .blocks → blockWeight h cs p b ≤ capacity h
+
+  can-fit : (p : ℕ → ℕ) (v t : ℕ) → canGo h cs p v t ≡ true → blockWeight h cs p t + weight h cs v ≤ capacity h
+  unfolding canGo hasRoom
+  can-fit p v t q = leb-true _ _ (and-right (onBoard cs v && not (eqb (p v) t)) _ q)
+
+  pub capped-move : (p : ℕ → ℕ) (v t : ℕ) → Capped p → Pair h cs v t → canGo h cs p v t ≡ true → Capped (place p v t)
+  capped-move p v t ok r q b bl bu = go (ℕ-discrete t b)
+    where
+      go : Dec (t ≡ b) → blockWeight h cs (place p v t) b ≤ capacity h
+      go (yes e) = omega (
+        arith,
+        blockWeight-move h cs p v t (r .0) (r .1) (can-on h cs p v t q) b,
+        ap (λ (x : Bool). cond x (weight h cs v) 0) (eq-eqb t b e),
+        can-fit p v t q,
+        ap (blockWeight h cs p) e,
+      )
+      go (no n) = omega (
+        arith,
+        blockWeight-move h cs p v t (r .0) (r .1) (can-on h cs p v t q) b,
+        ap (λ (x : Bool). cond x (weight h cs v) 0) (ne-eqb t b n),
+        ok b bl bu,
+      )
+
+  -- ---- what open moves keep, P and W keep
+  module _ (Q : (ℕ → ℕ) → Type 0) (keeps : (p : ℕ → ℕ) (v t : ℕ) → Q p → Pair h cs v t → canGo h cs p v t ≡ true → Q (place p v t)) where
+    turn-keeps : (n : ℕ) (q : Polish) → Q (q .block) → ((r : Polish) → Q (r .block) → Q (polishOn h cs n r .block))
+        → (b : Best) → Top (canGo h cs (q .block)) (gain h cs (q .block)) (Pair h cs) b → Q (polishTurn h cs q (polishOn h cs n) b .block)
+    unfolding polishTurn
+    turn-keeps n q ok ih none top = ok
+    turn-keeps n q ok ih (best v t g) top = go (ltZ (pos 0) g)
+      where
+        next : Polish
+        next = record { block = place (q .block) v t; made = suc (q .made) }
+
+        go : (b : Bool) → Q (cond b (polishOn h cs n next) q .block)
+        go true = ih next (keeps (q .block) v t ok (top .there) (top .open-pair))
+        go false = ok
+
+    polish-keeps : (n : ℕ) (q : Polish) → Q (q .block) → Q (polishOn h cs n q .block)
+    unfolding polishOn polishBest
+    polish-keeps zero q ok = ok
+    polish-keeps (suc n) q ok = turn-keeps n q ok (polish-keeps n) (polishBest h cs (q .block)) (best-top (canGo h cs (q .block)) (gain h cs (q .block)) (h .blocks) (vertices h))
+
+    pub polished-keeps : (p : ℕ → ℕ) → Q p → Q (polish h cs p .block)
+    unfolding polish
+    polished-keeps p ok = polish-keeps (metric h cs p) (record { block = p; made = 0 }) ok
+
+    -- of a walk, at every prefix
+    abbrev Each : Walk → Type 0
+    Each w = (i : ℕ) → i ≤ w .tried → Q (prefix h cs w i)
+
+    move-keeps : (w : Walk) (v t : ℕ) → Each w → Pair h cs v t → canGo h cs (w .block) v t ≡ true → Each (walkMove h cs w v t (metric h cs (place (w .block) v t)))
+    unfolding walkMove
+    move-keeps w v t ok r q i l = go (ℕ-discrete i (suc (w .tried)))
+      where
+        go : Dec (i ≡ suc (w .tried)) → Q (after h cs w v t i)
+        go (yes e) = subst Q (sym (after-new h cs w v t i e)) (keeps (w .block) v t (subst Q (prefix-now h cs w) (ok (w .tried) (omega arith))) r q)
+        go (no n) = subst Q (sym (after-old h cs w v t i (omega arith))) (ok i (omega arith))
+
+    open-can : (w : Walk) (v t : ℕ) → isOpen h cs w v t ≡ true → canGo h cs (w .block) v t ≡ true
+    unfolding isOpen
+    open-can w v t q = and-right (w .candidate v && not (moved h cs w v)) _ q
+
+    step-keeps : (n : ℕ) (w : Walk) → Each w → ((x : Walk) → Each x → Each (walkOn h cs n x))
+        → (b : Best) → Top (isOpen h cs w) (gain h cs (w .block)) (Pair h cs) b → Each (walkTurn h cs w (walkOn h cs n) b)
+    unfolding walkTurn
+    step-keeps n w ok ih none top = ok
+    step-keeps n w ok ih (best v t g) top = ih (walkMove h cs w v t (metric h cs (place (w .block) v t))) (move-keeps w v t ok (top .there) (open-can w v t (top .open-pair)))
+
+    walk-keeps : (n : ℕ) (w : Walk) → Each w → Each (walkOn h cs n w)
+    unfolding walkOn walkBest
+    walk-keeps zero w ok = ok
+    walk-keeps (suc n) w ok = go (walk-keeps n) (leb (w .kept + 25) (w .tried))
+      where
+        go : ((x : Walk) → Each x → Each (walkOn h cs n x)) → (b : Bool) → Each (cond b w (walkTurn h cs w (walkOn h cs n) (walkBest h cs w)))
+        go ih true = ok
+        go ih false = step-keeps n w ok ih (walkBest h cs w) (best-top (isOpen h cs w) (gain h cs (w .block)) (h .blocks) (vertices h))
+
+    pub walked-keeps : (p : ℕ → ℕ) (u v : ℕ) → Placed h cs p → Q p → Q (walked h cs (walk h cs p u v))
+    unfolding walked walk
+    walked-keeps p u v placed ok = walk-keeps (vertices h) _ (λ i l. subst Q (sym (reversed-nil (0 - i) p)) ok) (walk h cs p u v .kept) (walk-ends h cs p u v placed .going .kept-le)
+
+module _ (h : Hypergraph) where
+  -- ---- a join and a split
+  capped-join : (cs : List Contraction) (c : Contraction) (p : ℕ → ℕ) → Sound (c ∷ cs) → Inside h c → p (c .into) ≡ p (c .gone) → Capped h cs p → Capped h (c ∷ cs) (place p (c .gone) 0)
+  capped-join cs c p s r e ok b l u = omega (arith, blockWeight-join h cs c s p (r .0) (r .1) (r .2) (r .3) e b, ok b l u)
+
+  capped-split : (cs : List Contraction) (c : Contraction) (p : ℕ → ℕ) → Sound (c ∷ cs) → Inside h c → Placed h (c ∷ cs) p → Capped h (c ∷ cs) p → Capped h cs (uncontract p c)
+  unfolding uncontract
+  capped-split cs c p s r placed ok b l u = omega (arith, blockWeight-join h cs c s (place p (c .gone) (p (c .into))) (r .0) (r .1) (r .2) (r .3) together b, ap (λ (q : ℕ → ℕ). blockWeight h (c ∷ cs) q b) whole, ok b l u)
+    where
+      together : place p (c .gone) (p (c .into)) (c .into) ≡ place p (c .gone) (p (c .into)) (c .gone)
+      together = place-off p (c .gone) (p (c .into)) (c .into) (s .0 .two) ∙ sym (place-at p (c .gone) (p (c .into)))
+
+      zero-there : p (c .gone) ≡ 0
+      zero-there = placed (c .gone) (r .2) (r .3) .off (λ o. omega (arith, s .0 .real, above-gone cs c (c .gone) refl))
+
+      whole : place (place p (c .gone) (p (c .into))) (c .gone) 0 ≡ p
+      whole = ap (place (place p (c .gone) (p (c .into))) (c .gone)) (sym zero-there) ∙ place-back p (c .gone) (p (c .into))
+
+  -- ---- A
+  capped-refine : (cs : List Contraction) (f : Fine) → Sound cs → AllInside h cs → Placed h cs (f .block) → Capped h cs (f .block) → Capped h [] (refine h cs f .block)
+  unfolding refine
+  capped-refine [] f s r placed ok = ok
+  capped-refine (c ∷ cs) f s r placed ok =
+      let placed′ = placed-split h cs c (f .block) (s .0) (r .0) placed in
+      capped-refine cs _ (s .1) (r .1) (walked-metric h cs (uncontract (f .block) c) (c .into) (c .gone) placed′ .0)
+      (walked-keeps h cs (Capped h cs) (capped-move h cs) (uncontract (f .block) c) (c .into) (c .gone) placed′ (capped-split cs c (f .block) s (r .0) placed ok))
+
+  capped-A : (s : State) → Placed h [] (s .block) → Capped h [] (s .block) → Capped h [] (doesA h s .state .block)
+  unfolding doesA
+  capped-A s placed ok =
+      let k = coarsened h (vertices h) (s .block) (record { stack = []; block = s .block }) (record { sound = tt; inside = tt; placed = placed; same = refl; same-weights = λ b. refl }) in
+      polished-keeps h [] (Capped h []) (capped-move h []) _ (capped-refine _ _ (k .sound) (k .inside) (k .placed) (λ b l u. omega (arith, k .same-weights b, ok b l u)))
+
+  -- ---- the states that calls reach: no session above its cap, and none after any reversals either
+  abbrev pub Back : List Contraction → (ℕ → ℕ) → List Move → Type 0
+  Back cs p [] = Unit {0}
+  Back cs p (m ∷ ms) = Capped h cs (place p (m .vertex) (m .from)) × Back cs (place p (m .vertex) (m .from)) ms
+
+  pub record Held (s : State) : Type 0 where
+    pub legal : Legal h s
+    pub capped : Capped h (s .stack) (s .block)
+    pub back : Back (s .stack) (s .block) (s .journal)
+
+  held-settled : (q : ℕ) (s : State) (done : Step) → Held s → (q ≡ 0 → Held (done .state)) → Held (settle q s done .state)
+  unfolding settle
+  held-settled zero s done ok f = f refl
+  held-settled (suc q) s done ok f = ok
+
+  held-J : (s : State) (u v : ℕ) → Held s → refusesJ h s u v ≡ 0 → Held (doesJ h s u v .state)
+  unfolding doesJ contract refusesJ
+  held-J s u v ok q =
+      let l = legal-J h s u v (ok .legal) q in
+      let a = cond-zero (not (isVertex h u && isVertex h v)) 9 _ (omega arith) q in
+      let b = cond-zero (eqb u v) 11 _ (omega arith) (a .1) in
+      let c = cond-zero (not (onBoard (s .stack) u && onBoard (s .stack) v)) 10 _ (omega arith) (b .1) in
+      let d = cond-zero (not (eqb (s .block u) (s .block v))) 13 0 (omega arith) (c .1) in
+      record {
+        legal = l;
+        capped = capped-join (s .stack) (record { into = u; gone = v }) (s .block) (l .sound) (l .inside .0) (eqb-true _ _ (not-false _ (d .0))) (ok .capped);
+        back = tt;
+      }
+
+  held-S : (s : State) (cs : List Contraction) → s .stack ≡ cs → Held s → Held (doesS s cs .state)
+  unfolding doesS
+  held-S s [] q ok = ok
+  held-S s (c ∷ cs) q ok = record {
+    legal = legal-S h s (c ∷ cs) q (ok .legal);
+    capped = capped-split cs c (s .block) (subst Sound q (ok .legal .sound)) (subst (AllInside h) q (ok .legal .inside) .0)
+        (subst (λ (l : List Contraction). Placed h l (s .block)) q (ok .legal .placed)) (subst (λ (l : List Contraction). Capped h l (s .block)) q (ok .capped));
+    back = tt;
+  }
+
+  held-M : (s : State) (v t : ℕ) → Held s → refusesM h s v t ≡ 0 → Held (doesM h s v t .state)
+  unfolding refusesM doesM canGo
+  held-M s v t ok q =
+      let a = cond-zero (not (isVertex h v && isBlock h t)) 9 _ (omega arith) q in
+      let b = cond-zero (not (onBoard (s .stack) v)) 10 _ (omega arith) (a .1) in
+      let c = cond-zero (eqb (s .block v) t) 12 _ (omega arith) (b .1) in
+      let d = cond-zero (not (hasRoom h (s .stack) (s .block) v t)) 14 0 (omega arith) (c .1) in
+      let r = not-false _ (a .0) in
+      let rv = vertex-range h v (and-left _ _ r) in
+      let rt = block-range h t (and-right (isVertex h v) _ r) in
+      record {
+        legal = legal-M h s v t (ok .legal) q;
+        capped = capped-move h (s .stack) (s .block) v t (ok .capped) (rv .0, rv .1, rt .0, rt .1) (all-three (onBoard (s .stack) v) (eqb (s .block v) t) (hasRoom h (s .stack) (s .block) v t) (not-false _ (b .0)) (c .0) (not-false _ (d .0)));
+        back = (
+          subst (Capped h (s .stack)) (sym (place-back (s .block) v t)) (ok .capped),
+          subst (λ (p : ℕ → ℕ). Back (s .stack) p (s .journal)) (sym (place-back (s .block) v t)) (ok .back),
+        );
+      }
+    where
+      all-three : (a b c : Bool) → a ≡ true → b ≡ false → c ≡ true → (a && not b && c) ≡ true
+      all-three a b c x y z = ap (λ (t : Bool). t && not b && c) x ∙ ap (λ (t : Bool). not t && c) y ∙ z
+
+  held-B : (s : State) (ms : List Move) → s .journal ≡ ms → Held s → Held (doesB h s ms .state)
+  unfolding doesB
+  held-B s [] q ok = ok
+  held-B s (m ∷ ms) q ok =
+      let b : Back (s .stack) (s .block) (m ∷ ms) = subst (Back (s .stack) (s .block)) q (ok .back) in
+      record { legal = legal-B h s (m ∷ ms) q (ok .legal); capped = b .0; back = b .1 }
+
+  held-W : (s : State) (u v : ℕ) → Held s → Held (doesW h s u v .state)
+  unfolding doesW
+  held-W s u v ok = record {
+    legal = legal-W h s u v (ok .legal);
+    capped = walked-keeps h (s .stack) (Capped h (s .stack)) (capped-move h (s .stack)) (s .block) u v (ok .legal .placed) (ok .capped);
+    back = tt;
+  }
+
+  held-P : (s : State) → Held s → Held (doesP h s .state)
+  unfolding doesP
+  held-P s ok = record {
+    legal = legal-P h s (ok .legal);
+    capped = polished-keeps h (s .stack) (Capped h (s .stack)) (capped-move h (s .stack)) (s .block) (ok .capped);
+    back = tt;
+  }
+
+  held-A : (s : State) (cs : List Contraction) → s .stack ≡ cs → Held s → refusesA h s cs ≡ 0 → Held (doesA h s .state)
+  unfolding refusesA doesA
+  held-A s [] q ok e = record {
+    legal = legal-A h s [] q (ok .legal) e;
+    capped = capped-A s (subst (λ (l : List Contraction). Placed h l (s .block)) q (ok .legal .placed)) (subst (λ (l : List Contraction). Capped h l (s .block)) q (ok .capped));
+    back = tt;
+  }
+  held-A s (c ∷ cs) q ok e = absurd (omega arith)
+
+  pub held-call : (s : State) (c : Call) → Held s → Held (call h s c .state)
+  unfolding call
+  held-call s (callJ u v) ok = held-settled (refusesJ h s u v) s (doesJ h s u v) ok (held-J s u v ok)
+  held-call s callS ok = held-S s (s .stack) refl ok
+  held-call s (callM v t) ok = held-settled (refusesM h s v t) s (doesM h s v t) ok (held-M s v t ok)
+  held-call s callB ok = held-B s (s .journal) refl ok
+  held-call s (callW u v) ok = held-settled (refusesW h s u v) s (doesW h s u v) ok (λ q. held-W s u v ok)
+  held-call s callP ok = held-P s ok
+  held-call s callA ok = held-settled (refusesA h s (s .stack)) s (doesA h s) ok (held-A s (s .stack) refl ok)
+
+  -- after every list of calls
+  pub held-after : (s : State) (cs : List Call) → Held s → Held (afterCalls h s cs)
+  unfolding afterCalls
+  held-after s [] ok = ok
+  held-after s (c ∷ cs) ok = held-after (call h s c .state) cs (held-call s c ok)

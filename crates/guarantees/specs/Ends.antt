@@ -1,0 +1,132 @@
+-- P ends where no open pair has a gain of 1 or more, and its fuel is enough. Assumes nothing.
+use Prim.Native.Nat.{ℕ, zero, suc, _+_, _-_, _*_, _≤_, _<_}
+use native.Mathlib.Decide.{ℕ-discrete}
+use native.Mathlib.Omega.{arith}
+use mathlib.Core.Path.{_≡_, refl, sym, ap, ap₂, _∙_, subst}
+use mathlib.Core.Bool.{Bool, true, false, not, _||_, _&&_, true≢false, cond}
+use mathlib.Core.List.{List, [], _∷_}
+use borrow.Author.Tests.{eqb-true, eqb-false, not-true}
+use lib.Dec.{T, eqb}
+use lib.IntN.{ℤ, pos, _-ℤ_}
+use lib.Signed.{ltZ, _≤ℤ_, _<ℤ_, ltZ-yes, ltZ-no}
+use Rattle.laws.specs.Choice.{and-left, and-right}
+use Rattle.laws.specs.Integer.{up, dn, eq-by, le-by, pos-is, sub-is, le-parts, lt-parts, ≤ℤ-trans}
+use Rattle.laws.specs.Place.{place, place-at, place-off}
+use Rattle.model.specs.Catalogue.{Net, Hypergraph, vertices}
+use Rattle.model.specs.Measure.{Contraction, above, onBoard, metric, freed, drawn, gain, hasRoom}
+use Rattle.model.specs.Search.{Best, none, best, bestPair, Polish, canGo, polishBest, polishTurn, polishOn, polish}
+use Rattle.guarantees.specs.Moves.{metric-move, metric-gain, gain-away}
+use Rattle.guarantees.specs.Tops.{Top, Highest, best-top}
+
+module _ (h : Hypergraph) (cs : List Contraction) where
+  -- every board lot has a session, and every other lot has 0
+  pub record At (p : ℕ → ℕ) (x : ℕ) : Type 0 where
+    pub board : above cs x ≡ 0 → (1 ≤ p x) × (p x ≤ h .blocks)
+    pub off : (above cs x ≡ 0 → ⊥) → p x ≡ 0
+
+  abbrev pub Placed : (ℕ → ℕ) → Type 0
+  Placed p = (x : ℕ) → 1 ≤ x → x ≤ vertices h → At p x
+
+  abbrev pub Pair : ℕ → ℕ → Type 0
+  Pair v t = (1 ≤ v) × (v ≤ vertices h) × (1 ≤ t) × (t ≤ h .blocks)
+
+  pub placed-move : (p : ℕ → ℕ) (v t : ℕ) → Placed p → above cs v ≡ 0 → 1 ≤ t → t ≤ h .blocks → Placed (place p v t)
+  placed-move p v t ok on l u x xl xu = go (ℕ-discrete x v)
+    where
+      go : Dec (x ≡ v) → At (place p v t) x
+      go (yes q) = record {
+        board = λ o. omega (arith, ap (place p v t) q, place-at p v t);
+        off = λ o. absurd (o (ap (above cs) q ∙ on));
+      }
+      go (no n) = record {
+        board = λ o. omega (arith, place-off p v t x n, ok x xl xu .board o);
+        off = λ o. place-off p v t x n ∙ ok x xl xu .off o;
+      }
+
+  -- what an open pair is
+  pub can-on : (p : ℕ → ℕ) (v t : ℕ) → canGo h cs p v t ≡ true → above cs v ≡ 0
+  unfolding canGo
+  can-on p v t q = eqb-true (above cs v) 0 (and-left _ _ (and-left _ _ q))
+
+  pub can-away : (p : ℕ → ℕ) (v t : ℕ) → canGo h cs p v t ≡ true → p v ≡ t → ⊥
+  unfolding canGo
+  can-away p v t q = eqb-false (p v) t (not-true _ (and-right (onBoard cs v) _ (and-left _ _ q)))
+
+  -- the total after an open pair's move
+  pub metric-open : (p : ℕ → ℕ) (v t : ℕ) → Placed p → Pair v t → canGo h cs p v t ≡ true → pos (metric h cs (place p v t)) ≡ pos (metric h cs p) -ℤ gain h cs p v t
+  metric-open p v t ok r q =
+      let s = ok v (r .0) (r .1) .board (can-on p v t q) in
+      metric-gain h cs p v t (r .0) (r .1) (s .0) (s .1) (r .2) (r .3) (can-away p v t q)
+
+  -- no gain is above the total
+  gain-le : (p : ℕ → ℕ) (v t : ℕ) → Placed p → Pair v t → canGo h cs p v t ≡ true → gain h cs p v t ≤ℤ pos (metric h cs p)
+  gain-le p v t ok r q = le-by _ _ (omega (
+    arith,
+    ap up (metric-open p v t ok r q),
+    ap dn (metric-open p v t ok r q),
+    sub-is (pos (metric h cs p)) (gain h cs p v t),
+    pos-is (metric h cs p),
+    pos-is (metric h cs (place p v t)),
+  ))
+
+  -- p′ is where polishing from p may end
+  pub record Polished (p p′ : ℕ → ℕ) : Type 0 where
+    pub placed : Placed p′
+    pub lower : metric h cs p′ ≤ metric h cs p
+    pub stuck : (v t : ℕ) → Pair v t → canGo h cs p′ v t ≡ true → gain h cs p′ v t ≤ℤ pos 0
+
+  turn-end : (n : ℕ) (q : Polish) → Placed (q .block) → metric h cs (q .block) ≤ suc n
+      → ((r : Polish) → Placed (r .block) → metric h cs (r .block) ≤ n → Polished (r .block) (polishOn h cs n r .block))
+      → (b : Best) → Top (canGo h cs (q .block)) (gain h cs (q .block)) Pair b → Polished (q .block) (polishTurn h cs q (polishOn h cs n) b .block)
+  unfolding polishTurn
+  turn-end n q ok l ih none top = record {
+    placed = ok;
+    lower = omega arith;
+    stuck = λ v t r o. absurd (true≢false (sym o ∙ top v t r));
+  }
+  turn-end n q ok l ih (best v t g) top = go (ltZ (pos 0) g) refl
+    where
+      p′ : ℕ → ℕ
+      p′ = place (q .block) v t
+
+      next : Polish
+      next = record { block = place (q .block) v t; made = suc (q .made) }
+
+      less : T (ltZ (pos 0) g) → metric h cs (place (q .block) v t) < metric h cs (q .block)
+      less y = omega (
+        arith,
+        ap up (metric-open (q .block) v t ok (top .there) (top .open-pair)),
+        ap dn (metric-open (q .block) v t ok (top .there) (top .open-pair)),
+        sub-is (pos (metric h cs (q .block))) (gain h cs (q .block) v t),
+        pos-is (metric h cs (q .block)),
+        pos-is (metric h cs (place (q .block) v t)),
+        ap up (top .value),
+        ap dn (top .value),
+        lt-parts (pos 0) g (ltZ-yes y),
+        pos-is 0,
+      )
+
+      go : (b : Bool) → ltZ (pos 0) g ≡ b → Polished (q .block) (cond b (polishOn h cs n next) q .block)
+      go true e =
+          let down : metric h cs (place (q .block) v t) < metric h cs (q .block) = less (subst T (sym e) tt) in
+          let end : Polished (place (q .block) v t) (polishOn h cs n next .block) = ih next (placed-move (q .block) v t ok (can-on (q .block) v t (top .open-pair)) (top .there .2) (top .there .3)) (omega arith) in
+          record { placed = end .placed; lower = omega (arith, end .lower); stuck = end .stuck }
+      go false e = record {
+        placed = ok;
+        lower = omega arith;
+        stuck = λ x y r o. ≤ℤ-trans (top .highest x y r o) (ltZ-no (subst (λ (z : Bool). T (not z)) (sym e) tt));
+      }
+
+  -- with the total for fuel, polishing ends by itself
+  polish-end : (n : ℕ) (q : Polish) → Placed (q .block) → metric h cs (q .block) ≤ n → Polished (q .block) (polishOn h cs n q .block)
+  unfolding polishOn polishBest
+  polish-end zero q ok l = record {
+    placed = ok;
+    lower = omega arith;
+    stuck = λ v t r o. ≤ℤ-trans (gain-le (q .block) v t ok r o) (le-by _ _ (omega (arith, pos-is (metric h cs (q .block)), pos-is 0)));
+  }
+  polish-end (suc n) q ok l = turn-end n q ok l (polish-end n) (polishBest h cs (q .block)) (best-top (canGo h cs (q .block)) (gain h cs (q .block)) (h .blocks) (vertices h))
+
+  pub polish-ends : (p : ℕ → ℕ) → Placed p → Polished p (polish h cs p .block)
+  unfolding polish
+  polish-ends p ok = polish-end (metric h cs p) (record { block = p; made = 0 }) ok (omega arith)

@@ -1,0 +1,13 @@
+pub mod Moves
+pub mod Climbs
+pub mod Joins
+pub mod Tops
+pub mod Ends
+pub mod Walks
+pub mod Weights
+pub mod Calls
+pub mod Clumps
+pub mod Caps
+pub mod Loads
+pub mod Numbers
+pub mod Bounds

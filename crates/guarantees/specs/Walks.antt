@@ -1,0 +1,199 @@
+-- A walk ends by its own rule, and keeps the first prefix of lowest total. Assumes nothing.
+use Prim.Native.Nat.{ℕ, zero, suc, _+_, _-_, _*_, _≤_, _<_}
+use native.Mathlib.Decide.{ℕ-discrete}
+use native.Mathlib.Omega.{arith}
+use mathlib.Core.Path.{_≡_, refl, sym, ap, ap₂, _∙_, subst}
+use mathlib.Core.Logic.{_⊎_, inl, inr, ⊎-elim}
+use mathlib.Core.Bool.{Bool, true, false, not, _||_, _&&_, true≢false, cond}
+use mathlib.Core.List.{List, [], _∷_}
+use borrow.Author.Tests.{eq-eqb, ne-eqb, not-true, ltb-true, ltb-false}
+use lib.Dec.{T, eqb, leb, ltb}
+use Rattle.laws.specs.Choice.{one, and-left, and-right, one-le, one-full}
+use Rattle.laws.specs.Sum.{sumTo, countTo, sumTo-change, countTo-le, countTo-full}
+use Rattle.laws.specs.Fold.{any}
+use Rattle.laws.specs.Place.{place, place-at, place-off, place-back, place-swap}
+use Rattle.model.specs.Catalogue.{Net, Hypergraph, vertices}
+use Rattle.model.specs.Measure.{Contraction, above, metric, gain}
+use Rattle.model.specs.Machine.{Move}
+use Rattle.model.specs.Search.{Best, none, best, bestPair, Walk, canGo, isOpen, walkBest, walkMove, walkTurn, walkOn, walk, walked, reversed}
+use Rattle.guarantees.specs.Tops.{Top, Highest, best-top}
+use Rattle.guarantees.specs.Ends.{Placed, Pair, placed-move, can-on}
+
+reversed-none : (ms : List Move) (p : ℕ → ℕ) → reversed 0 ms p ≡ p
+unfolding reversed
+reversed-none ms p = refl
+
+pub reversed-nil : (n : ℕ) (p : ℕ → ℕ) → reversed n [] p ≡ p
+unfolding reversed
+reversed-nil zero p = refl
+reversed-nil (suc n) p = refl
+
+reversed-more : (n v t : ℕ) (ms : List Move) (p : ℕ → ℕ) → reversed (suc n) (record { vertex = v; from = p v } ∷ ms) (place p v t) ≡ reversed n ms p
+unfolding reversed
+reversed-more n v t ms p = ap (reversed n ms) (place-back p v t)
+
+module _ (h : Hypergraph) (cs : List Contraction) where
+  -- the partition after the first i moves
+  abbrev pub prefix : Walk → ℕ → ℕ → ℕ
+  prefix w i = reversed (w .tried - i) (w .journal) (w .block)
+
+  -- what holds of a walk from p on its way
+  pub record Going (p : ℕ → ℕ) (w : Walk) : Type 0 where
+    pub placed : (i : ℕ) → i ≤ w .tried → Placed h cs (prefix w i)
+    pub starts : prefix w 0 ≡ p
+    pub kept-le : w .kept ≤ w .tried
+    pub lowest-is : metric h cs (prefix w (w .kept)) ≡ w .lowest
+    pub lowest-le : (i : ℕ) → i ≤ w .tried → w .lowest ≤ metric h cs (prefix w i)
+    pub first : (i : ℕ) → i < w .kept → w .lowest < metric h cs (prefix w i)
+
+  pub prefix-now : (w : Walk) → prefix w (w .tried) ≡ w .block
+  prefix-now w = ap (λ (n : ℕ). reversed n (w .journal) (w .block)) (less (w .tried)) ∙ reversed-none (w .journal) (w .block)
+    where
+      less : (n : ℕ) → n - n ≡ 0
+      less n = omega arith
+
+  module _ (w : Walk) (v t : ℕ) where
+    -- the same for the walk with one move more
+    abbrev pub after : ℕ → ℕ → ℕ
+    after i = reversed (suc (w .tried) - i) (record { vertex = v; from = w .block v } ∷ w .journal) (place (w .block) v t)
+
+    pub after-old : (i : ℕ) → i ≤ w .tried → after i ≡ prefix w i
+    after-old i l = ap (λ (n : ℕ). reversed n (record { vertex = v; from = w .block v } ∷ w .journal) (place (w .block) v t)) (less i l) ∙ reversed-more (w .tried - i) v t (w .journal) (w .block)
+      where
+        less : (i : ℕ) → i ≤ w .tried → suc (w .tried) - i ≡ suc (w .tried - i)
+        less i l = omega arith
+
+    pub after-new : (i : ℕ) → i ≡ suc (w .tried) → after i ≡ place (w .block) v t
+    after-new i q = ap (λ (n : ℕ). reversed n (record { vertex = v; from = w .block v } ∷ w .journal) (place (w .block) v t)) (less i q) ∙ reversed-none (record { vertex = v; from = w .block v } ∷ w .journal) (place (w .block) v t)
+      where
+        less : (i : ℕ) → i ≡ suc (w .tried) → suc (w .tried) - i ≡ 0
+        less i q = omega arith
+
+    abbrev now : ℕ
+    now = metric h cs (place (w .block) v t)
+
+    -- the next walk, by whether its total is a new lowest
+    abbrev by : Bool → Walk
+    by b = record {
+      block = place (w .block) v t;
+      journal = record { vertex = v; from = w .block v } ∷ w .journal;
+      candidate = walkMove h cs w v t now .candidate;
+      tried = suc (w .tried);
+      kept = cond b (suc (w .tried)) (w .kept);
+      lowest = cond b now (w .lowest);
+    }
+
+    module _ (p : ℕ → ℕ) (g : Going p w) (on : above cs v ≡ 0) (tl : 1 ≤ t) (tu : t ≤ h .blocks) where
+      -- a fact of each prefix: of the new one, and of the old ones
+      each : (P : (ℕ → ℕ) → Type 0) → P (place (w .block) v t) → ((i : ℕ) → i ≤ w .tried → P (prefix w i)) → (i : ℕ) → i ≤ suc (w .tried) → P (after i)
+      each P new old i l = go (ℕ-discrete i (suc (w .tried)))
+        where
+          go : Dec (i ≡ suc (w .tried)) → P (after i)
+          go (yes q) = subst P (sym (after-new i q)) new
+          go (no n) = subst P (sym (after-old i (omega arith))) (old i (omega arith))
+
+      placed-new : Placed h cs (place (w .block) v t)
+      placed-new = placed-move h cs (w .block) v t (subst (Placed h cs) (prefix-now w) (g .placed (w .tried) (omega arith))) on tl tu
+
+      going-by : (b : Bool) → ltb now (w .lowest) ≡ b → Going p (by b)
+      going-by true e =
+          let l : now < w .lowest = ltb-true _ _ e in
+          record {
+            placed = each (Placed h cs) placed-new (g .placed);
+            starts = after-old 0 (omega arith) ∙ g .starts;
+            kept-le = omega arith;
+            lowest-is = ap (metric h cs) (after-new (suc (w .tried)) refl);
+            lowest-le = each (λ q. now ≤ metric h cs q) (omega arith) (λ i k. omega (arith, g .lowest-le i k));
+            first = λ i k. omega (arith, ap (metric h cs) (after-old i (omega arith)), g .lowest-le i (omega arith));
+          }
+      going-by false e =
+          let l : w .lowest ≤ now = ltb-false _ _ e in
+          record {
+            placed = each (Placed h cs) placed-new (g .placed);
+            starts = after-old 0 (omega arith) ∙ g .starts;
+            kept-le = omega (arith, g .kept-le);
+            lowest-is = ap (metric h cs) (after-old (w .kept) (g .kept-le)) ∙ g .lowest-is;
+            lowest-le = each (λ q. w .lowest ≤ metric h cs q) l (g .lowest-le);
+            first = λ i k. omega (arith, ap (metric h cs) (after-old i (omega (arith, g .kept-le))), g .first i k);
+          }
+
+      going-move : Going p (walkMove h cs w v t (metric h cs (place (w .block) v t)))
+      unfolding walkMove
+      going-move = going-by (ltb now (w .lowest)) refl
+
+  -- ---- the end
+  abbrev pub moved : Walk → ℕ → Bool
+  moved w x = any (w .journal) (λ m. eqb (m .vertex) x)
+
+  abbrev pub Over : Walk → Type 0
+  Over w = (leb (w .kept + 25) (w .tried) ≡ true) ⊎ (walkBest h cs w ≡ none)
+
+  still : (w : Walk) (v t : ℕ) → isOpen h cs w v t ≡ true → moved w v ≡ false
+  unfolding isOpen
+  still w v t o = not-true _ (and-right (w .candidate v) _ (and-left _ _ o))
+
+  pub open-on : (w : Walk) (v t : ℕ) → isOpen h cs w v t ≡ true → above cs v ≡ 0
+  unfolding isOpen
+  open-on w v t o = can-on h cs (w .block) v t (and-right (w .candidate v && not (moved w v)) _ o)
+
+  -- every lot has moved: no pair is open
+  none-left : (w : Walk) → vertices h ≤ countTo (vertices h) (moved w) → walkBest h cs w ≡ none
+  unfolding walkBest
+  none-left w l = go (walkBest h cs w) (best-top (isOpen h cs w) (gain h cs (w .block)) (h .blocks) (vertices h))
+    where
+      go : (b : Best) → Top (isOpen h cs w) (gain h cs (w .block)) (Pair h cs) b → b ≡ none
+      go none top = refl
+      go (best v t g) top = absurd (true≢false (sym (countTo-full (vertices h) (moved w) l v (top .there .0) (top .there .1)) ∙ still w v t (top .open-pair)))
+
+  -- a move of a lot that has not moved yet
+  moved-more : (w : Walk) (v t n : ℕ) → 1 ≤ v → v ≤ vertices h → moved w v ≡ false → countTo (vertices h) (moved (walkMove h cs w v t n)) ≡ countTo (vertices h) (moved w) + 1
+  unfolding walkMove any
+  moved-more w v t n l u q = omega (
+    arith,
+    sumTo-change (vertices h) v (λ x. one (moved w x)) (λ x. one (eqb v x || moved w x)) l u (λ j _ _ ne. sym (ap (λ (b : Bool). one (b || moved w j)) (ne-eqb v j (λ r. ne (sym r))))),
+    ap one q,
+    ap (λ (b : Bool). one (b || moved w v)) (eq-eqb v v refl),
+  )
+
+  pub record Ended (p : ℕ → ℕ) (w : Walk) : Type 0 where
+    pub going : Going p w
+    pub over : Over w
+
+  turn-end : (n : ℕ) (p : ℕ → ℕ) (w : Walk) → Going p w → vertices h ≤ countTo (vertices h) (moved w) + suc n
+      → ((w′ : Walk) → Going p w′ → vertices h ≤ countTo (vertices h) (moved w′) + n → Ended p (walkOn h cs n w′))
+      → (b : Best) → walkBest h cs w ≡ b → Top (isOpen h cs w) (gain h cs (w .block)) (Pair h cs) b → Ended p (walkTurn h cs w (walkOn h cs n) b)
+  unfolding walkTurn
+  turn-end n p w g l ih none q top = record { going = g; over = inr q }
+  turn-end n p w g l ih (best v t f) q top = ih (walkMove h cs w v t (metric h cs (place (w .block) v t)))
+      (going-move w v t p g (open-on w v t (top .open-pair)) (top .there .2) (top .there .3))
+      (omega (arith, moved-more w v t (metric h cs (place (w .block) v t)) (top .there .0) (top .there .1) (still w v t (top .open-pair))))
+
+  -- with as many turns as there are lots left to move, a walk ends by its own rule
+  walk-end : (n : ℕ) (p : ℕ → ℕ) (w : Walk) → Going p w → vertices h ≤ countTo (vertices h) (moved w) + n → Ended p (walkOn h cs n w)
+  unfolding walkOn walkBest
+  walk-end zero p w g l = record { going = g; over = inr (none-left w (omega arith)) }
+  walk-end (suc n) p w g l = go (walk-end n p) (leb (w .kept + 25) (w .tried)) refl
+    where
+      go : ((w′ : Walk) → Going p w′ → vertices h ≤ countTo (vertices h) (moved w′) + n → Ended p (walkOn h cs n w′))
+          → (b : Bool) → leb (w .kept + 25) (w .tried) ≡ b → Ended p (cond b w (walkTurn h cs w (walkOn h cs n) (walkBest h cs w)))
+      go ih true e = record { going = g; over = inl e }
+      go ih false e = turn-end n p w g l ih (walkBest h cs w) refl (best-top (isOpen h cs w) (gain h cs (w .block)) (h .blocks) (vertices h))
+
+  -- W ends by its rule, having kept the first prefix of lowest total
+  pub walk-ends : (p : ℕ → ℕ) (u v : ℕ) → Placed h cs p → Ended p (walk h cs p u v)
+  unfolding walk reversed
+  walk-ends p u v ok = walk-end (vertices h) p _ (record {
+    placed = λ i l. subst (Placed h cs) (sym (reversed-nil (0 - i) p)) ok;
+    starts = refl;
+    kept-le = omega arith;
+    lowest-is = refl;
+    lowest-le = λ i l. omega (arith, ap (metric h cs) (reversed-nil (0 - i) p));
+    first = λ i l. absurd (omega arith);
+  }) (omega arith)
+
+  -- what W leaves has every board lot in a session, and a total that is the walk's lowest, at most the one before
+  pub walked-metric : (p : ℕ → ℕ) (u v : ℕ) → Placed h cs p → Placed h cs (walked h cs (walk h cs p u v)) × (metric h cs (walked h cs (walk h cs p u v)) ≡ walk h cs p u v .lowest) × (metric h cs (walked h cs (walk h cs p u v)) ≤ metric h cs p)
+  unfolding walked
+  walked-metric p u v ok =
+      let g = walk-ends p u v ok .going in
+      (g .placed _ (g .kept-le), g .lowest-is, omega (arith, g .lowest-is, g .lowest-le 0 (omega arith), ap (metric h cs) (g .starts)))

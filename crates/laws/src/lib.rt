@@ -1,0 +1,1 @@
+// No code: the laws are in specs/.

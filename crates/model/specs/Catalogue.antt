@@ -1,0 +1,62 @@
+-- The loaded catalogue as a hypergraph with a first partition, the limits of an entry, and the capacity. Rests on laws' sums. Assumes nothing.
+use Prim.Native.Nat.{ℕ, zero, suc, _+_, _-_, _*_, _/_}
+use mathlib.Core.Bool.{Bool, _&&_}
+use mathlib.Core.List.{List, [], _∷_}
+use lib.Dec.{leb}
+use lib.ListN.{length, getD}
+use Rattle.laws.specs.Fold.{sumOver}
+
+-- the limits of an entry: how many lots and how many sessions a catalogue may have
+pub record Limits : Type 0 where
+  pub vertexLimit : ℕ
+  pub blockLimit : ℕ
+
+-- "lots 1 to 1,024", "sessions 2 to 16"
+abbrev pub mainLimits : Limits
+mainLimits = record { vertexLimit = 1024; blockLimit = 16 }
+
+-- net: a buyer with its weight. pins: the lots marked with it, in the file's order
+pub record Net : Type 0 where
+  pub weight : ℕ
+  pub pins : List ℕ
+
+-- vertex: a lot. block: a session. imbalance: the slack in thousandths.
+-- weights: the loaded bales of the lots 1, 2, ..; draft: their sessions in the file; nets: the buyers 1, 2, ..
+pub record Hypergraph : Type 0 where
+  pub blocks : ℕ
+  pub imbalance : ℕ
+  pub weights : List ℕ
+  pub draft : List ℕ
+  pub nets : List Net
+
+-- the number of lots
+abbrev pub vertices : Hypergraph → ℕ
+vertices h = length (h .weights)
+
+-- a lot's bales, as loaded
+abbrev pub loaded : Hypergraph → ℕ → ℕ
+loaded h v = getD (h .weights) (v - 1) 0
+
+-- a lot's session in the draft; 0 for no lot
+abbrev pub drafted : Hypergraph → ℕ → ℕ
+drafted h v = getD (h .draft) (v - 1) 0
+
+-- the lot is known
+abbrev pub isVertex : Hypergraph → ℕ → Bool
+isVertex h v = leb 1 v && leb v (vertices h)
+
+-- the session is known
+abbrev pub isBlock : Hypergraph → ℕ → Bool
+isBlock h b = leb 1 b && leb b (h .blocks)
+
+-- W: all bales
+unfoldable pub totalWeight : Hypergraph → ℕ
+totalWeight h = sumOver (h .weights) (λ w. w)
+
+-- ⌈W/k⌉
+unfoldable pub averageWeight : Hypergraph → ℕ
+averageWeight h = (totalWeight h + (h .blocks - 1)) / h .blocks
+
+-- cap: (1,000 + slack) × ⌈W/k⌉ / 1,000, rounded down
+unfoldable pub capacity : Hypergraph → ℕ
+capacity h = (1000 + h .imbalance) * averageWeight h / 1000

@@ -1,0 +1,20 @@
+-- Document 01 as definitions, in the terms of hypergraph partitioning; and its proved table. Assumes nothing.
+-- Catalogue  the loaded catalogue as a hypergraph; the limits of an entry; the capacity
+-- Measure    representative, pins, pin counts, weights, connectivity metric, gain
+-- Machine    the plain machine's state; the calls J, S, M, B and their refusals
+-- Search     the best pair, walks, polish, ratings; the calls W, P, A; what every call does
+-- Grammar    the sale file: lines, fields, numbers, refusals 1 to 7
+-- Report     answers and the closing report as bytes
+-- Engine     a list of calls; the file to a code and a report
+-- Memory     lent memory: what each table holds, what is free, what keeps; what the engine leaves
+-- Demand     demand 3, one statement about a catalogue and a list of calls
+-- Table      the starred cases; Edges the files that are turned down and those just accepted; Worked whole sales
+pub mod Catalogue
+pub mod Measure
+pub mod Machine
+pub mod Search
+pub mod Grammar
+pub mod Report
+pub mod Engine
+pub mod Memory
+pub mod Demand
