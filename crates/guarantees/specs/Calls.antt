@@ -17,6 +17,7 @@ use Rattle.model.specs.Catalogue.{Net, Hypergraph, vertices, drafted, isVertex,
 use Rattle.model.specs.Measure.{Contraction, above, onBoard, weight, blockWeight, adjacent, metric, gain, hasRoom}
 use Rattle.model.specs.Machine.{Call, callJ, callS, callM, callB, callW, callP, callA, Move, State, Step, fresh, settle, refusesJ, contract, doesJ, refusesM, doesM, uncontract, doesS, doesB}
 use Rattle.model.specs.Search.{Best, none, best, bestPair, Walk, Coarse, Fine, canGo, walk, walked, polish, rating, canJoin, joinBest, joinTurn, boardSize, coarsen, refine, refusesW, doesW, doesP, refusesA, doesA, call}
+use Rattle.model.specs.Engine.{after}
 use Rattle.guarantees.specs.Climbs.{Joins, Sound, above-gone, above-other}
 use Rattle.guarantees.specs.Joins.{metric-join}
 use Rattle.guarantees.specs.Weights.{blockWeight-join}
@@ -299,11 +300,7 @@ module _ (h : Hypergraph) where
       go ih false e = inl e
 
   -- ---- a list of calls
-  unfoldable pub after : State → List Call → State
-  after s [] = s
-  after s (c ∷ cs) = after (call h s c .state) cs
-
-  pub legal-after : (s : State) (cs : List Call) → Legal s → Legal (after s cs)
+  pub legal-after : (s : State) (cs : List Call) → Legal s → Legal (after h s cs)
   unfolding after
   legal-after s [] ok = ok
   legal-after s (c ∷ cs) ok = legal-after (call h s c .state) cs (legal-call s c ok)

@@ -15,12 +15,13 @@ use Rattle.model.specs.Catalogue.{Hypergraph, vertices, isVertex, isBlock, capa
 use Rattle.model.specs.Measure.{Contraction, above, onBoard, weight, blockWeight, gain, metric, hasRoom}
 use Rattle.model.specs.Search.{Best, none, best, Walk, Polish, canGo, isOpen, walkBest, walkMove, walkTurn, walkOn, walk, walked, polishBest, polishTurn, polishOn, polish, reversed, Coarse, Fine, canJoin, joinBest, joinTurn, boardSize, coarsen, refine, rating, refusesW, doesW, doesP, refusesA, doesA, call}
 use Rattle.model.specs.Machine.{Call, callJ, callS, callM, callB, callW, callP, callA, Move, State, Step, fresh, settle, refusesJ, contract, doesJ, refusesM, doesM, uncontract, doesS, doesB}
+use Rattle.model.specs.Engine.{after as afterCalls}
 use Rattle.guarantees.specs.Tops.{Top, best-top}
 use Rattle.guarantees.specs.Ends.{Placed, Pair, can-on, can-away}
 use Rattle.guarantees.specs.Walks.{moved, prefix, prefix-now, after, after-old, after-new, reversed-nil, walk-ends, walked-metric}
 use Rattle.guarantees.specs.Weights.{blockWeight-join, blockWeight-move}
 use Rattle.guarantees.specs.Climbs.{Joins, Sound, above-gone}
-use Rattle.guarantees.specs.Calls.{Inside, AllInside, Legal, Coarsened, coarsened, can-join, placed-join, placed-split, legal-J, legal-S, legal-M, legal-B, legal-W, legal-P, legal-A, legal-call, vertex-range, block-range, after as afterCalls}
+use Rattle.guarantees.specs.Calls.{Inside, AllInside, Legal, Coarsened, coarsened, can-join, placed-join, placed-split, legal-J, legal-S, legal-M, legal-B, legal-W, legal-P, legal-A, legal-call, vertex-range, block-range}
 
 module _ (h : Hypergraph) (cs : List Contraction) where
   abbrev pub Capped : (ℕ → ℕ) → Type 0

@@ -1,4 +1,5 @@
 pub mod Moves
+pub mod Commutes
 pub mod Climbs
 pub mod Joins
 pub mod Tops
