@@ -7,6 +7,7 @@ pub mod Ends
 pub mod Walks
 pub mod Weights
 pub mod Calls
+pub mod Splits
 pub mod Clumps
 pub mod Caps
 pub mod Loads
