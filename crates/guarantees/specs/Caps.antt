@@ -21,8 +21,8 @@ use Rattle.guarantees.specs.Ends.{Placed, Pair, can-on, can-away}
 use Rattle.guarantees.specs.Walks.{moved, prefix, prefix-now, after, after-old, after-new, reversed-nil, walk-ends, walked-metric}
 use Rattle.guarantees.specs.Weights.{blockWeight-join, blockWeight-move}
 use Rattle.guarantees.specs.Climbs.{Sound}
-use Rattle.guarantees.specs.Splits.{blockWeight-split}
-use Rattle.guarantees.specs.Calls.{Inside, AllInside, Legal, Coarsened, coarsened, can-join, placed-join, placed-split, legal-J, legal-S, legal-M, legal-B, legal-W, legal-P, legal-A, legal-call, vertex-range, block-range}
+use Rattle.guarantees.specs.Splits.{Inside, AllInside, placed-split, blockWeight-split}
+use Rattle.guarantees.specs.Calls.{Legal, Coarsened, coarsened, legal-J, legal-S, legal-M, legal-B, legal-W, legal-P, legal-A, legal-call, vertex-range, block-range}
 
 module _ (h : Hypergraph) (cs : List Contraction) where
   abbrev pub Capped : (ℕ → ℕ) → Type 0

@@ -6,8 +6,8 @@ pub mod Tops
 pub mod Ends
 pub mod Walks
 pub mod Weights
-pub mod Calls
 pub mod Splits
+pub mod Calls
 pub mod Clumps
 pub mod Caps
 pub mod Loads
