@@ -13,3 +13,7 @@ pub mod Caps
 pub mod Loads
 pub mod Numbers
 pub mod Bounds
+pub mod Reached
+pub mod NeverHigher
+pub mod Optimum
+pub mod MachineHalf
