@@ -17,3 +17,5 @@ pub mod Reached
 pub mod NeverHigher
 pub mod Optimum
 pub mod MachineHalf
+pub mod ClumpGain
+pub mod Fuel
