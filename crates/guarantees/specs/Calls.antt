@@ -21,18 +21,13 @@ use Rattle.model.specs.Engine.{after}
 use Rattle.guarantees.specs.Climbs.{Joins, Sound, above-gone, above-other}
 use Rattle.guarantees.specs.Joins.{metric-join}
 use Rattle.guarantees.specs.Weights.{blockWeight-join}
+pub use Rattle.guarantees.specs.Reading.{vertex-range, block-range}
 pub use Rattle.guarantees.specs.Splits.{Inside, AllInside, placed-join, into-on, placed-split, metric-split}
 use Rattle.guarantees.specs.Tops.{Top, best-top}
 use Rattle.guarantees.specs.Ends.{Placed, At, Pair, placed-move, Polished, polish-ends}
 use Rattle.guarantees.specs.Walks.{walked-metric}
 
 module _ (h : Hypergraph) where
-  pub vertex-range : (v : ℕ) → isVertex h v ≡ true → (1 ≤ v) × (v ≤ vertices h)
-  vertex-range v q = (leb-true 1 v (and-left _ _ q), leb-true v (vertices h) (and-right (leb 1 v) _ q))
-
-  pub block-range : (b : ℕ) → isBlock h b ≡ true → (1 ≤ b) × (b ≤ h .blocks)
-  block-range b q = (leb-true 1 b (and-left _ _ q), leb-true b (h .blocks) (and-right (leb 1 b) _ q))
-
   -- the moves on the record are of board lots, from sessions
   abbrev pub Recorded : List Contraction → List Move → Type 0
   Recorded cs [] = Unit {0}
@@ -125,8 +120,8 @@ module _ (h : Hypergraph) where
       let b = cond-zero (eqb u v) 11 _ (omega arith) (a .1) in
       let c = cond-zero (not (onBoard (s .stack) u && onBoard (s .stack) v)) 10 _ (omega arith) (b .1) in
       let r = not-false _ (a .0) in
-      let ru = vertex-range u (and-left _ _ r) in
-      let rv = vertex-range v (and-right (isVertex h u) _ r) in
+      let ru = vertex-range h u (and-left _ _ r) in
+      let rv = vertex-range h v (and-right (isVertex h u) _ r) in
       let o = not-false _ (c .0) in
       let j : Joins (s .stack) (record { into = u; gone = v }) = record {
         real = ru .0;
@@ -160,8 +155,8 @@ module _ (h : Hypergraph) where
       let a = cond-zero (not (isVertex h v && isBlock h t)) 9 _ (omega arith) q in
       let b = cond-zero (not (onBoard (s .stack) v)) 10 _ (omega arith) (a .1) in
       let r = not-false _ (a .0) in
-      let rv = vertex-range v (and-left _ _ r) in
-      let rt = block-range t (and-right (isVertex h v) _ r) in
+      let rv = vertex-range h v (and-left _ _ r) in
+      let rt = block-range h t (and-right (isVertex h v) _ r) in
       let on = eqb-true (above (s .stack) v) 0 (not-false _ (b .0)) in
       let here = ok .placed v (rv .0) (rv .1) .board on in
       record {

@@ -19,3 +19,4 @@ pub mod Optimum
 pub mod MachineHalf
 pub mod ClumpGain
 pub mod Fuel
+pub mod Reading
