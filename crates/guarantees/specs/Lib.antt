@@ -20,3 +20,5 @@ pub mod MachineHalf
 pub mod ClumpGain
 pub mod Fuel
 pub mod Reading
+pub mod Ranges
+pub mod WeightBounds
