@@ -212,7 +212,7 @@ module _ (h : Hypergraph) where
   }
 
   -- ---- A's joins end by their own rule: at most 2 × k lots are on the board, or no pair may be joined
-  board-join : (cs : List Contraction) (c : Contraction) → Joins cs c → 1 ≤ c .gone → c .gone ≤ vertices h → boardSize h (c ∷ cs) + 1 ≡ boardSize h cs
+  pub board-join : (cs : List Contraction) (c : Contraction) → Joins cs c → 1 ≤ c .gone → c .gone ≤ vertices h → boardSize h (c ∷ cs) + 1 ≡ boardSize h cs
   unfolding boardSize
   board-join cs c j l u = omega (
     arith,

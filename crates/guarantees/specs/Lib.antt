@@ -22,3 +22,5 @@ pub mod Fuel
 pub mod Reading
 pub mod Ranges
 pub mod WeightBounds
+pub mod SearchBounds
+pub mod StateBounds

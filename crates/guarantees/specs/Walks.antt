@@ -128,7 +128,7 @@ module _ (h : Hypergraph) (cs : List Contraction) where
   abbrev pub Over : Walk → Type 0
   Over w = (leb (w .kept + 25) (w .tried) ≡ true) ⊎ (walkBest h cs w ≡ none)
 
-  still : (w : Walk) (v t : ℕ) → isOpen h cs w v t ≡ true → moved w v ≡ false
+  pub still : (w : Walk) (v t : ℕ) → isOpen h cs w v t ≡ true → moved w v ≡ false
   unfolding isOpen
   still w v t o = not-true _ (and-right (w .candidate v) _ (and-left _ _ o))
 
@@ -146,7 +146,7 @@ module _ (h : Hypergraph) (cs : List Contraction) where
       go (best v t g) top = absurd (true≢false (sym (countTo-full (vertices h) (moved w) l v (top .there .0) (top .there .1)) ∙ still w v t (top .open-pair)))
 
   -- a move of a lot that has not moved yet
-  moved-more : (w : Walk) (v t n : ℕ) → 1 ≤ v → v ≤ vertices h → moved w v ≡ false → countTo (vertices h) (moved (walkMove h cs w v t n)) ≡ countTo (vertices h) (moved w) + 1
+  pub moved-more : (w : Walk) (v t n : ℕ) → 1 ≤ v → v ≤ vertices h → moved w v ≡ false → countTo (vertices h) (moved (walkMove h cs w v t n)) ≡ countTo (vertices h) (moved w) + 1
   unfolding walkMove any
   moved-more w v t n l u q = omega (
     arith,
