@@ -24,3 +24,4 @@ pub mod Ranges
 pub mod WeightBounds
 pub mod SearchBounds
 pub mod StateBounds
+pub mod AnswerBounds

@@ -79,8 +79,17 @@ module _ (h : Hypergraph) where
   unfolding fresh
   journal-le calls = omega (arith, after-all (λ n ms. length ms ≤ n) (λ n. omega arith) (λ n ms l. omega arith) (λ n s v t _ l. omega arith) (λ n m ms l. omega arith) 0 (fresh h) calls (omega arith))
 
-  pub journal-in : (calls : List Call) → All (after h (fresh h) calls .journal) (λ m. (1 ≤ m .vertex) × (m .vertex ≤ vertices h))
-  unfolding fresh refusesM
-  journal-in calls = after-all (λ n ms. All ms (λ m. (1 ≤ m .vertex) × (m .vertex ≤ vertices h))) (λ n. tt) (λ n ms k. k)
-      (λ n s v t q k. (vertex-range h v (and-left _ _ (not-false _ (cond-zero (not (isVertex h v && isBlock h t)) 9 _ (omega arith) q .0))), k))
-      (λ n m ms k. k .1) 0 (fresh h) calls tt
+  -- the moves of a journal are of vertices that there are
+  abbrev pub Listed : List Move → Type 0
+  Listed ms = All ms (λ m. (1 ≤ m .vertex) × (m .vertex ≤ vertices h))
+
+  listed-more : (s : State) (v t : ℕ) → refusesM h s v t ≡ 0 → Listed (s .journal) → Listed (record { vertex = v; from = s .block v } ∷ s .journal)
+  unfolding refusesM
+  listed-more s v t q k = (vertex-range h v (and-left _ _ (not-false _ (cond-zero (not (isVertex h v && isBlock h t)) 9 _ (omega arith) q .0))), k)
+
+  pub listed-call : (s : State) (c : Call) → Listed (s .journal) → Listed (call h s c .state .journal)
+  listed-call s c k = after-call (λ n ms. Listed ms) (λ n. tt) (λ n ms k. k) (λ n. listed-more) (λ n m ms k. k .1) 0 s c k
+
+  pub journal-in : (calls : List Call) → Listed (after h (fresh h) calls .journal)
+  unfolding fresh
+  journal-in calls = after-all (λ n ms. Listed ms) (λ n. tt) (λ n ms k. k) (λ n. listed-more) (λ n m ms k. k .1) 0 (fresh h) calls tt
