@@ -25,3 +25,4 @@ pub mod WeightBounds
 pub mod SearchBounds
 pub mod StateBounds
 pub mod AnswerBounds
+pub mod ReportFits
