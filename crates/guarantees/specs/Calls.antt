@@ -1,4 +1,6 @@
--- The states that calls reach: the stack is one that J makes, every board lot has a session, and so on; and what A promises. Assumes nothing.
+-- Every call leaves a legal state legal: the stack is one that J makes, every vertex on the board has a block, the journal's moves are of such
+-- vertices (legal-call, legal-after). An accepted A ends with no contraction, on no higher metric, where no move with room lowers it (solves); its
+-- contractions end by their own rule (coarsen-ends). Rests on Splits, Ends and Walks. Assumes nothing.
 use Prim.Native.Nat.{ℕ, zero, suc, _+_, _-_, _*_, _≤_, _<_}
 use native.Mathlib.Decide.{ℕ-discrete}
 use native.Mathlib.Omega.{arith}
@@ -28,7 +30,7 @@ use Rattle.guarantees.specs.Ends.{Placed, At, Pair, placed-move, Polishe
 use Rattle.guarantees.specs.Walks.{walked-metric}
 
 module _ (h : Hypergraph) where
-  -- the moves on the record are of board lots, from sessions
+  -- the journal's moves are of vertices on the board, from blocks
   abbrev pub Recorded : List Contraction → List Move → Type 0
   Recorded cs [] = Unit {0}
   Recorded cs (m ∷ ms) = ((above cs (m .vertex) ≡ 0) × (1 ≤ m .from) × (m .from ≤ h .blocks)) × Recorded cs ms
@@ -39,7 +41,7 @@ module _ (h : Hypergraph) where
     pub placed : Placed h (s .stack) (s .block)
     pub recorded : Recorded (s .stack) (s .journal)
 
-  -- ---- A's joins
+  -- ---- A's contractions
   pub record Coarsened (p : ℕ → ℕ) (c : Coarse) : Type 0 where
     pub sound : Sound (c .stack)
     pub inside : AllInside h (c .stack)
@@ -47,7 +49,7 @@ module _ (h : Hypergraph) where
     pub same : metric h (c .stack) (c .block) ≡ metric h [] p
     pub same-weights : (b : ℕ) → blockWeight h (c .stack) (c .block) b ≡ blockWeight h [] p b
 
-  -- what a pair that A may join is
+  -- what a pair that A may contract is
   pub can-join : (cs : List Contraction) (p : ℕ → ℕ) (u v : ℕ) → 1 ≤ u → canJoin h cs p u v ≡ true → Joins cs (record { into = u; gone = v }) × (p u ≡ p v)
   unfolding canJoin
   can-join cs p u v l q =
@@ -87,7 +89,7 @@ module _ (h : Hypergraph) where
       go ih true = join-turn p c (coarsen h n) k ih _ (best-top (canJoin h (c .stack) (c .block)) (λ u v. pos (rating h (c .stack) u v)) (vertices h) (vertices h))
       go ih false = k
 
-  -- ---- A's splits and walks
+  -- ---- A's uncontractions and walks
   pub refined : (cs : List Contraction) (f : Fine) → Sound cs → AllInside h cs → Placed h cs (f .block) → Placed h [] (refine h cs f .block) × (metric h [] (refine h cs f .block) ≤ metric h cs (f .block))
   unfolding refine
   refined [] f s r ok = (ok, omega arith)
@@ -97,7 +99,7 @@ module _ (h : Hypergraph) where
       let end = refined cs _ (s .1) (r .1) (w .0) in
       (end .0, omega (arith, end .1, w .2, metric-split h cs c s (r .0) (f .block) ok))
 
-  -- ---- A: no join stands, the total is no higher, and no single move that has space lowers it
+  -- ---- A: no contraction stands, the metric is no higher, and no single move that has room lowers it
   pub solves : (s : State) → Placed h [] (s .block) → Polished h [] (s .block) (doesA h s .state .block)
   unfolding doesA
   solves s ok =
@@ -201,7 +203,7 @@ module _ (h : Hypergraph) where
   legal-call s callP ok = legal-P s ok
   legal-call s callA ok = settled (refusesA h s (s .stack)) s (doesA h s) ok (legal-A s (s .stack) refl ok)
 
-  -- a fresh machine is legal where the draft has each lot in a session
+  -- a fresh machine is legal where the draft has each vertex in a block
   pub legal-fresh : ((x : ℕ) → 1 ≤ x → x ≤ vertices h → (1 ≤ drafted h x) × (drafted h x ≤ h .blocks)) → Legal (fresh h)
   unfolding fresh above
   legal-fresh d = record {
@@ -211,7 +213,7 @@ module _ (h : Hypergraph) where
     recorded = tt;
   }
 
-  -- ---- A's joins end by their own rule: at most 2 × k lots are on the board, or no pair may be joined
+  -- ---- A's contractions end by their own rule: at most 2 × k vertices are on the board, or no pair may be contracted
   pub board-join : (cs : List Contraction) (c : Contraction) → Joins cs c → 1 ≤ c .gone → c .gone ≤ vertices h → boardSize h (c ∷ cs) + 1 ≡ boardSize h cs
   unfolding boardSize
   board-join cs c j l u = omega (

@@ -1,4 +1,5 @@
--- No session is ever above its cap. Assumes nothing.
+-- Every call keeps a state in which no block is above the capacity, nor would be after any reversals of the journal's moves (held-call, held-after):
+-- moves are made where there is room, and each state that the journal leads back to was within the capacity. Rests on Calls. Assumes nothing.
 use Prim.Native.Nat.{ℕ, zero, suc, _+_, _-_, _*_, _≤_, _<_}
 use native.Mathlib.Decide.{ℕ-discrete}
 use native.Mathlib.Omega.{arith}
@@ -110,7 +111,7 @@ module _ (h : Hypergraph) (cs : List Contraction) where
     walked-keeps p u v placed ok = walk-keeps (vertices h) _ (λ i l. subst Q (sym (reversed-nil (0 - i) p)) ok) (walk h cs p u v .kept) (walk-ends h cs p u v placed .going .kept-le)
 
 module _ (h : Hypergraph) where
-  -- ---- a join and a split
+  -- ---- a contraction and an uncontraction
   capped-join : (cs : List Contraction) (c : Contraction) (p : ℕ → ℕ) → Sound (c ∷ cs) → Inside h c → p (c .into) ≡ p (c .gone) → Capped h cs p → Capped h (c ∷ cs) (place p (c .gone) 0)
   capped-join cs c p s r e ok b l u = omega (arith, blockWeight-join h cs c s p (r .0) (r .1) (r .2) (r .3) e b, ok b l u)
 
@@ -132,7 +133,7 @@ module _ (h : Hypergraph) where
       let k = coarsened h (vertices h) (s .block) (record { stack = []; block = s .block }) (record { sound = tt; inside = tt; placed = placed; same = refl; same-weights = λ b. refl }) in
       polished-keeps h [] (Capped h []) (capped-move h []) _ (capped-refine _ _ (k .sound) (k .inside) (k .placed) (λ b l u. omega (arith, k .same-weights b, ok b l u)))
 
-  -- ---- the states that calls reach: no session above its cap, and none after any reversals either
+  -- ---- the states that calls reach: no block above the capacity, and none after any reversals either
   abbrev pub Back : List Contraction → (ℕ → ℕ) → List Move → Type 0
   Back cs p [] = Unit {0}
   Back cs p (m ∷ ms) = Capped h cs (place p (m .vertex) (m .from)) × Back cs (place p (m .vertex) (m .from)) ms

@@ -31,7 +31,7 @@ pub record Loaded (limits : Limits) (h : Hypergraph) : Type 0 where
   pub nets-in : All (h .nets) (Within (vertices h))
   pub nets-distinct : All (h .nets) (λ e. Distinct (e .pins) 0 (length (e .pins)))
   pub nets-some : All (h .nets) (λ e. 1 ≤ length (e .pins))
-  pub bales-in : All (h .weights) (λ w. (1 ≤ w) × (w ≤ 65535))
+  pub weights-in : All (h .weights) (λ w. (1 ≤ w) × (w ≤ 65535))
   pub net-weights : All (h .nets) (λ e. (1 ≤ e .weight) × (e .weight ≤ 1000))
   pub imbalance-high : h .imbalance ≤ 1000
 
@@ -56,7 +56,7 @@ module _ (limits : Limits) where
   read-first : (n m k s : ℕ) → 1 ≤ n → n ≤ limits .vertexLimit → m ≤ 1024 → 2 ≤ k → k ≤ limits .blockLimit → s ≤ 1000 → Read (blank n m k s)
   unfolding sumOver
   read-first n m k s nl nu mu kl ku su = record {
-    loads = record { blocks-low = kl; blocks-high = ku; draft-in = tt; as-long = refl; nets-in = tt; nets-distinct = tt; nets-some = tt; bales-in = tt; net-weights = tt; imbalance-high = su };
+    loads = record { blocks-low = kl; blocks-high = ku; draft-in = tt; as-long = refl; nets-in = tt; nets-distinct = tt; nets-some = tt; weights-in = tt; net-weights = tt; imbalance-high = su };
     even = λ w. absurd (omega (arith, eqb-true 0 n (and-left _ _ w)));
     sized = record { lots-low = nl; lots-high = nu; buyers-high = mu; lots-le = omega arith; nets-le = omega arith; marks-are = refl; marks-high = omega arith; calls-high = omega arith };
   }
@@ -77,7 +77,7 @@ module _ (limits : Limits) where
           nets-in = all-map (h .nets) _ _ (λ e. all-map (e .pins) _ _ (λ x r. (r .0, omega (arith, r .1, longer)))) (g .nets-in);
           nets-distinct = g .nets-distinct;
           nets-some = g .nets-some;
-          bales-in = all-more (h .weights) _ w (g .bales-in) (wl, wu);
+          weights-in = all-more (h .weights) _ w (g .weights-in) (wl, wu);
           net-weights = g .net-weights;
           imbalance-high = g .imbalance-high;
         };
@@ -101,7 +101,7 @@ module _ (limits : Limits) where
           nets-in = all-more ns _ _ (g .nets-in) (a .in-range);
           nets-distinct = all-more ns _ _ (g .nets-distinct) (a .distinct);
           nets-some = all-more ns _ _ (g .nets-some) vl;
-          bales-in = g .bales-in;
+          weights-in = g .weights-in;
           net-weights = all-more ns _ _ (g .net-weights) (wl, wu);
           imbalance-high = g .imbalance-high;
         };

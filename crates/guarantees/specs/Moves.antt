@@ -1,4 +1,4 @@
--- A move changes the connectivity metric by minus its gain, the total after being the total before less the gain (metric-gain),
+-- A move changes the connectivity metric by minus its gain: the metric after it is the one before it less the gain (metric-gain),
 -- and the move back has the negated gain (gain-back). Net by net: pin counts (count-move) and connectivity (connectivity-move).
 -- Rests on laws' sums and integers. Assumes nothing.
 use Prim.Native.Nat.{ℕ, zero, suc, _+_, _-_, _*_, _≤_, _<_}
@@ -99,7 +99,7 @@ module _ (h : Hypergraph) (cs : List Contraction) (p : ℕ → ℕ) (v t : ℕ) 
     cost-move true q = costs (e .weight) (connectivity h cs p e - 1) (connectivity h cs (place p v t) e - 1) (eqb (pinCount h cs p e (p v)) 1) (eqb (pinCount h cs p e t) 0) (omega (arith, connectivity-move q, spans q, spans′ q))
     cost-move false q = ap (λ (c : ℕ). e .weight * (c - 1) + 0) (sym (connectivity-same q))
 
-  -- the total after moving v to t
+  -- the metric after moving v to t
   pub metric-move : 1 ≤ p v → p v ≤ h .blocks → 1 ≤ t → t ≤ h .blocks → (p v ≡ t → ⊥) → metric h cs (place p v t) + freed h cs p v ≡ metric h cs p + drawn h cs p v t
   unfolding metric freed drawn
   metric-move sl su tl tu away = sumOver-both (h .nets) _ _ _ _ (λ e. cost-move sl su tl tu away e (pin cs e v) refl)
@@ -108,7 +108,7 @@ module _ (h : Hypergraph) (cs : List Contraction) (p : ℕ → ℕ) (v t : ℕ) 
   unfolding gain
   gain-away ne = ap (λ (b : Bool). cond b (pos 0) (pos (freed h cs p v) -ℤ pos (drawn h cs p v t))) (ne-eqb (p v) t ne)
 
-  -- the same with the gain: the total after is the total before less the gain
+  -- the same with the gain: the metric after is the metric before less the gain
   pub metric-gain : 1 ≤ p v → p v ≤ h .blocks → 1 ≤ t → t ≤ h .blocks → (p v ≡ t → ⊥) → pos (metric h cs (place p v t)) ≡ pos (metric h cs p) -ℤ gain h cs p v t
   metric-gain sl su tl tu away = eq-by _ _ (omega (
     arith,

@@ -1,5 +1,5 @@
 -- What holds of the book after the first line, and is kept by each line of a vertex, of a net and of a call, holds of every accepted
--- file's book, and the catalogue is whole (accepted-keeps, accepted-whole). Rests on model's Grammar alone. Assumes nothing.
+-- file's book, and the catalogue is whole (accepted-keeps). Rests on model's Grammar alone. Assumes nothing.
 use Prim.Native.Nat.{ℕ, zero, suc, _+_, _-_, _≤_, _<_}
 use native.Mathlib.Omega.{arith}
 use mathlib.Core.Path.{_≡_, refl, sym, ap, _∙_, subst}

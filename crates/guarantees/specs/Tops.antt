@@ -1,4 +1,5 @@
--- What the best pair is: open, of the highest worth, and the first of those. Assumes nothing.
+-- The best pair is open, of the highest worth, and the first of those: lowest first number, then lowest second one; there is none exactly where
+-- no pair is open (best-top). Rests on laws' integers. Assumes nothing.
 use Prim.Native.Nat.{ℕ, zero, suc, _+_, _≤_, _<_}
 use native.Mathlib.Decide.{ℕ-discrete}
 use native.Mathlib.Omega.{arith}

@@ -59,7 +59,7 @@ half w k l = go ((w + (k - 1)) / k) (div-mul-le-self (w + (k - 1)) k)
 module _ (limits : Limits) (small : limits .vertexLimit ≤ 1024) (h : Hypergraph) (r : Ranges limits h) where
   pub total-le : totalWeight h ≤ 67107840
   unfolding totalWeight
-  total-le = omega (arith, sumOver-le (h .weights) _ (λ w. w) 65535 (r .loaded .bales-in) (λ w i. i .1), r .vertices-high)
+  total-le = omega (arith, sumOver-le (h .weights) _ (λ w. w) 65535 (r .loaded .weights-in) (λ w i. i .1), r .vertices-high)
 
   pub average-le : averageWeight h ≤ 33553920
   unfolding averageWeight
