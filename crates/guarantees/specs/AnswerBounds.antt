@@ -1,19 +1,19 @@
 -- How large the numbers in answers get (Bounded): in every state that calls reach, every call's answer is within these bounds (bounded-call).
 -- Rests on Bounds, WeightBounds, SearchBounds and StateBounds. Assumes nothing.
-use Prim.Native.Nat.{ℕ, zero, suc, _+_, _-_, _*_, _≤_, _<_}
+use Prim.Native.Nat.{ℕ, zero, suc, _≤_}
 use native.Mathlib.Nat.{mul-le-mul}
 use native.Mathlib.Omega.{arith}
-use mathlib.Core.Path.{_≡_, refl, sym, ap, _∙_, subst}
+use mathlib.Core.Path.{_≡_, refl, subst}
 use mathlib.Core.Bool.{Bool, true, false, not, _&&_, cond}
 use mathlib.Core.List.{List, [], _∷_}
 use lib.Dec.{eqb}
-use lib.IntN.{ℤ, natAbs}
+use lib.IntN.{natAbs}
 use lib.ListN.{length}
 use Rattle.model.specs.Catalogue.{Limits, Hypergraph, vertices, isVertex, isBlock}
 use Rattle.model.specs.Measure.{Contraction, onBoard, metric, hasRoom}
 use Rattle.model.specs.Machine.{Call, callJ, callS, callM, callB, callW, callP, callA, Answer, saysJ, saysS, saysM, saysB, saysW, saysP, saysA, saysNO, Move, State, Step, settle, refusesJ, contract, doesJ, refusesM, doesM, doesS, doesB}
-use Rattle.model.specs.Search.{Walk, Coarse, Fine, walk, coarsen, refine, refusesW, doesW, doesP, refusesA, doesA, call}
-use Rattle.guarantees.specs.Calls.{Legal, AllInside, Recorded, Coarsened, coarsened}
+use Rattle.model.specs.Search.{Coarse, Fine, coarsen, refine, refusesW, doesW, doesP, refusesA, doesA, call}
+use Rattle.guarantees.specs.Calls.{Legal, AllInside, Recorded, coarsened}
 use Rattle.guarantees.specs.Ends.{Placed}
 use Rattle.guarantees.specs.Ranges.{Ranges}
 use Rattle.guarantees.specs.Bounds.{gain-le, metric-le}

@@ -1,17 +1,16 @@
 -- How large the numbers of a loaded catalogue get: a gain's size is at most 1,024,000 and the metric at most 15,360,000, which fit 32 bits
 -- (gain-le, metric-le), and a rating is at most 5,160,960,000, which fits 64 (rating-le). Rests on Loads. Assumes nothing.
-use Prim.Native.Nat.{ℕ, zero, suc, _+_, _-_, _*_, _/_, _≤_, _<_}
+use Prim.Native.Nat.{ℕ, _-_, _*_, _/_, _≤_}
 use native.Mathlib.Nat.{mul-le-mul-left, div-le-self}
 use native.Mathlib.Omega.{arith}
-use mathlib.Core.Path.{_≡_, refl, sym, ap, _∙_, subst}
 use mathlib.Core.Bool.{Bool, true, false, _&&_, cond}
-use mathlib.Core.List.{List, [], _∷_}
+use mathlib.Core.List.{List}
 use lib.Dec.{eqb, ltb}
-use lib.IntN.{ℤ, pos, natAbs, _-ℤ_}
+use lib.IntN.{pos, natAbs, _-ℤ_}
 use lib.ListN.{length}
 use Rattle.laws.specs.Choice.{cond-le}
 use Rattle.laws.specs.Integer.{natAbs-diff}
-use Rattle.laws.specs.Fold.{sumOver, All, sumOver-le}
+use Rattle.laws.specs.Fold.{sumOver-le}
 use Rattle.laws.specs.Sum.{countTo-le}
 use Rattle.model.specs.Catalogue.{Limits, Net, Hypergraph}
 use Rattle.model.specs.Measure.{Contraction, pin, size, pinCount, connectivity, metric, freed, drawn, gain}

@@ -1,24 +1,21 @@
 -- Every call leaves a legal state legal: the stack is one that J makes, every vertex on the board has a block, the journal's moves are of such
 -- vertices (legal-call, legal-after). An accepted A ends with no contraction, on no higher metric, where no move with room lowers it (solves); its
 -- contractions end by their own rule (coarsen-ends). Rests on Splits, Ends and Walks. Assumes nothing.
-use Prim.Native.Nat.{ℕ, zero, suc, _+_, _-_, _*_, _≤_, _<_}
-use native.Mathlib.Decide.{ℕ-discrete}
+use Prim.Native.Nat.{ℕ, zero, suc, _+_, _*_, _≤_}
 use native.Mathlib.Omega.{arith}
-use mathlib.Core.Path.{_≡_, refl, sym, ap, ap₂, _∙_, subst}
-use mathlib.Core.Logic.{_⊎_, inl, inr, ⊎-elim}
-use mathlib.Core.Bool.{Bool, true, false, not, _||_, _&&_, true≢false, cond}
+use mathlib.Core.Path.{_≡_, refl, sym, ap, _∙_, subst}
+use mathlib.Core.Logic.{_⊎_, inl, inr}
+use mathlib.Core.Bool.{Bool, true, false, not, _&&_, cond}
 use mathlib.Core.List.{List, [], _∷_}
-use borrow.Author.Tests.{eq-eqb, ne-eqb, eqb-true, eqb-false, leb-true, ltb-true, ltb-false, le-ltb, not-true, not-false}
-use lib.Dec.{eqb, leb, ltb}
-use lib.IntN.{ℤ, pos}
-use lib.Signed.{_≤ℤ_}
+use borrow.Author.Tests.{eq-eqb, ne-eqb, eqb-true, eqb-false, ltb-true, le-ltb, not-false}
+use lib.Dec.{eqb, ltb}
+use lib.IntN.{pos}
 use Rattle.laws.specs.Choice.{one, and-left, and-right, cond-zero}
-use Rattle.laws.specs.Sum.{sumTo, countTo, sumTo-change, countTo-le}
-use Rattle.laws.specs.Place.{place, place-at, place-off, place-back}
-use Rattle.model.specs.Catalogue.{Net, Hypergraph, vertices, drafted, isVertex, isBlock, averageWeight}
-use Rattle.model.specs.Measure.{Contraction, above, onBoard, weight, blockWeight, adjacent, metric, gain, hasRoom}
+use Rattle.laws.specs.Sum.{sumTo-change, countTo-le}
+use Rattle.model.specs.Catalogue.{Hypergraph, vertices, drafted, isVertex, isBlock}
+use Rattle.model.specs.Measure.{Contraction, above, onBoard, blockWeight, metric}
 use Rattle.model.specs.Machine.{Call, callJ, callS, callM, callB, callW, callP, callA, Move, State, Step, fresh, settle, refusesJ, contract, doesJ, refusesM, doesM, uncontract, doesS, doesB}
-use Rattle.model.specs.Search.{Best, none, best, bestPair, Walk, Coarse, Fine, canGo, walk, walked, polish, rating, canJoin, joinBest, joinTurn, boardSize, coarsen, refine, refusesW, doesW, doesP, refusesA, doesA, call}
+use Rattle.model.specs.Search.{Best, none, best, Coarse, Fine, rating, canJoin, joinBest, joinTurn, boardSize, coarsen, refine, refusesW, doesW, doesP, refusesA, doesA, call}
 use Rattle.model.specs.Engine.{after}
 use Rattle.guarantees.specs.Climbs.{Joins, Sound, above-gone, above-other}
 use Rattle.guarantees.specs.Joins.{metric-join}
@@ -26,7 +23,7 @@ use Rattle.guarantees.specs.Weights.{blockWeight-join}
 pub use Rattle.guarantees.specs.Reading.{vertex-range, block-range}
 pub use Rattle.guarantees.specs.Splits.{Inside, AllInside, placed-join, into-on, placed-split, metric-split}
 use Rattle.guarantees.specs.Tops.{Top, best-top}
-use Rattle.guarantees.specs.Ends.{Placed, At, Pair, placed-move, Polished, polish-ends}
+use Rattle.guarantees.specs.Ends.{Placed, placed-move, Polished, polish-ends}
 use Rattle.guarantees.specs.Walks.{walked-metric}
 
 module _ (h : Hypergraph) where

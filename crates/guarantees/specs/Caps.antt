@@ -1,29 +1,29 @@
 -- Every call keeps a state in which no block is above the capacity, nor would be after any reversals of the journal's moves (held-call, held-after):
 -- moves are made where there is room, and each state that the journal leads back to was within the capacity. Rests on Calls. Assumes nothing.
-use Prim.Native.Nat.{ℕ, zero, suc, _+_, _-_, _*_, _≤_, _<_}
+use Prim.Native.Nat.{ℕ, zero, suc, _+_, _-_, _≤_}
 use native.Mathlib.Decide.{ℕ-discrete}
 use native.Mathlib.Omega.{arith}
-use mathlib.Core.Path.{_≡_, refl, sym, ap, ap₂, _∙_, subst}
-use mathlib.Core.Bool.{Bool, true, false, not, _||_, _&&_, cond}
+use mathlib.Core.Path.{_≡_, refl, sym, ap, _∙_, subst}
+use mathlib.Core.Bool.{Bool, true, false, not, _&&_, cond}
 use mathlib.Core.List.{List, [], _∷_}
-use borrow.Author.Tests.{eq-eqb, ne-eqb, eqb-true, leb-true, not-false, not-true}
-use lib.Dec.{eqb, leb, ltb}
+use borrow.Author.Tests.{eq-eqb, ne-eqb, eqb-true, leb-true, not-false}
+use lib.Dec.{eqb, leb}
 use lib.IntN.{pos}
 use lib.Signed.{ltZ}
 use Rattle.laws.specs.Place.{place, place-back}
 use Rattle.laws.specs.Choice.{and-left, and-right, cond-zero}
 use Rattle.model.specs.Catalogue.{Hypergraph, vertices, isVertex, isBlock, capacity}
-use Rattle.model.specs.Measure.{Contraction, above, onBoard, weight, blockWeight, gain, metric, hasRoom}
-use Rattle.model.specs.Search.{Best, none, best, Walk, Polish, canGo, isOpen, walkBest, walkMove, walkTurn, walkOn, walk, walked, polishBest, polishTurn, polishOn, polish, reversed, Coarse, Fine, canJoin, joinBest, joinTurn, boardSize, coarsen, refine, rating, refusesW, doesW, doesP, refusesA, doesA, call}
-use Rattle.model.specs.Machine.{Call, callJ, callS, callM, callB, callW, callP, callA, Move, State, Step, fresh, settle, refusesJ, contract, doesJ, refusesM, doesM, uncontract, doesS, doesB}
+use Rattle.model.specs.Measure.{Contraction, onBoard, weight, blockWeight, gain, metric, hasRoom}
+use Rattle.model.specs.Search.{Best, none, best, Walk, Polish, canGo, isOpen, walkBest, walkMove, walkTurn, walkOn, walk, walked, polishBest, polishTurn, polishOn, polish, Fine, refine, refusesW, doesW, doesP, refusesA, doesA, call}
+use Rattle.model.specs.Machine.{Call, callJ, callS, callM, callB, callW, callP, callA, Move, State, Step, settle, refusesJ, contract, doesJ, refusesM, doesM, uncontract, doesS, doesB}
 use Rattle.model.specs.Engine.{after as afterCalls}
 use Rattle.guarantees.specs.Tops.{Top, best-top}
-use Rattle.guarantees.specs.Ends.{Placed, Pair, can-on, can-away}
+use Rattle.guarantees.specs.Ends.{Placed, Pair, can-on}
 use Rattle.guarantees.specs.Walks.{moved, prefix, prefix-now, after, after-old, after-new, reversed-nil, walk-ends, walked-metric}
 use Rattle.guarantees.specs.Weights.{blockWeight-join, blockWeight-move}
 use Rattle.guarantees.specs.Climbs.{Sound}
 use Rattle.guarantees.specs.Splits.{Inside, AllInside, placed-split, blockWeight-split}
-use Rattle.guarantees.specs.Calls.{Legal, Coarsened, coarsened, legal-J, legal-S, legal-M, legal-B, legal-W, legal-P, legal-A, legal-call, vertex-range, block-range}
+use Rattle.guarantees.specs.Calls.{Legal, coarsened, legal-J, legal-S, legal-M, legal-B, legal-W, legal-P, legal-A, vertex-range, block-range}
 
 module _ (h : Hypergraph) (cs : List Contraction) where
   abbrev pub Capped : (ℕ → ℕ) → Type 0

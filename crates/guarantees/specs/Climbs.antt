@@ -1,11 +1,11 @@
 -- On a stack of contractions that J makes (Sound) every climb ends on the board (representative-on). A further contraction gives the vertices
 -- that its second vertex stood for to its first (representative-join): a net's pins change accordingly (pin-join). Rests on laws' choices.
 -- Assumes nothing.
-use Prim.Native.Nat.{ℕ, zero, suc, _+_, _≤_, _<_}
+use Prim.Native.Nat.{ℕ, zero, suc, _≤_}
 use native.Mathlib.Decide.{ℕ-discrete}
 use native.Mathlib.Omega.{arith}
-use mathlib.Core.Path.{_≡_, refl, sym, ap, ap₂, _∙_, subst}
-use mathlib.Core.Bool.{Bool, true, false, _||_, _&&_, or-false, cond}
+use mathlib.Core.Path.{_≡_, refl, sym, ap, ap₂, _∙_}
+use mathlib.Core.Bool.{Bool, true, false, _||_, or-false, cond}
 use mathlib.Core.List.{List, [], _∷_}
 use borrow.Author.Tests.{eq-eqb, ne-eqb}
 use lib.Dec.{eqb}
@@ -13,7 +13,7 @@ use lib.ListN.{length}
 use Rattle.laws.specs.Choice.{cond-yes, cond-no}
 use Rattle.laws.specs.Fold.{any, any-ext}
 use Rattle.model.specs.Catalogue.{Net}
-use Rattle.model.specs.Measure.{Contraction, above, onBoard, climb, representative, pin}
+use Rattle.model.specs.Measure.{Contraction, above, climb, representative, pin}
 
 -- a contraction that J may make on a stack: of two vertices, both on the board; 0 is no vertex
 pub record Joins (cs : List Contraction) (c : Contraction) : Type 0 where

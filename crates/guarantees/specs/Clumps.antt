@@ -1,23 +1,22 @@
 -- The metric with contractions is that of the uncontracted hypergraph with each vertex in its representative's block (metric-out), and the gain of a
 -- vertex is the effect on it of moving all vertices that it stands for (gain-out). Rests on Moves and Climbs. Assumes nothing.
-use Prim.Native.Nat.{ℕ, zero, suc, _+_, _-_, _*_, _≤_, _<_}
+use Prim.Native.Nat.{ℕ, _-_, _*_, _≤_}
 use native.Mathlib.Decide.{ℕ-discrete}
 use native.Mathlib.Omega.{arith}
-use mathlib.Core.Path.{_≡_, refl, sym, ap, ap₂, _∙_, subst}
-use mathlib.Core.Bool.{Bool, true, false, not, _||_, _&&_, and-false, cond}
+use mathlib.Core.Path.{_≡_, refl, sym, ap, ap₂, _∙_}
+use mathlib.Core.Bool.{Bool, true, false, _||_, _&&_, and-false}
 use mathlib.Core.List.{List, [], _∷_}
 use borrow.Author.Tests.{eq-eqb, ne-eqb, lt-ltb, le-ltb}
 use lib.Dec.{eqb, ltb}
-use lib.IntN.{ℤ, pos, _-ℤ_}
-use lib.ListN.{length}
+use lib.IntN.{pos, _-ℤ_}
 use Rattle.laws.specs.Choice.{one, cond-yes, cond-no}
 use Rattle.laws.specs.Sum.{sumTo, countTo, sumTo-ext, sumTo-term, sumTo-nil}
-use Rattle.laws.specs.Fold.{sumOver, any, any-ext, All, sumOver-all, all-map}
+use Rattle.laws.specs.Fold.{any, any-ext, All, sumOver-all, all-map}
 use Rattle.laws.specs.Place.{place}
 use Rattle.model.specs.Catalogue.{Net, Hypergraph, vertices}
 use Rattle.model.specs.Measure.{Contraction, climb, representative, pin, pinCount, connectivity, metric, gain}
 use Rattle.guarantees.specs.Moves.{metric-gain}
-use Rattle.guarantees.specs.Climbs.{Joins, Sound, representative-join}
+use Rattle.guarantees.specs.Climbs.{Sound, representative-join}
 use Rattle.guarantees.specs.Splits.{AllInside}
 
 -- every pin is a vertex

@@ -1,23 +1,23 @@
 -- P ends on a metric that is no higher, where no vertex that may go to another block with room has a gain above 0, and the metric is fuel enough
 -- for that (polish-ends). Rests on Moves for each move and on Tops for the pair that it takes. Assumes nothing.
-use Prim.Native.Nat.{ℕ, zero, suc, _+_, _-_, _*_, _≤_, _<_}
+use Prim.Native.Nat.{ℕ, zero, suc, _≤_, _<_}
 use native.Mathlib.Decide.{ℕ-discrete}
 use native.Mathlib.Omega.{arith}
-use mathlib.Core.Path.{_≡_, refl, sym, ap, ap₂, _∙_, subst}
-use mathlib.Core.Bool.{Bool, true, false, not, _||_, _&&_, true≢false, cond}
-use mathlib.Core.List.{List, [], _∷_}
+use mathlib.Core.Path.{_≡_, refl, sym, ap, _∙_, subst}
+use mathlib.Core.Bool.{Bool, true, false, not, true≢false, cond}
+use mathlib.Core.List.{List}
 use borrow.Author.Tests.{eqb-true, eqb-false, not-true}
-use lib.Dec.{T, eqb}
-use lib.IntN.{ℤ, pos, _-ℤ_}
-use lib.Signed.{ltZ, _≤ℤ_, _<ℤ_, ltZ-yes, ltZ-no}
+use lib.Dec.{T}
+use lib.IntN.{pos, _-ℤ_}
+use lib.Signed.{ltZ, _≤ℤ_, ltZ-yes, ltZ-no}
 use Rattle.laws.specs.Choice.{and-left, and-right}
-use Rattle.laws.specs.Integer.{up, dn, eq-by, le-by, pos-is, sub-is, le-parts, lt-parts, ≤ℤ-trans}
+use Rattle.laws.specs.Integer.{up, dn, le-by, pos-is, sub-is, lt-parts, ≤ℤ-trans}
 use Rattle.laws.specs.Place.{place, place-at, place-off}
-use Rattle.model.specs.Catalogue.{Net, Hypergraph, vertices}
-use Rattle.model.specs.Measure.{Contraction, above, onBoard, metric, freed, drawn, gain, hasRoom}
-use Rattle.model.specs.Search.{Best, none, best, bestPair, Polish, canGo, polishBest, polishTurn, polishOn, polish}
-use Rattle.guarantees.specs.Moves.{metric-move, metric-gain, gain-away}
-use Rattle.guarantees.specs.Tops.{Top, Highest, best-top}
+use Rattle.model.specs.Catalogue.{Hypergraph, vertices}
+use Rattle.model.specs.Measure.{Contraction, above, onBoard, metric, gain}
+use Rattle.model.specs.Search.{Best, none, best, Polish, canGo, polishBest, polishTurn, polishOn, polish}
+use Rattle.guarantees.specs.Moves.{metric-gain}
+use Rattle.guarantees.specs.Tops.{Top, best-top}
 
 module _ (h : Hypergraph) (cs : List Contraction) where
   -- every vertex on the board has a block, and every other vertex has 0

@@ -1,10 +1,10 @@
 -- No definition stops for want of fuel. Where a walk, a polish, A's contractions or a climb has ended, no number of further turns
 -- changes anything (walk-rests, polish-rests, coarsen-rests, climb-rests); and a number's digits are the same with any fuel that is
 -- not less than the number (digits-fuel). Rests on Walks, Ends, Calls and Climbs, where each ends by its own rule. Assumes nothing.
-use Prim.Native.Nat.{ℕ, zero, suc, _+_, _*_, _/_, _%_, _≤_, _<_}
+use Prim.Native.Nat.{ℕ, zero, suc, _+_, _*_, _/_, _%_, _≤_}
 use native.Mathlib.Omega.{arith}
 use mathlib.Core.Path.{_≡_, refl, sym, ap, _∙_, subst}
-use mathlib.Core.Logic.{_⊎_, inl, inr}
+use mathlib.Core.Logic.{inl, inr}
 use mathlib.Core.Bool.{Bool, true, false, cond}
 use mathlib.Core.List.{List, [], _∷_, _++_}
 use borrow.Author.Tests.{lt-ltb}
@@ -20,7 +20,7 @@ use Rattle.model.specs.Search.{Best, none, best, Walk, Polish, Coarse, canGo, w
 use Rattle.model.specs.Report.{digitsOf, digits}
 use Rattle.guarantees.specs.Climbs.{Sound, climb-on, representative-on}
 use Rattle.guarantees.specs.Tops.{Top, best-top}
-use Rattle.guarantees.specs.Ends.{Placed, Pair, Polished, polish-ends}
+use Rattle.guarantees.specs.Ends.{Placed, Pair, polish-ends}
 use Rattle.guarantees.specs.Walks.{Over, walk-ends}
 use Rattle.guarantees.specs.Calls.{Coarsest, A-joins-end}
 

@@ -1,19 +1,19 @@
 -- A contraction of two vertices of one block leaves each net's connectivity set (visited-join), its connectivity (connectivity-join) and the
 -- metric (metric-join) as they were. Rests on Climbs. Assumes nothing.
-use Prim.Native.Nat.{ℕ, zero, suc, _+_, _-_, _*_, _≤_, _<_}
+use Prim.Native.Nat.{ℕ, zero, suc, _+_, _-_, _*_, _≤_}
 use native.Mathlib.Omega.{arith}
-use mathlib.Core.Path.{_≡_, refl, sym, ap, ap₂, _∙_, subst}
-use mathlib.Core.Bool.{Bool, true, false, _||_, _&&_, and-false, cond}
-use mathlib.Core.List.{List, [], _∷_}
-use borrow.Author.Tests.{eq-eqb, ne-eqb, lt-ltb, le-ltb}
+use mathlib.Core.Path.{_≡_, sym, ap, ap₂, _∙_}
+use mathlib.Core.Bool.{Bool, true, false, _||_, _&&_, and-false}
+use mathlib.Core.List.{List, _∷_}
+use borrow.Author.Tests.{lt-ltb, le-ltb}
 use lib.Dec.{eqb, ltb}
 use Rattle.laws.specs.Choice.{one}
-use Rattle.laws.specs.Sum.{sumTo, sumTo-ext, sumTo-change2, sumTo-term}
-use Rattle.laws.specs.Fold.{sumOver, sumOver-ext}
-use Rattle.laws.specs.Place.{place, place-at, place-off}
+use Rattle.laws.specs.Sum.{sumTo-ext, sumTo-change2, sumTo-term}
+use Rattle.laws.specs.Fold.{sumOver-ext}
+use Rattle.laws.specs.Place.{place, place-off}
 use Rattle.model.specs.Catalogue.{Net, Hypergraph, vertices}
 use Rattle.model.specs.Measure.{Contraction, pin, pinCount, connectivity, metric}
-use Rattle.guarantees.specs.Climbs.{Sound, Joins, pin-gone, pin-into, pin-other}
+use Rattle.guarantees.specs.Climbs.{Sound, pin-gone, pin-into, pin-other}
 
 seen-same : (x y : ℕ) → x ≤ y → y ≤ x + x → ltb 0 x ≡ ltb 0 y
 seen-same zero y l u = sym (le-ltb 0 y (omega arith))

@@ -1,10 +1,10 @@
 -- An accepted file's catalogue is loaded (parsed): blocks, draft, weights and pins in range, the marks of each net distinct and at
 -- least one. Its book is of the announced size (parsed-size), with at most 8,192 marks and 512 calls; and a fresh machine over it is in a
 -- state that all laws of calls want (held-start). Rests on Reading. Assumes nothing.
-use Prim.Native.Nat.{ℕ, zero, suc, _+_, _-_, _*_, _≤_, _<_}
+use Prim.Native.Nat.{ℕ, zero, suc, _+_, _-_, _≤_, _<_}
 use native.Mathlib.Decide.{ℕ-discrete}
 use native.Mathlib.Omega.{arith}
-use mathlib.Core.Path.{_≡_, refl, sym, ap, ap₂, _∙_, subst}
+use mathlib.Core.Path.{_≡_, refl, sym, ap, ap₂, _∙_}
 use mathlib.Core.Bool.{Bool, true, false, _||_, _&&_, true≢false}
 use mathlib.Core.List.{List, [], _∷_, _++_}
 use borrow.Author.Tests.{eqb-true, eq-eqb, ltb-false, leb-false}
@@ -14,11 +14,11 @@ use Rattle.laws.specs.Fold.{sumOver, sumOver-more, All, all-map, all-more, all-
 use Rattle.laws.specs.Occurrence.{Distinct}
 use Rattle.laws.specs.Sum.{foldTo}
 use Rattle.laws.specs.Choice.{and-left, and-right}
-use Rattle.model.specs.Catalogue.{Limits, Net, Hypergraph, vertices, drafted, capacity}
+use Rattle.model.specs.Catalogue.{Limits, Hypergraph, vertices, drafted, capacity}
 use Rattle.model.specs.Measure.{blockWeight}
-use Rattle.model.specs.Machine.{Call, State, fresh}
-use Rattle.model.specs.Grammar.{Book, Reading, reading, whole, full, overfull, withLot, withNet, parse}
-use Rattle.guarantees.specs.Reading.{Marks, Even, Kept, blank, lotted, netted, called, accepted-keeps}
+use Rattle.model.specs.Machine.{Call, fresh}
+use Rattle.model.specs.Grammar.{Book, reading, whole, full, overfull, withLot, withNet, parse}
+use Rattle.guarantees.specs.Reading.{Marks, Even, blank, lotted, netted, called, accepted-keeps}
 use Rattle.guarantees.specs.Caps.{Capped, Held}
 use Rattle.guarantees.specs.Calls.{Legal, legal-fresh}
 use Rattle.guarantees.specs.Clumps.{Within}

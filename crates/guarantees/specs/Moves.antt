@@ -1,19 +1,18 @@
 -- A move changes the connectivity metric by minus its gain: the metric after it is the one before it less the gain (metric-gain),
 -- and the move back has the negated gain (gain-back). Net by net: pin counts (count-move) and connectivity (connectivity-move).
 -- Rests on laws' sums and integers. Assumes nothing.
-use Prim.Native.Nat.{ℕ, zero, suc, _+_, _-_, _*_, _≤_, _<_}
-use native.Mathlib.Decide.{ℕ-discrete}
+use Prim.Native.Nat.{ℕ, zero, suc, _+_, _-_, _*_, _≤_}
 use native.Mathlib.Omega.{arith}
-use mathlib.Core.Path.{_≡_, refl, sym, ap, ap₂, _∙_, subst}
-use mathlib.Core.Bool.{Bool, true, false, _||_, _&&_, cond}
-use mathlib.Core.List.{List, [], _∷_}
-use borrow.Author.Tests.{eq-eqb, ne-eqb, lt-ltb, le-ltb}
+use mathlib.Core.Path.{_≡_, refl, sym, ap, _∙_, subst}
+use mathlib.Core.Bool.{Bool, true, false, _&&_, cond}
+use mathlib.Core.List.{List}
+use borrow.Author.Tests.{eq-eqb, ne-eqb, lt-ltb}
 use lib.Dec.{eqb, ltb}
-use lib.IntN.{ℤ, pos, negℤ, _-ℤ_}
+use lib.IntN.{pos, negℤ, _-ℤ_}
 use Rattle.laws.specs.Integer.{up, dn, eq-by, pos-is, sub-is, neg-is}
 use Rattle.laws.specs.Choice.{one}
-use Rattle.laws.specs.Sum.{sumTo, sumTo-ext, sumTo-change, sumTo-change2, sumTo-term}
-use Rattle.laws.specs.Fold.{sumOver, sumOver-both}
+use Rattle.laws.specs.Sum.{sumTo-ext, sumTo-change, sumTo-change2, sumTo-term}
+use Rattle.laws.specs.Fold.{sumOver-both}
 use Rattle.laws.specs.Place.{place, place-at, place-off, place-back}
 use Rattle.model.specs.Catalogue.{Net, Hypergraph, vertices}
 use Rattle.model.specs.Measure.{Contraction, pin, pinCount, connectivity, metric, freed, drawn, gain}

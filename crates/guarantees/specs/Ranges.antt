@@ -3,19 +3,19 @@
 -- most 512 calls, from at most 60,000 bytes. Rests on Loads and Reached. Assumes nothing.
 use Prim.Native.Nat.{ℕ, _≤_}
 use native.Mathlib.Omega.{arith}
-use mathlib.Core.Path.{_≡_, refl, sym, ap, _∙_, subst}
+use mathlib.Core.Path.{_≡_, refl, ap, subst}
 use mathlib.Core.Bool.{Bool, true, false, cond, true≢false}
 use mathlib.Core.List.{List, []}
 use borrow.Author.Tests.{ltb-false}
 use lib.Dec.{ltb}
 use lib.ListN.{length}
-use Rattle.laws.specs.Fold.{sumOver, All, sumOver-le}
-use Rattle.model.specs.Catalogue.{Limits, Net, Hypergraph, vertices, totalWeight}
+use Rattle.laws.specs.Fold.{sumOver}
+use Rattle.model.specs.Catalogue.{Limits, Hypergraph, vertices}
 use Rattle.model.specs.Machine.{fresh}
 use Rattle.model.specs.Grammar.{Book, Reading, unread, reading, stopped, lines, parts, parse}
 use Rattle.model.specs.Engine.{after}
 use Rattle.model.specs.Demand.{Accepted, WithinCapacity}
-use Rattle.guarantees.specs.Loads.{Loaded, Sized, parsed, parsed-size, parsed-whole}
+use Rattle.guarantees.specs.Loads.{Loaded, parsed, parsed-size, parsed-whole}
 use Rattle.guarantees.specs.Reached.{within-capacity}
 
 -- the catalogue; `loaded` has the ranges of single fields and each net's marks

@@ -1,9 +1,9 @@
 -- What holds of the book after the first line, and is kept by each line of a vertex, of a net and of a call, holds of every accepted
 -- file's book, and the catalogue is whole (accepted-keeps). Rests on model's Grammar alone. Assumes nothing.
-use Prim.Native.Nat.{ℕ, zero, suc, _+_, _-_, _≤_, _<_}
+use Prim.Native.Nat.{ℕ, suc, _+_, _≤_, _<_}
 use native.Mathlib.Omega.{arith}
 use mathlib.Core.Path.{_≡_, refl, sym, ap, _∙_, subst}
-use mathlib.Core.Bool.{Bool, true, false, not, _||_, _&&_, cond}
+use mathlib.Core.Bool.{Bool, true, false, not, _&&_, cond}
 use mathlib.Core.List.{List, [], _∷_, _++_}
 use borrow.Author.Tests.{leb-true, leb-false, ltb-true, ltb-false, not-false}
 use lib.Dec.{eqb, leb, ltb}
@@ -50,16 +50,16 @@ module _ (h : Hypergraph) (before : ℕ) where
       (λ real. marked-or (suc n) (any vs (λ x. eqb x v)) (wrong 4) _ tt
       (λ new. marked-or (suc n) (leb 8192 m) (wrong 5) _ tt
       (λ room.
-          let longer : length (vs ++ (v ∷ [])) ≡ length vs + 1 = length-append vs (v ∷ []) in
-          let below : m < 8192 = leb-false 8192 m room in (
-            record {
-              in-range = all-more vs _ v (a .0 .in-range) (vertex-range h v (not-false _ real));
-              distinct = distinct-more vs v (a .0 .distinct) new;
-              counted = omega (arith, a .0 .counted);
-              few = λ _. omega arith;
-            },
-            omega (arith, a .1),
-          ))))
+      let longer : length (vs ++ (v ∷ [])) ≡ length vs + 1 = length-append vs (v ∷ []) in
+      let below : m < 8192 = leb-false 8192 m room in (
+        record {
+          in-range = all-more vs _ v (a .0 .in-range) (vertex-range h v (not-false _ real));
+          distinct = distinct-more vs v (a .0 .distinct) new;
+          counted = omega (arith, a .0 .counted);
+          few = λ _. omega arith;
+        },
+        omega (arith, a .1),
+      ))))
 
   marked-all : (n : ℕ) (m : Marking) (fs : Fields) → Marked n m → Marked (n + length fs) (marking h m fs)
   unfolding marking

@@ -1,11 +1,11 @@
 -- The report fits: an answer's line has at most 41 bytes (answer-le), the closing report at most 24,600 (closing-le), and so for every accepted
 -- catalogue and every list of up to 512 calls the report has at most 45,592, within the 60,000 lent (report-fits). Rests on AnswerBounds and
 -- Numbers. Assumes nothing.
-use Prim.Native.Nat.{ℕ, zero, suc, _+_, _-_, _*_, _≤_, _<_}
+use Prim.Native.Nat.{ℕ, zero, suc, _+_, _*_, _≤_}
 use Prim.Native.String.{String}
 use native.Mathlib.Nat.{mul-suc}
 use native.Mathlib.Omega.{arith}
-use mathlib.Core.Path.{_≡_, refl, sym, ap, _∙_}
+use mathlib.Core.Path.{_≡_, refl}
 use mathlib.Core.List.{List, [], _∷_, _++_}
 use lib.IntN.{ℤ, pos, negsuc, natAbs}
 use lib.ListN.{length, length-append}
@@ -13,7 +13,7 @@ use Rattle.laws.specs.Fold.{sumOver}
 use Rattle.laws.specs.Sum.{foldTo}
 use Rattle.model.specs.Catalogue.{Limits, Net, Hypergraph, vertices}
 use Rattle.model.specs.Measure.{representative, connectivity, metric}
-use Rattle.model.specs.Machine.{Call, Answer, saysJ, saysS, saysM, saysB, saysW, saysP, saysA, saysNO, State, Step, fresh}
+use Rattle.model.specs.Machine.{Call, Answer, saysJ, saysS, saysM, saysB, saysW, saysP, saysA, saysNO, State, fresh}
 use Rattle.model.specs.Search.{call}
 use Rattle.model.specs.Grammar.{bytes}
 use Rattle.model.specs.Report.{digits, signed, tail, row, answerRow, lotRows, buyRows, closing}

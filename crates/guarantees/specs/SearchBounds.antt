@@ -1,10 +1,10 @@
 -- How long searches get: a walk tries at most one move a vertex, and keeps no more than it tries (walk-counts); A's walks together try at most
 -- that many for each contraction (refine-counts); P makes at most as many moves as its metric at the start (polish-count). Rests on
 -- Walks. Assumes nothing.
-use Prim.Native.Nat.{ℕ, zero, suc, _+_, _-_, _*_, _≤_, _<_}
+use Prim.Native.Nat.{ℕ, zero, suc, _+_, _*_, _≤_}
 use native.Mathlib.Nat.{suc-mul}
 use native.Mathlib.Omega.{arith}
-use mathlib.Core.Path.{_≡_, refl, sym, ap, _∙_}
+use mathlib.Core.Path.{_≡_, refl, sym}
 use mathlib.Core.Bool.{Bool, true, false, cond}
 use mathlib.Core.List.{List, [], _∷_}
 use lib.Dec.{leb, ltb}

@@ -1,16 +1,15 @@
 -- How large the machine's state gets: the stack is at most one less than the vertices (stack-le), the journal no longer than the list of
 -- calls (journal-le), and its moves are of vertices that there are (journal-in). Rests on Calls. Assumes nothing.
-use Prim.Native.Nat.{ℕ, zero, suc, _+_, _-_, _*_, _≤_, _<_}
+use Prim.Native.Nat.{ℕ, zero, suc, _+_, _-_, _≤_}
 use native.Mathlib.Omega.{arith}
-use mathlib.Core.Path.{_≡_, refl, sym, ap, _∙_, subst}
-use mathlib.Core.Bool.{Bool, true, false, not, _&&_, cond}
+use mathlib.Core.Path.{_≡_, refl, ap, subst}
+use mathlib.Core.Bool.{not, _&&_}
 use mathlib.Core.List.{List, [], _∷_}
 use borrow.Author.Tests.{eq-eqb, not-false}
-use lib.Dec.{eqb}
 use lib.ListN.{length}
 use Rattle.laws.specs.Choice.{one, and-left, cond-zero}
 use Rattle.laws.specs.Fold.{All}
-use Rattle.laws.specs.Sum.{countTo, sumTo-term, sumTo-const}
+use Rattle.laws.specs.Sum.{sumTo-term, sumTo-const}
 use Rattle.model.specs.Catalogue.{Hypergraph, vertices, isVertex, isBlock}
 use Rattle.model.specs.Measure.{Contraction, above, onBoard}
 use Rattle.model.specs.Machine.{Call, callJ, callS, callM, callB, callW, callP, callA, Move, State, Step, fresh, settle, refusesJ, contract, doesJ, refusesM, doesM, doesS, doesB}

@@ -1,23 +1,23 @@
 -- A walk ends by its own rule: so many moves were made since the kept prefix, or no pair is open (walk-ends). What it keeps is the first prefix of
 -- lowest metric, the empty one included (first-lowest), so W ends on no higher metric (walked-metric). Rests on Tops and Ends. Assumes nothing.
-use Prim.Native.Nat.{ℕ, zero, suc, _+_, _-_, _*_, _≤_, _<_}
+use Prim.Native.Nat.{ℕ, zero, suc, _+_, _-_, _≤_, _<_}
 use native.Mathlib.Decide.{ℕ-discrete}
 use native.Mathlib.Omega.{arith}
-use mathlib.Core.Path.{_≡_, refl, sym, ap, ap₂, _∙_, subst}
-use mathlib.Core.Logic.{_⊎_, inl, inr, ⊎-elim}
+use mathlib.Core.Path.{_≡_, refl, sym, ap, _∙_, subst}
+use mathlib.Core.Logic.{_⊎_, inl, inr}
 use mathlib.Core.Bool.{Bool, true, false, not, _||_, _&&_, true≢false, cond}
 use mathlib.Core.List.{List, [], _∷_}
 use borrow.Author.Tests.{eq-eqb, ne-eqb, not-true, ltb-true, ltb-false}
-use lib.Dec.{T, eqb, leb, ltb}
-use Rattle.laws.specs.Choice.{one, and-left, and-right, one-le, one-full}
-use Rattle.laws.specs.Sum.{sumTo, countTo, sumTo-change, countTo-le, countTo-full}
+use lib.Dec.{eqb, leb, ltb}
+use Rattle.laws.specs.Choice.{one, and-left, and-right}
+use Rattle.laws.specs.Sum.{countTo, sumTo-change, countTo-full}
 use Rattle.laws.specs.Fold.{any}
-use Rattle.laws.specs.Place.{place, place-at, place-off, place-back, place-swap}
-use Rattle.model.specs.Catalogue.{Net, Hypergraph, vertices}
+use Rattle.laws.specs.Place.{place, place-back}
+use Rattle.model.specs.Catalogue.{Hypergraph, vertices}
 use Rattle.model.specs.Measure.{Contraction, above, metric, gain}
 use Rattle.model.specs.Machine.{Move}
-use Rattle.model.specs.Search.{Best, none, best, bestPair, Walk, canGo, isOpen, walkBest, walkMove, walkTurn, walkOn, walk, walked, reversed}
-use Rattle.guarantees.specs.Tops.{Top, Highest, best-top}
+use Rattle.model.specs.Search.{Best, none, best, Walk, isOpen, walkBest, walkMove, walkTurn, walkOn, walk, walked, reversed}
+use Rattle.guarantees.specs.Tops.{Top, best-top}
 use Rattle.guarantees.specs.Ends.{Placed, Pair, placed-move, can-on}
 
 reversed-none : (ms : List Move) (p : ℕ → ℕ) → reversed 0 ms p ≡ p

@@ -1,16 +1,16 @@
 -- How heavy things get: all weight together is at most 67,107,840 (total-le), a vertex and a block have no more than that, contracted or not
 -- (weight-le, blockWeight-le), ⌈W/k⌉ is at most 33,553,920 (average-le), the capacity at most 67,107,840 (capacity-le) and the product before
 -- its division at most 67,107,840,000 (product-le). Rests on Ranges and laws' sums. Assumes nothing.
-use Prim.Native.Nat.{ℕ, zero, suc, _+_, _-_, _*_, _/_, _≤_, _<_}
+use Prim.Native.Nat.{ℕ, zero, suc, _+_, _-_, _*_, _/_, _≤_}
 use native.Mathlib.Nat.{mul-le-mul, mul-le-mul-left, div-mul-le-self, suc-mul}
 use native.Mathlib.Omega.{arith}
-use mathlib.Core.Path.{_≡_, refl, sym, ap, _∙_}
-use mathlib.Core.Bool.{Bool, true, false, _&&_, cond}
+use mathlib.Core.Path.{_≡_, sym, ap, _∙_}
+use mathlib.Core.Bool.{_&&_, cond}
 use mathlib.Core.List.{List}
 use lib.Dec.{eqb}
-use lib.ListN.{length, getD}
+use lib.ListN.{getD}
 use Rattle.laws.specs.Choice.{cond-le}
-use Rattle.laws.specs.Fold.{sumOver, sumOver-le}
+use Rattle.laws.specs.Fold.{sumOver-le}
 use Rattle.laws.specs.Sum.{sumTo, sum-list, sum-sumTo, sumTo-mono, sumTo-swap, sumTo-once}
 use Rattle.model.specs.Catalogue.{Limits, Hypergraph, vertices, loaded, totalWeight, averageWeight, capacity}
 use Rattle.model.specs.Measure.{Contraction, onBoard, representative, weight, blockWeight}

@@ -1,19 +1,18 @@
 -- A contraction adds the weight of the vertex that goes to the one that stays (weight-into) and leaves every block's weight (blockWeight-join);
 -- a move takes the vertex's weight from one block to another (blockWeight-move). Rests on Climbs. Assumes nothing.
-use Prim.Native.Nat.{ℕ, zero, suc, _+_, _-_, _*_, _≤_, _<_}
-use native.Mathlib.Decide.{ℕ-discrete}
+use Prim.Native.Nat.{ℕ, _+_, _≤_}
 use native.Mathlib.Omega.{arith}
-use mathlib.Core.Path.{_≡_, refl, sym, ap, ap₂, _∙_, subst}
-use mathlib.Core.Bool.{Bool, true, false, not, _||_, _&&_, true≢false, cond}
-use mathlib.Core.List.{List, [], _∷_}
+use mathlib.Core.Path.{_≡_, refl, sym, ap, ap₂, _∙_}
+use mathlib.Core.Bool.{Bool, true, false, _&&_, true≢false, cond}
+use mathlib.Core.List.{List, _∷_}
 use borrow.Author.Tests.{eq-eqb, ne-eqb, eqb-true}
-use lib.Dec.{eqb, ltb}
-use Rattle.laws.specs.Sum.{sumTo, sumTo-ext, sumTo-change, sumTo-change2, sumTo-add}
+use lib.Dec.{eqb}
+use Rattle.laws.specs.Sum.{sumTo-ext, sumTo-change, sumTo-change2, sumTo-add}
 use Rattle.laws.specs.Place.{place, place-at, place-off}
-use Rattle.laws.specs.Choice.{cond-yes, cond-no, cond-or}
-use Rattle.model.specs.Catalogue.{Net, Hypergraph, vertices, loaded}
+use Rattle.laws.specs.Choice.{cond-or}
+use Rattle.model.specs.Catalogue.{Hypergraph, vertices, loaded}
 use Rattle.model.specs.Measure.{Contraction, above, onBoard, representative, weight, blockWeight}
-use Rattle.guarantees.specs.Climbs.{Joins, Sound, above-gone, above-other, stands-into, stands-other}
+use Rattle.guarantees.specs.Climbs.{Sound, above-gone, above-other, stands-into, stands-other}
 
 module _ (h : Hypergraph) (cs : List Contraction) (c : Contraction) (s : Sound (c ∷ cs)) where
   -- the weight of the vertex that represents both
