@@ -87,9 +87,6 @@ module _ (h : Hypergraph) (cs : List Contraction) where
   }
   turn-end n q ok l ih (best v t g) top = go (ltZ (pos 0) g) refl
     where
-      p′ : ℕ → ℕ
-      p′ = place (q .block) v t
-
       next : Polish
       next = record { block = place (q .block) v t; made = suc (q .made) }
 

@@ -16,7 +16,7 @@ use Rattle.laws.specs.Place.{place}
 use Rattle.model.specs.Catalogue.{Hypergraph, vertices}
 use Rattle.model.specs.Measure.{Contraction, climb, representative, gain}
 use Rattle.model.specs.Machine.{State}
-use Rattle.model.specs.Search.{Best, none, best, Walk, Polish, Coarse, canGo, walkBest, walkTurn, walkOn, walk, polishBest, polishTurn, polishOn, polish, joinBest, joinTurn, boardSize, coarsen}
+use Rattle.model.specs.Search.{Best, none, best, Walk, Polish, Coarse, canGo, walkBest, walkTurn, walkOn, walk, polishBest, polishTurn, polishOn, polish, joinBest, joinTurn, boardSize, coarsen, patience}
 use Rattle.model.specs.Report.{digitsOf, digits}
 use Rattle.guarantees.specs.Climbs.{Sound, climb-on, representative-on}
 use Rattle.guarantees.specs.Tops.{Top, best-top}
@@ -34,8 +34,8 @@ module _ (h : Hypergraph) (cs : List Contraction) where
   over-rests w o zero = refl
   over-rests w (inl e) (suc n) = ap (λ (b : Bool). cond b w (walkTurn h cs w (walkOn h cs n) (walkBest h cs w))) e
   over-rests w (inr e) (suc n) =
-      ap (λ (b : Best). cond (leb (w .kept + 25) (w .tried)) w (walkTurn h cs w (walkOn h cs n) b)) e
-      ∙ cond-same (leb (w .kept + 25) (w .tried)) w
+      ap (λ (b : Best). cond (leb (w .kept + patience) (w .tried)) w (walkTurn h cs w (walkOn h cs n) b)) e
+      ∙ cond-same (leb (w .kept + patience) (w .tried)) w
 
   pub walk-rests : (p : ℕ → ℕ) (u v : ℕ) → Placed h cs p → (n : ℕ) → walkOn h cs n (walk h cs p u v) ≡ walk h cs p u v
   walk-rests p u v ok = over-rests (walk h cs p u v) (walk-ends h cs p u v ok .over)

@@ -2,8 +2,8 @@
 -- 1. A move changes the metric by minus its gain, and the move back has the negated gain: Moves (metric-gain, gain-back).
 --    Moves of different vertices commute in blocks, pin counts, weights, gains and metric: Commutes (moves-commute, calls-commute).
 -- 2. Contraction and uncontraction of two vertices of one block leave the metric and every block's weight: Joins (metric-join),
---    Weights (blockWeight-join), Splits (metric-split, blockWeight-split). With no contraction pins and weights are the loaded ones:
---    Splits (pin-none, weight-none). A clump's gain is the effect on the uncontracted hypergraph: ClumpGain (clump-gain).
+--    Weights (blockWeight-join), Splits (metric-split, blockWeight-split), so J and S do: Contractions (J-leaves, S-leaves). With no
+--    contraction pins and weights are the loaded ones: Splits (pin-none, weight-none). A clump's gain is the effect on the uncontracted hypergraph: ClumpGain (clump-gain).
 -- 3. From an accepted catalogue, after every list of calls, no block is above the capacity: Reached (within-capacity).
 -- 4. No W, P or A ends on a higher metric: NeverHigher (never-higher). A walk keeps the first prefix of lowest metric: Walks (first-lowest).
 --    No definition stops for want of fuel: Fuel (walk-rests, polish-rests, coarsen-rests, climb-rests, digits-fuel).
@@ -24,6 +24,7 @@ pub mod Ends
 pub mod Walks
 pub mod Reading
 pub mod Calls
+pub mod Contractions
 pub mod Clumps
 pub mod Caps
 pub mod Loads

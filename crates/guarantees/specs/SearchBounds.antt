@@ -17,7 +17,7 @@ use Rattle.laws.specs.Sum.{countTo, countTo-le, sumTo-nil}
 use Rattle.model.specs.Catalogue.{Hypergraph, vertices}
 use Rattle.model.specs.Measure.{Contraction, metric, gain}
 use Rattle.model.specs.Machine.{uncontract}
-use Rattle.model.specs.Search.{Best, none, best, Walk, Polish, Fine, isOpen, walkBest, walkMove, walkTurn, walkOn, walk, walked, polishBest, polishTurn, polishOn, polish, refine}
+use Rattle.model.specs.Search.{Best, none, best, Walk, Polish, Fine, isOpen, walkBest, walkMove, walkTurn, walkOn, walk, walked, polishBest, polishTurn, polishOn, polish, refine, patience}
 use Rattle.guarantees.specs.Tops.{Top, best-top}
 use Rattle.guarantees.specs.Ends.{Pair}
 use Rattle.guarantees.specs.Walks.{moved, still, moved-more}
@@ -50,7 +50,7 @@ module _ (h : Hypergraph) (cs : List Contraction) where
   counts-on : (n : ℕ) (w : Walk) → Counts w → Counts (walkOn h cs n w)
   unfolding walkOn walkBest
   counts-on zero w k = k
-  counts-on (suc n) w k = go (counts-on n) (leb (w .kept + 25) (w .tried))
+  counts-on (suc n) w k = go (counts-on n) (leb (w .kept + patience) (w .tried))
     where
       go : ((x : Walk) → Counts x → Counts (walkOn h cs n x)) → (b : Bool) → Counts (cond b w (walkTurn h cs w (walkOn h cs n) (walkBest h cs w)))
       go ih true = k

@@ -50,9 +50,6 @@ module _ (h : Hypergraph) where
   unfolding uncontract
   placed-split cs c p j r ok x xl xu = go (ℕ-discrete x (c .gone))
     where
-      to : ℕ
-      to = p (c .into)
-
       go : Dec (x ≡ c .gone) → At h cs (place p (c .gone) (p (c .into))) x
       go (yes q) = record {
         board = λ o. omega (arith, ap (place p (c .gone) (p (c .into))) q, place-at p (c .gone) (p (c .into)), ok (c .into) (r .0) (r .1) .board (into-on cs c j));

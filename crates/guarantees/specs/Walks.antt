@@ -16,7 +16,7 @@ use Rattle.laws.specs.Place.{place, place-back}
 use Rattle.model.specs.Catalogue.{Hypergraph, vertices}
 use Rattle.model.specs.Measure.{Contraction, above, metric, gain}
 use Rattle.model.specs.Machine.{Move}
-use Rattle.model.specs.Search.{Best, none, best, Walk, isOpen, walkBest, walkMove, walkTurn, walkOn, walk, walked, reversed}
+use Rattle.model.specs.Search.{Best, none, best, Walk, isOpen, walkBest, walkMove, walkTurn, walkOn, walk, walked, reversed, patience}
 use Rattle.guarantees.specs.Tops.{Top, best-top}
 use Rattle.guarantees.specs.Ends.{Placed, Pair, placed-move, can-on}
 
@@ -127,7 +127,7 @@ module _ (h : Hypergraph) (cs : List Contraction) where
   moved w x = any (w .journal) (λ m. eqb (m .vertex) x)
 
   abbrev pub Over : Walk → Type 0
-  Over w = (leb (w .kept + 25) (w .tried) ≡ true) ⊎ (walkBest h cs w ≡ none)
+  Over w = (leb (w .kept + patience) (w .tried) ≡ true) ⊎ (walkBest h cs w ≡ none)
 
   pub still : (w : Walk) (v t : ℕ) → isOpen h cs w v t ≡ true → moved w v ≡ false
   unfolding isOpen
@@ -173,10 +173,10 @@ module _ (h : Hypergraph) (cs : List Contraction) where
   walk-end : (n : ℕ) (p : ℕ → ℕ) (w : Walk) → Going p w → vertices h ≤ countTo (vertices h) (moved w) + n → Ended p (walkOn h cs n w)
   unfolding walkOn walkBest
   walk-end zero p w g l = record { going = g; over = inr (none-left w (omega arith)) }
-  walk-end (suc n) p w g l = go (walk-end n p) (leb (w .kept + 25) (w .tried)) refl
+  walk-end (suc n) p w g l = go (walk-end n p) (leb (w .kept + patience) (w .tried)) refl
     where
       go : ((w′ : Walk) → Going p w′ → vertices h ≤ countTo (vertices h) (moved w′) + n → Ended p (walkOn h cs n w′))
-          → (b : Bool) → leb (w .kept + 25) (w .tried) ≡ b → Ended p (cond b w (walkTurn h cs w (walkOn h cs n) (walkBest h cs w)))
+          → (b : Bool) → leb (w .kept + patience) (w .tried) ≡ b → Ended p (cond b w (walkTurn h cs w (walkOn h cs n) (walkBest h cs w)))
       go ih true e = record { going = g; over = inl e }
       go ih false e = turn-end n p w g l ih (walkBest h cs w) refl (best-top (isOpen h cs w) (gain h cs (w .block)) (h .blocks) (vertices h))
 
