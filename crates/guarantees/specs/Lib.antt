@@ -10,7 +10,7 @@
 -- 5. When an accepted A ends, no single move with room lowers the metric: Optimum (A-best; P-best for P).
 -- 6. An accepted file is within every range of document 01: Ranges (accepted-ranges, accepted-book).
 -- 7. Bounds for the code: ReachedBounds (reached-bounds), SearchBounds (walk-counts, refine-counts, polish-count), AnswerBounds (bounded-call);
---    the report fits into the lent output: ReportFits (report-fits).
+--    the report fits into the lent output: ReportFits (report-fits), whatever the file: Refusals (engine-fits).
 -- 8. Demand 3's machine half, one theorem about the whole list: MachineHalf (machine-half).
 -- Beneath them: Climbs, Tops, Ends, Calls, Clumps, Caps, Reading, Loads, Numbers, Bounds, WeightBounds, StateBounds.
 pub mod Moves
@@ -42,4 +42,5 @@ pub mod StateBounds
 pub mod AnswerBounds
 pub mod ReachedBounds
 pub mod ReportFits
+pub mod Refusals
 pub mod MachineHalf

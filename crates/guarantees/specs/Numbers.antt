@@ -1,5 +1,5 @@
--- What is written in base ten is read back as it was (value-digits), byte by byte a digit (digits-are), and is no longer than it should be: a
--- number below ten to the k has at most k digits (digits-le). Rests on model's Grammar and Report. Assumes nothing.
+-- What is written in base ten is read back as it was (value-digits): every byte is a digit (digits-are), the first one is no 0 but for 0 itself
+-- (digits-first), and a number below ten to the k has at most k digits (digits-le). Rests on model's Grammar and Report. Assumes nothing.
 use Prim.Native.Nat.{ℕ, zero, suc, _+_, _-_, _*_, _/_, _%_, _^_, _≤_, _<_}
 use native.Mathlib.Nat.{pow-suc}
 use native.Mathlib.Omega.{arith}
@@ -8,7 +8,7 @@ use mathlib.Core.Bool.{Bool, true, false, cond}
 use mathlib.Core.List.{List, [], _∷_, _++_}
 use borrow.Author.Tests.{ltb-true, ltb-false}
 use lib.Dec.{ltb}
-use lib.ListN.{length, length-append}
+use lib.ListN.{length, getD, length-append, List·getD-append}
 use Rattle.laws.specs.Fold.{All, all-more}
 use Rattle.model.specs.Grammar.{onward, value}
 use Rattle.model.specs.Report.{digitsOf, digits}
@@ -72,3 +72,28 @@ length-of (suc f) (suc k) n l = go (length-of f k (n / 10)) (ltb n 10)
 pub digits-le : (k n : ℕ) → n < 10 ^ suc k → length (digits n) ≤ suc k
 unfolding digits
 digits-le k n l = length-of n k n l
+
+-- ---- the first digit
+some-of : (f n : ℕ) → 1 ≤ length (digitsOf f n)
+unfolding digitsOf
+some-of zero n = omega arith
+some-of (suc f) n = go (ltb n 10)
+  where
+    go : (b : Bool) → 1 ≤ length (cond b ((48 + n) ∷ []) (digitsOf f (n / 10) ++ ((48 + n % 10) ∷ [])))
+    go true = omega arith
+    go false = omega (arith, length-append (digitsOf f (n / 10)) ((48 + n % 10) ∷ []))
+
+first-of : (f n : ℕ) → n ≤ f → 1 ≤ n → 49 ≤ getD (digitsOf f n) 0 0
+unfolding digitsOf
+first-of zero n l m = omega arith
+first-of (suc f) n l m = go (first-of f (n / 10)) (ltb n 10) refl
+  where
+    go : (n / 10 ≤ f → 1 ≤ n / 10 → 49 ≤ getD (digitsOf f (n / 10)) 0 0) → (b : Bool) → ltb n 10 ≡ b → 49 ≤ getD (cond b ((48 + n) ∷ []) (digitsOf f (n / 10) ++ ((48 + n % 10) ∷ []))) 0 0
+    go ih true e = omega arith
+    go ih false e =
+        let big : 10 ≤ n = ltb-false n 10 e in
+        omega (arith, List·getD-append (digitsOf f (n / 10)) ((48 + n % 10) ∷ []) 0 0 (some-of f (n / 10)), ih (omega arith) (omega arith))
+
+pub digits-first : (n : ℕ) → 1 ≤ n → 49 ≤ getD (digits n) 0 0
+unfolding digits
+digits-first n l = first-of n n (omega arith) l

@@ -36,7 +36,7 @@ unfolding tail sumOver
 tail-length [] = refl
 tail-length (f ∷ fs) = omega (arith, length-append f (tail fs), tail-length fs)
 
-row-length : (word : String) (fs : List (List ℕ)) → length (row word fs) ≡ length (bytes word) + (sumOver fs (λ f. suc (length f)) + 1)
+pub row-length : (word : String) (fs : List (List ℕ)) → length (row word fs) ≡ length (bytes word) + (sumOver fs (λ f. suc (length f)) + 1)
 unfolding row
 row-length word fs = omega (arith, length-append (bytes word) (tail fs), tail-length fs)
 
