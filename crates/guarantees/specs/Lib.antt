@@ -3,14 +3,16 @@
 --    Moves of different vertices commute in blocks, pin counts, weights, gains and metric: Commutes (moves-commute, calls-commute).
 -- 2. Contraction and uncontraction of two vertices of one block leave the metric and every block's weight: Joins (metric-join),
 --    Weights (blockWeight-join), Splits (metric-split, blockWeight-split), so J and S do: Contractions (J-leaves, S-leaves). With no
---    contraction pins and weights are the loaded ones: Splits (pin-none, weight-none). A clump's gain is the effect on the uncontracted hypergraph: ClumpGain (clump-gain).
+--    contraction pins and weights are the loaded ones: Splits (pin-none, weight-none). A clump's gain is the effect on the
+--    uncontracted hypergraph: ClumpGain (clump-gain).
 -- 3. From an accepted catalogue, after every list of calls, no block is above the capacity: Reached (within-capacity).
 -- 4. No W, P or A ends on a higher metric: NeverHigher (never-higher). A walk keeps the first prefix of lowest metric: Walks (first-lowest).
 --    No definition stops for want of fuel: Fuel (walk-rests, polish-rests, coarsen-rests, climb-rests, digits-fuel).
 -- 5. When an accepted A ends, no single move with room lowers the metric: Optimum (A-best; P-best for P).
 -- 6. An accepted file is within every range of document 01: Ranges (accepted-ranges, accepted-book).
--- 7. Bounds for the code: ReachedBounds (reached-bounds), SearchBounds (walk-counts, refine-counts, polish-count), AnswerBounds (bounded-call);
---    the report fits into the lent output: ReportFits (report-fits), whatever the file: Refusals (engine-fits).
+-- 7. Bounds for the code: ReachedBounds (reached-bounds), SearchBounds (walk-counts, refine-counts, polish-count), AnswerBounds (bounded-call),
+--    Stretches (size-le, stretch-le, marks-le). The report fits into the lent output: ReportFits (report-fits), whatever the file:
+--    Refusals (engine-fits).
 -- 8. Demand 3's machine half, one theorem about the whole list: MachineHalf (machine-half).
 -- Beneath them: Climbs, Tops, Ends, Calls, Clumps, Caps, Reading, Loads, Numbers, Bounds, WeightBounds, StateBounds.
 pub mod Moves
@@ -41,6 +43,7 @@ pub mod SearchBounds
 pub mod StateBounds
 pub mod AnswerBounds
 pub mod ReachedBounds
+pub mod Stretches
 pub mod ReportFits
 pub mod Refusals
 pub mod MachineHalf

@@ -4,14 +4,13 @@
 use Prim.Native.Nat.{ℕ, zero, suc, _+_, _-_, _*_, _/_, _≤_}
 use native.Mathlib.Nat.{mul-le-mul, mul-le-mul-left, div-mul-le-self, suc-mul}
 use native.Mathlib.Omega.{arith}
-use mathlib.Core.Path.{_≡_, sym, ap, _∙_}
+use mathlib.Core.Path.{_≡_}
 use mathlib.Core.Bool.{_&&_, cond}
 use mathlib.Core.List.{List}
 use lib.Dec.{eqb}
-use lib.ListN.{getD}
 use Rattle.laws.specs.Choice.{cond-le}
 use Rattle.laws.specs.Fold.{sumOver-le}
-use Rattle.laws.specs.Sum.{sumTo, sum-list, sum-sumTo, sumTo-mono, sumTo-swap, sumTo-once}
+use Rattle.laws.specs.Sum.{sumTo, sumTo-list, sumTo-mono, sumTo-swap, sumTo-once}
 use Rattle.model.specs.Catalogue.{Limits, Hypergraph, vertices, loaded, totalWeight, averageWeight, capacity}
 use Rattle.model.specs.Measure.{Contraction, onBoard, representative, weight, blockWeight}
 use Rattle.guarantees.specs.Ranges.{Ranges}
@@ -20,10 +19,7 @@ module _ (h : Hypergraph) where
   -- the vertices' loaded weights, summed by number
   all-loaded : sumTo (vertices h) (loaded h) ≡ totalWeight h
   unfolding totalWeight
-  all-loaded = sym (sum-sumTo (vertices h) (λ i. getD (h .weights) i 0) (loaded h) (λ i l. ap (λ (j : ℕ). getD (h .weights) j 0) (down i))) ∙ sum-list (h .weights) 0 (λ w. w)
-    where
-      down : (i : ℕ) → i ≡ suc i - 1
-      down i = omega arith
+  all-loaded = sumTo-list (h .weights) 0 (λ w. w)
 
   module _ (cs : List Contraction) where
     pub weight-le : (u : ℕ) → weight h cs u ≤ totalWeight h

@@ -12,7 +12,7 @@ use lib.ListN.{length, getD, set, length-append, List·getD-append}
 use lib.Seq.{getD-set-same, getD-set-other}
 use Rattle.laws.specs.Choice.{one}
 use Rattle.laws.specs.Fold.{any}
-use Rattle.laws.specs.Sum.{sum, countBelow, sum-zero, sum-suc, sum-step, sum-ext, sum-change, sum-nil, sum-split, term-le}
+use Rattle.laws.specs.Sum.{sum, sum-zero, sum-suc, sum-step, sum-ext, sum-change, sum-nil, sum-split, term-le}
 
 -- what stands at place i of the stretch that begins at f
 abbrev pub at : List ℕ → ℕ → ℕ → ℕ

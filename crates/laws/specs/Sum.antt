@@ -2,10 +2,10 @@
 -- Below n: sum-zero, sum-suc, sum-step, sum-front, sum-ext, sum-change, sum-add, sum-split, sum-mono, sum-mul, sum-const, sum-nil, term-le, sum-swap;
 --   count-le, count-change
 -- Over 1..n: sumTo-ext, sumTo-change, sumTo-change2, sumTo-add, sumTo-nil, sumTo-term, sumTo-mono, sumTo-const, sumTo-swap, sumTo-once,
---   countTo-le, countTo-full
--- Both: sum-sumTo · over a list's places: sum-list
+--   sumTo-suc, sumTo-prefix, countTo-le, countTo-full
+-- Both: sum-sumTo · over a list's places: sum-list, sumTo-list
 use mathlib.Core.Path.{_≡_, refl, sym, ap, ap₂, _∙_}
-use mathlib.Core.Bool.{Bool, true, false, cond}
+use mathlib.Core.Bool.{Bool, true, cond}
 use Prim.Native.Nat.{ℕ, zero, suc, _+_, _-_, _*_, _≤_, _<_}
 use native.Mathlib.Nat.{add-zero, add-suc, suc-mul, mul-add, zero-mul, mul-zero}
 use native.Mathlib.Numerals.{add-one}
@@ -220,3 +220,19 @@ sumTo-once (suc n) r w = go (sumTo-once n r w) (ℕ-discrete r (suc n))
     go : sumTo n (λ i. cond (eqb r i) w 0) ≤ w → Dec (r ≡ suc n) → sumTo n (λ i. cond (eqb r i) w 0) + cond (eqb r (suc n)) w 0 ≤ w
     go ih (yes q) = omega (arith, cond-yes r (suc n) w 0 q, sumTo-nil n (λ i. cond (eqb r i) w 0) (λ i l u. cond-no r i w 0 (λ e. omega arith)))
     go ih (no m) = omega (arith, cond-no r (suc n) w 0 m)
+
+pub sumTo-suc : (n : ℕ) (f : ℕ → ℕ) → sumTo (suc n) f ≡ sumTo n f + f (suc n)
+unfolding sumTo
+sumTo-suc n f = sum-suc n (λ i. f (suc i))
+
+-- the first of them sum up to no more
+pub sumTo-prefix : (m k : ℕ) (f : ℕ → ℕ) → sumTo m f ≤ sumTo (m + k) f
+unfolding sumTo
+sumTo-prefix m k f = omega (arith, sum-split m k (λ i. f (suc i)))
+
+-- over a list's numbers, from 1 on
+pub sumTo-list : {A : Type 0} (l : List A) (d : A) (f : A → ℕ) → sumTo (length l) (λ i. f (getD l (i - 1) d)) ≡ sumOver l f
+sumTo-list l d f = sym (sum-sumTo (length l) (λ i. f (getD l i d)) (λ i. f (getD l (i - 1) d)) (λ i _. ap (λ (j : ℕ). f (getD l j d)) (down i))) ∙ sum-list l d f
+  where
+    down : (i : ℕ) → i ≡ suc i - 1
+    down i = omega arith
