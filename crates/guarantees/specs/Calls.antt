@@ -17,9 +17,11 @@ use Rattle.model.specs.Catalogue.{Net, Hypergraph, vertices, drafted, isVertex,
 use Rattle.model.specs.Measure.{Contraction, above, onBoard, weight, blockWeight, adjacent, metric, gain, hasRoom}
 use Rattle.model.specs.Machine.{Call, callJ, callS, callM, callB, callW, callP, callA, Move, State, Step, fresh, settle, refusesJ, contract, doesJ, refusesM, doesM, uncontract, doesS, doesB}
 use Rattle.model.specs.Search.{Best, none, best, bestPair, Walk, Coarse, Fine, canGo, walk, walked, polish, rating, canJoin, joinBest, joinTurn, boardSize, coarsen, refine, refusesW, doesW, doesP, refusesA, doesA, call}
+use Rattle.model.specs.Engine.{after}
 use Rattle.guarantees.specs.Climbs.{Joins, Sound, above-gone, above-other}
 use Rattle.guarantees.specs.Joins.{metric-join}
 use Rattle.guarantees.specs.Weights.{blockWeight-join}
+pub use Rattle.guarantees.specs.Splits.{Inside, AllInside, placed-join, into-on, placed-split, metric-split}
 use Rattle.guarantees.specs.Tops.{Top, best-top}
 use Rattle.guarantees.specs.Ends.{Placed, At, Pair, placed-move, Polished, polish-ends}
 use Rattle.guarantees.specs.Walks.{walked-metric}
@@ -31,13 +33,6 @@ module _ (h : Hypergraph) where
   pub block-range : (b : ℕ) → isBlock h b ≡ true → (1 ≤ b) × (b ≤ h .blocks)
   block-range b q = (leb-true 1 b (and-left _ _ q), leb-true b (h .blocks) (and-right (leb 1 b) _ q))
 
-  abbrev pub Inside : Contraction → Type 0
-  Inside c = (1 ≤ c .into) × (c .into ≤ vertices h) × (1 ≤ c .gone) × (c .gone ≤ vertices h)
-
-  abbrev pub AllInside : List Contraction → Type 0
-  AllInside [] = Unit {0}
-  AllInside (c ∷ cs) = Inside c × AllInside cs
-
   -- the moves on the record are of board lots, from sessions
   abbrev pub Recorded : List Contraction → List Move → Type 0
   Recorded cs [] = Unit {0}
@@ -45,61 +40,14 @@ module _ (h : Hypergraph) where
 
   pub record Legal (s : State) : Type 0 where
     pub sound : Sound (s .stack)
-    pub inside : AllInside (s .stack)
+    pub inside : AllInside h (s .stack)
     pub placed : Placed h (s .stack) (s .block)
     pub recorded : Recorded (s .stack) (s .journal)
-
-  -- ---- a join and a split
-  pub placed-join : (cs : List Contraction) (c : Contraction) (p : ℕ → ℕ) → Joins cs c → Placed h cs p → Placed h (c ∷ cs) (place p (c .gone) 0)
-  placed-join cs c p j ok x xl xu = go (ℕ-discrete x (c .gone))
-    where
-      go : Dec (x ≡ c .gone) → At h (c ∷ cs) (place p (c .gone) 0) x
-      go (yes q) = record {
-        board = λ o. absurd (omega (arith, j .real, above-gone cs c x (sym q)));
-        off = λ o. ap (place p (c .gone) 0) q ∙ place-at p (c .gone) 0;
-      }
-      go (no n) = record {
-        board = λ o. omega (arith, place-off p (c .gone) 0 x n, ok x xl xu .board (sym (above-other cs c x (λ r. n (sym r))) ∙ o));
-        off = λ o. place-off p (c .gone) 0 x n ∙ ok x xl xu .off (λ r. o (above-other cs c x (λ r. n (sym r)) ∙ r));
-      }
-
-  pub into-on : (cs : List Contraction) (c : Contraction) → Joins cs c → above (c ∷ cs) (c .into) ≡ 0
-  into-on cs c j = above-other cs c (c .into) (λ r. j .two (sym r)) ∙ j .into-on
-
-  pub placed-split : (cs : List Contraction) (c : Contraction) (p : ℕ → ℕ) → Joins cs c → Inside c → Placed h (c ∷ cs) p → Placed h cs (uncontract p c)
-  unfolding uncontract
-  placed-split cs c p j r ok x xl xu = go (ℕ-discrete x (c .gone))
-    where
-      to : ℕ
-      to = p (c .into)
-
-      go : Dec (x ≡ c .gone) → At h cs (place p (c .gone) (p (c .into))) x
-      go (yes q) = record {
-        board = λ o. omega (arith, ap (place p (c .gone) (p (c .into))) q, place-at p (c .gone) (p (c .into)), ok (c .into) (r .0) (r .1) .board (into-on cs c j));
-        off = λ o. absurd (o (ap (above cs) q ∙ j .gone-on));
-      }
-      go (no n) = record {
-        board = λ o. omega (arith, place-off p (c .gone) (p (c .into)) x n, ok x xl xu .board (above-other cs c x (λ r. n (sym r)) ∙ o));
-        off = λ o. place-off p (c .gone) (p (c .into)) x n ∙ ok x xl xu .off (λ r. o (sym (above-other cs c x (λ r. n (sym r))) ∙ r));
-      }
-
-  -- the total after a split
-  pub metric-split : (cs : List Contraction) (c : Contraction) (p : ℕ → ℕ) → Sound (c ∷ cs) → Inside c → Placed h (c ∷ cs) p → metric h cs (uncontract p c) ≡ metric h (c ∷ cs) p
-  unfolding uncontract
-  metric-split cs c p s r ok =
-      sym (metric-join h cs c s (place p (c .gone) (p (c .into))) (r .0) (r .1) (r .2) (r .3) together)
-      ∙ ap (metric h (c ∷ cs)) (ap (place (place p (c .gone) (p (c .into))) (c .gone)) (sym zero-there) ∙ place-back p (c .gone) (p (c .into)))
-    where
-      together : place p (c .gone) (p (c .into)) (c .into) ≡ place p (c .gone) (p (c .into)) (c .gone)
-      together = place-off p (c .gone) (p (c .into)) (c .into) (s .0 .two) ∙ sym (place-at p (c .gone) (p (c .into)))
-
-      zero-there : p (c .gone) ≡ 0
-      zero-there = ok (c .gone) (r .2) (r .3) .off (λ o. omega (arith, s .0 .real, above-gone cs c (c .gone) refl))
 
   -- ---- A's joins
   pub record Coarsened (p : ℕ → ℕ) (c : Coarse) : Type 0 where
     pub sound : Sound (c .stack)
-    pub inside : AllInside (c .stack)
+    pub inside : AllInside h (c .stack)
     pub placed : Placed h (c .stack) (c .block)
     pub same : metric h (c .stack) (c .block) ≡ metric h [] p
     pub same-weights : (b : ℕ) → blockWeight h (c .stack) (c .block) b ≡ blockWeight h [] p b
@@ -130,7 +78,7 @@ module _ (h : Hypergraph) where
       ih _ (record {
         sound = (j .0, k .sound);
         inside = (r, k .inside);
-        placed = placed-join (c .stack) (record { into = u; gone = v }) (c .block) (j .0) (k .placed);
+        placed = placed-join h (c .stack) (record { into = u; gone = v }) (c .block) (j .0) (k .placed);
         same = metric-join h (c .stack) (record { into = u; gone = v }) (j .0, k .sound) (c .block) (r .0) (r .1) (r .2) (r .3) (j .1) ∙ k .same;
         same-weights = λ b. blockWeight-join h (c .stack) (record { into = u; gone = v }) (j .0, k .sound) (c .block) (r .0) (r .1) (r .2) (r .3) (j .1) b ∙ k .same-weights b;
       })
@@ -145,14 +93,14 @@ module _ (h : Hypergraph) where
       go ih false = k
 
   -- ---- A's splits and walks
-  pub refined : (cs : List Contraction) (f : Fine) → Sound cs → AllInside cs → Placed h cs (f .block) → Placed h [] (refine h cs f .block) × (metric h [] (refine h cs f .block) ≤ metric h cs (f .block))
+  pub refined : (cs : List Contraction) (f : Fine) → Sound cs → AllInside h cs → Placed h cs (f .block) → Placed h [] (refine h cs f .block) × (metric h [] (refine h cs f .block) ≤ metric h cs (f .block))
   unfolding refine
   refined [] f s r ok = (ok, omega arith)
   refined (c ∷ cs) f s r ok =
-      let ok′ = placed-split cs c (f .block) (s .0) (r .0) ok in
+      let ok′ = placed-split h cs c (f .block) (s .0) (r .0) ok in
       let w = walked-metric h cs (uncontract (f .block) c) (c .into) (c .gone) ok′ in
       let end = refined cs _ (s .1) (r .1) (w .0) in
-      (end .0, omega (arith, end .1, w .2, metric-split cs c (f .block) s (r .0) ok))
+      (end .0, omega (arith, end .1, w .2, metric-split h cs c s (r .0) (f .block) ok))
 
   -- ---- A: no join stands, the total is no higher, and no single move that has space lowers it
   pub solves : (s : State) → Placed h [] (s .block) → Polished h [] (s .block) (doesA h s .state .block)
@@ -189,7 +137,7 @@ module _ (h : Hypergraph) where
       record {
         sound = (j, ok .sound);
         inside = ((ru .0, ru .1, rv .0, rv .1), ok .inside);
-        placed = placed-join (s .stack) (record { into = u; gone = v }) (s .block) j (ok .placed);
+        placed = placed-join h (s .stack) (record { into = u; gone = v }) (s .block) j (ok .placed);
         recorded = tt;
       }
 
@@ -198,11 +146,11 @@ module _ (h : Hypergraph) where
   legal-S s [] q ok = ok
   legal-S s (c ∷ cs) q ok =
       let so : Sound (c ∷ cs) = subst Sound q (ok .sound) in
-      let ins : AllInside (c ∷ cs) = subst AllInside q (ok .inside) in
+      let ins : AllInside h (c ∷ cs) = subst (AllInside h) q (ok .inside) in
       record {
         sound = so .1;
         inside = ins .1;
-        placed = placed-split cs c (s .block) (so .0) (ins .0) (subst (λ (l : List Contraction). Placed h l (s .block)) q (ok .placed));
+        placed = placed-split h cs c (s .block) (so .0) (ins .0) (subst (λ (l : List Contraction). Placed h l (s .block)) q (ok .placed));
         recorded = tt;
       }
 
@@ -299,11 +247,7 @@ module _ (h : Hypergraph) where
       go ih false e = inl e
 
   -- ---- a list of calls
-  unfoldable pub after : State → List Call → State
-  after s [] = s
-  after s (c ∷ cs) = after (call h s c .state) cs
-
-  pub legal-after : (s : State) (cs : List Call) → Legal s → Legal (after s cs)
+  pub legal-after : (s : State) (cs : List Call) → Legal s → Legal (after h s cs)
   unfolding after
   legal-after s [] ok = ok
   legal-after s (c ∷ cs) ok = legal-after (call h s c .state) cs (legal-call s c ok)

@@ -9,18 +9,20 @@ use borrow.Author.Tests.{eq-eqb, ne-eqb, eqb-true, leb-true, not-false, not-true
 use lib.Dec.{eqb, leb, ltb}
 use lib.IntN.{pos}
 use lib.Signed.{ltZ}
-use Rattle.laws.specs.Place.{place, place-back, place-at, place-off}
+use Rattle.laws.specs.Place.{place, place-back}
 use Rattle.laws.specs.Choice.{and-left, and-right, cond-zero}
 use Rattle.model.specs.Catalogue.{Hypergraph, vertices, isVertex, isBlock, capacity}
 use Rattle.model.specs.Measure.{Contraction, above, onBoard, weight, blockWeight, gain, metric, hasRoom}
 use Rattle.model.specs.Search.{Best, none, best, Walk, Polish, canGo, isOpen, walkBest, walkMove, walkTurn, walkOn, walk, walked, polishBest, polishTurn, polishOn, polish, reversed, Coarse, Fine, canJoin, joinBest, joinTurn, boardSize, coarsen, refine, rating, refusesW, doesW, doesP, refusesA, doesA, call}
 use Rattle.model.specs.Machine.{Call, callJ, callS, callM, callB, callW, callP, callA, Move, State, Step, fresh, settle, refusesJ, contract, doesJ, refusesM, doesM, uncontract, doesS, doesB}
+use Rattle.model.specs.Engine.{after as afterCalls}
 use Rattle.guarantees.specs.Tops.{Top, best-top}
 use Rattle.guarantees.specs.Ends.{Placed, Pair, can-on, can-away}
 use Rattle.guarantees.specs.Walks.{moved, prefix, prefix-now, after, after-old, after-new, reversed-nil, walk-ends, walked-metric}
 use Rattle.guarantees.specs.Weights.{blockWeight-join, blockWeight-move}
-use Rattle.guarantees.specs.Climbs.{Joins, Sound, above-gone}
-use Rattle.guarantees.specs.Calls.{Inside, AllInside, Legal, Coarsened, coarsened, can-join, placed-join, placed-split, legal-J, legal-S, legal-M, legal-B, legal-W, legal-P, legal-A, legal-call, vertex-range, block-range, after as afterCalls}
+use Rattle.guarantees.specs.Climbs.{Sound}
+use Rattle.guarantees.specs.Splits.{Inside, AllInside, placed-split, blockWeight-split}
+use Rattle.guarantees.specs.Calls.{Legal, Coarsened, coarsened, legal-J, legal-S, legal-M, legal-B, legal-W, legal-P, legal-A, legal-call, vertex-range, block-range}
 
 module _ (h : Hypergraph) (cs : List Contraction) where
   abbrev pub Capped : (ℕ → ℕ) → Type 0
@@ -113,17 +115,7 @@ module _ (h : Hypergraph) where
   capped-join cs c p s r e ok b l u = omega (arith, blockWeight-join h cs c s p (r .0) (r .1) (r .2) (r .3) e b, ok b l u)
 
   capped-split : (cs : List Contraction) (c : Contraction) (p : ℕ → ℕ) → Sound (c ∷ cs) → Inside h c → Placed h (c ∷ cs) p → Capped h (c ∷ cs) p → Capped h cs (uncontract p c)
-  unfolding uncontract
-  capped-split cs c p s r placed ok b l u = omega (arith, blockWeight-join h cs c s (place p (c .gone) (p (c .into))) (r .0) (r .1) (r .2) (r .3) together b, ap (λ (q : ℕ → ℕ). blockWeight h (c ∷ cs) q b) whole, ok b l u)
-    where
-      together : place p (c .gone) (p (c .into)) (c .into) ≡ place p (c .gone) (p (c .into)) (c .gone)
-      together = place-off p (c .gone) (p (c .into)) (c .into) (s .0 .two) ∙ sym (place-at p (c .gone) (p (c .into)))
-
-      zero-there : p (c .gone) ≡ 0
-      zero-there = placed (c .gone) (r .2) (r .3) .off (λ o. omega (arith, s .0 .real, above-gone cs c (c .gone) refl))
-
-      whole : place (place p (c .gone) (p (c .into))) (c .gone) 0 ≡ p
-      whole = ap (place (place p (c .gone) (p (c .into))) (c .gone)) (sym zero-there) ∙ place-back p (c .gone) (p (c .into))
+  capped-split cs c p s r placed ok b l u = omega (arith, blockWeight-split h cs c s r p placed b, ok b l u)
 
   -- ---- A
   capped-refine : (cs : List Contraction) (f : Fine) → Sound cs → AllInside h cs → Placed h cs (f .block) → Capped h cs (f .block) → Capped h [] (refine h cs f .block)

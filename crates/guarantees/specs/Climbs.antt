@@ -26,7 +26,7 @@ Sound [] = Unit {0}
 Sound (c ∷ cs) = Joins cs c × Sound cs
 
 -- one step of a climb
-climb-on : (f : ℕ) (cs : List Contraction) (x : ℕ) → above cs x ≡ 0 → climb f cs x ≡ x
+pub climb-on : (f : ℕ) (cs : List Contraction) (x : ℕ) → above cs x ≡ 0 → climb f cs x ≡ x
 unfolding climb
 climb-on zero cs x q = refl
 climb-on (suc f) cs x q = cond-yes (above cs x) 0 x (climb f cs (above cs x)) q

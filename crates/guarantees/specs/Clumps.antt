@@ -17,7 +17,7 @@ use Rattle.model.specs.Catalogue.{Net, Hypergraph, vertices}
 use Rattle.model.specs.Measure.{Contraction, climb, representative, pin, pinCount, connectivity, metric, gain}
 use Rattle.guarantees.specs.Moves.{metric-gain}
 use Rattle.guarantees.specs.Climbs.{Joins, Sound, representative-join}
-use Rattle.guarantees.specs.Calls.{Inside, AllInside}
+use Rattle.guarantees.specs.Splits.{AllInside}
 
 -- every mark is a lot
 abbrev pub Within : ℕ → Net → Type 0

@@ -1,4 +1,6 @@
--- A move changes the total by its gain. Assumes nothing.
+-- A move changes the connectivity metric by minus its gain, the total after being the total before less the gain (metric-gain),
+-- and the move back has the negated gain (gain-back). Net by net: pin counts (count-move) and connectivity (connectivity-move).
+-- Rests on laws' sums and integers. Assumes nothing.
 use Prim.Native.Nat.{ℕ, zero, suc, _+_, _-_, _*_, _≤_, _<_}
 use native.Mathlib.Decide.{ℕ-discrete}
 use native.Mathlib.Omega.{arith}
@@ -7,12 +9,12 @@ use mathlib.Core.Bool.{Bool, true, false, _||_, _&&_, cond}
 use mathlib.Core.List.{List, [], _∷_}
 use borrow.Author.Tests.{eq-eqb, ne-eqb, lt-ltb, le-ltb}
 use lib.Dec.{eqb, ltb}
-use lib.IntN.{ℤ, pos, _-ℤ_}
-use Rattle.laws.specs.Integer.{up, dn, eq-by, pos-is, sub-is}
+use lib.IntN.{ℤ, pos, negℤ, _-ℤ_}
+use Rattle.laws.specs.Integer.{up, dn, eq-by, pos-is, sub-is, neg-is}
 use Rattle.laws.specs.Choice.{one}
 use Rattle.laws.specs.Sum.{sumTo, sumTo-ext, sumTo-change, sumTo-change2, sumTo-term}
 use Rattle.laws.specs.Fold.{sumOver, sumOver-both}
-use Rattle.laws.specs.Place.{place, place-at, place-off}
+use Rattle.laws.specs.Place.{place, place-at, place-off, place-back}
 use Rattle.model.specs.Catalogue.{Net, Hypergraph, vertices}
 use Rattle.model.specs.Measure.{Contraction, pin, pinCount, connectivity, metric, freed, drawn, gain}
 
@@ -97,7 +99,7 @@ module _ (h : Hypergraph) (cs : List Contraction) (p : ℕ → ℕ) (v t : ℕ) 
     cost-move true q = costs (e .weight) (connectivity h cs p e - 1) (connectivity h cs (place p v t) e - 1) (eqb (pinCount h cs p e (p v)) 1) (eqb (pinCount h cs p e t) 0) (omega (arith, connectivity-move q, spans q, spans′ q))
     cost-move false q = ap (λ (c : ℕ). e .weight * (c - 1) + 0) (sym (connectivity-same q))
 
-  -- (1) the total after moving v to t
+  -- the total after moving v to t
   pub metric-move : 1 ≤ p v → p v ≤ h .blocks → 1 ≤ t → t ≤ h .blocks → (p v ≡ t → ⊥) → metric h cs (place p v t) + freed h cs p v ≡ metric h cs p + drawn h cs p v t
   unfolding metric freed drawn
   metric-move sl su tl tu away = sumOver-both (h .nets) _ _ _ _ (λ e. cost-move sl su tl tu away e (pin cs e v) refl)
@@ -120,3 +122,30 @@ module _ (h : Hypergraph) (cs : List Contraction) (p : ℕ → ℕ) (v t : ℕ) 
     ap dn (gain-away away),
     sub-is (pos (freed h cs p v)) (pos (drawn h cs p v t)),
   ))
+
+-- the gain of the way back
+pub gain-back : (h : Hypergraph) (cs : List Contraction) (p : ℕ → ℕ) (v t : ℕ) → 1 ≤ v → v ≤ vertices h → 1 ≤ p v → p v ≤ h .blocks → 1 ≤ t → t ≤ h .blocks → (p v ≡ t → ⊥)
+    → gain h cs (place p v t) v (p v) ≡ negℤ (gain h cs p v t)
+gain-back h cs p v t vl vu sl su tl tu away = eq-by _ _ (omega (
+  arith,
+  neg-is (gain h cs p v t),
+  ap up there,
+  ap dn there,
+  ap up back,
+  ap dn back,
+  sub-is (pos (metric h cs p)) (gain h cs p v t),
+  sub-is (pos (metric h cs (place p v t))) (gain h cs (place p v t) v (p v)),
+  pos-is (metric h cs p),
+  pos-is (metric h cs (place p v t)),
+))
+  where
+    there : pos (metric h cs (place p v t)) ≡ pos (metric h cs p) -ℤ gain h cs p v t
+    there = metric-gain h cs p v t vl vu sl su tl tu away
+
+    here : place p v t v ≡ t
+    here = place-at p v t
+
+    back : pos (metric h cs p) ≡ pos (metric h cs (place p v t)) -ℤ gain h cs (place p v t) v (p v)
+    back =
+        ap (λ (q : ℕ → ℕ). pos (metric h cs q)) (sym (place-back p v t))
+        ∙ metric-gain h cs (place p v t) v (p v) vl vu (omega (arith, here)) (omega (arith, here)) sl su (λ r. away (sym r ∙ here))
