@@ -66,21 +66,38 @@ cleared zero h = refl
 cleared (suc zero) h = refl
 cleared (suc (suc b)) h = absurd (omega arith)
 
-pub one-shl : (s : ℕ) → s < 16 → (1 * 2 ^ s) % 2 ^ 16 ≡ 2 ^ s
-one-shl s h = shl-exact 1 s 16 (omega arith) (omega arith) ∙ one-mul (2 ^ s)
+pub one-shl : (w s : ℕ) → s < w → (1 * 2 ^ s) % 2 ^ w ≡ 2 ^ s
+one-shl w s h = shl-exact 1 s w (omega arith) (omega arith) ∙ one-mul (2 ^ s)
+
+-- r is m with bit s made v, in a word of any width
+pub record Made (m s v r : ℕ) : Type 0 where
+  pub here : bit r s ≡ v
+  pub elsewhere : (j : ℕ) → (j ≡ s → ⊥) → bit r j ≡ bit m j
+
+pub made-set : (m s : ℕ) → Made m s 1 (bitOr m (2 ^ s))
+made-set m s = record {
+  here = bit-or m (2 ^ s) s ∙ rw bit-pow-same (or-one (bit m s) (bit-lt m s));
+  elsewhere = λ j n. bit-or m (2 ^ s) j ∙ rw (bit-pow-other s j n) (or-zero-r (bit m j));
+}
+
+pub made-clear : (m s : ℕ) → Made m s 0 (bitXor m (bitAnd m (2 ^ s)))
+made-clear m s = record {
+  here = bit-xor m (bitAnd m (2 ^ s)) s ∙ rw (bit-and, bit-pow-same) (cleared (bit m s) (bit-lt m s));
+  elsewhere = λ j n. bit-xor m (bitAnd m (2 ^ s)) j ∙ rw (bit-and, bit-pow-other s j n, and-zero-r) (xor-zero-r (bit m j));
+}
 
 pub set-law : (m s : ℕ) → m < 2 ^ 16 → s < 16 → Masked m s 1 (bitOr m (2 ^ s))
 set-law m s hm hs = record {
   small = or-lt 16 m (2 ^ s) hm (pow-lt hs);
-  here = bit-or m (2 ^ s) s ∙ rw bit-pow-same (or-one (bit m s) (bit-lt m s));
-  elsewhere = λ j n. bit-or m (2 ^ s) j ∙ rw (bit-pow-other s j n) (or-zero-r (bit m j));
+  here = made-set m s .here;
+  elsewhere = made-set m s .elsewhere;
 }
 
 pub clear-law : (m s : ℕ) → m < 2 ^ 16 → s < 16 → Masked m s 0 (bitXor m (bitAnd m (2 ^ s)))
 clear-law m s hm hs = record {
   small = xor-lt 16 m (bitAnd m (2 ^ s)) hm (and-lt 16 m (2 ^ s) hm (pow-lt hs));
-  here = bit-xor m (bitAnd m (2 ^ s)) s ∙ rw (bit-and, bit-pow-same) (cleared (bit m s) (bit-lt m s));
-  elsewhere = λ j n. bit-xor m (bitAnd m (2 ^ s)) j ∙ rw (bit-and, bit-pow-other s j n, and-zero-r) (xor-zero-r (bit m j));
+  here = made-clear m s .here;
+  elsewhere = made-clear m s .elsewhere;
 }
 
 -- the set bits below k

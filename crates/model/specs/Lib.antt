@@ -18,3 +18,6 @@ pub mod Report
 pub mod Engine
 pub mod Memory
 pub mod Demand
+pub mod Table
+pub mod Edges
+pub mod Worked

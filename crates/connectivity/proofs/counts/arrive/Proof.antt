@@ -1,0 +1,90 @@
+use Prim.Native.Nat.{_+_, _*_, _-_}
+use lib.ListN.{getD}
+use borrow.Author.Tests.{lt-ltb}
+use native.Mathlib.Omega.{arith}
+use mathlib.Core.Path.{_≡_, refl, sym, _∙_, ap}
+use denote.Ref.{now}
+use borrow.Author.Needs.{needs}
+use Rattle.connectivity.specs.Law.{step-set}
+use Rattle.connectivity.proofs.counts.arrive.Statement.{statement}
+use Rattle.connectivity.proofs.counts.arrive.Tie as tie
+use Rattle.connectivity.proofs.counts.arrive.Reads as reads
+use Rattle.connectivity.proofs.counts.arrive.Lts as lts
+use Rattle.connectivity.proofs.counts.set_bit.Reads as set-bit-reads
+
+returns : tie.Need-returns
+returns c = search needs
+
+sub-s : tie.Need-sub-s
+sub-s c = search needs
+
+mul-at : tie.Need-mul-at
+mul-at c = search needs
+
+add-at : tie.Need-add-at
+add-at c = search needs
+
+mul-counts : tie.Need-mul-counts
+mul-counts c = search needs
+
+slice-read-counts : tie.Need-slice-read-counts
+slice-read-counts c = search needs
+
+add-counts : tie.Need-add-counts
+add-counts c = let S = c .before .before .before .before in omega (arith, S .pre .1 .1 .1 (omega arith))
+
+mul-counts-2 : tie.Need-mul-counts-2
+mul-counts-2 c = search needs
+
+slice-write-counts : tie.Need-slice-write-counts
+slice-write-counts c = search needs
+
+mul-set-bit : tie.Need-mul-set-bit
+mul-set-bit c = search needs
+
+slice-read-set-bit : tie.Need-slice-read-set-bit
+slice-read-set-bit c = search needs
+
+set-bit-requires : tie.Need-set-bit-requires
+set-bit-requires c κs = search needs
+
+mul-visited : tie.Need-mul-visited
+mul-visited c = search needs
+
+slice-write-visited : tie.Need-slice-write-visited
+slice-write-visited c = search needs
+
+same-length : tie.Need-same-length
+same-length c = search needs
+
+same-length-2 : tie.Need-same-length-2
+same-length-2 c = search needs
+
+returns-2 : tie.Need-returns-2
+returns-2 c =
+    let S = c .before .before .before .before .before .before in
+    let v = getD (now (S .args .counts)) (16 * S .args .e + (S .args .b - 1)) 0 + 1 in
+    step-set (S .args .e) (S .args .b) v (c .set-bit .result) (now (S .args .counts)) (now (S .args .visited)) (omega arith) (omega arith) (omega arith)
+    (rw (lt-ltb 0 v (omega arith)) (c .set-bit .ensures))
+
+pub arrive-spec : {M : Type 1} → statement M
+arrive-spec =
+    tie.close
+    (tie.spec
+    returns
+    sub-s
+    mul-at
+    add-at
+    mul-counts
+    slice-read-counts
+    add-counts
+    mul-counts-2
+    slice-write-counts
+    mul-set-bit
+    slice-read-set-bit
+    set-bit-requires
+    mul-visited
+    slice-write-visited
+    same-length
+    same-length-2
+    returns-2)

@@ -1,0 +1,111 @@
+use native.Mathlib.Omega.{arith}
+use mathlib.Core.Path.{_≡_, refl, sym, _∙_, ap}
+use denote.Ref.{now}
+use borrow.Author.Needs.{needs}
+use Rattle.connectivity.specs.Set.{set-depart, set-arrive}
+use Rattle.connectivity.specs.Fast.{fast-same, fast-own, fast-others, fast-own-2, fast-done}
+use Rattle.connectivity.proofs.set_pin.Statement.{statement}
+use Rattle.connectivity.proofs.set_pin.Tie as tie
+use Rattle.connectivity.proofs.set_pin.Reads as reads
+use Rattle.connectivity.proofs.set_pin.Lts as lts
+use Rattle.connectivity.proofs.count_at.Reads as count-at-reads
+use Rattle.connectivity.proofs.own_row.Reads as own-row-reads
+use Rattle.connectivity.proofs.touch_others.Reads as touch-others-reads
+use Rattle.connectivity.proofs.counts.arrive.Reads as arrive-reads
+use Rattle.connectivity.proofs.counts.depart.Reads as depart-reads
+
+returns : tie.Need-returns
+returns c = fast-same (c .before .before .before .before .before .before .pre) (c .if1 .taken)
+
+mul-w : tie.Need-mul-w
+mul-w c = search needs
+
+shared-slice-read-w : tie.Need-shared-slice-read-w
+shared-slice-read-w c = search needs
+
+count-at-requires : tie.Need-count-at-requires
+count-at-requires c κs = search needs
+
+count-at-requires-2 : tie.Need-count-at-requires-2
+count-at-requires-2 c κs = search needs
+
+own-row-requires : tie.Need-own-row-requires
+own-row-requires c κs =
+    let C₂ = c .before .before in
+    let C₁ = C₂ .before .before in
+    let E = C₁ .before .before .before in
+    fast-own (E .before .before .before .before .before .before .pre) refl (E .if1 .left) (C₁ .count-at .ensures) (C₂ .count-at2 .ensures)
+
+depart-requires : tie.Need-depart-requires
+depart-requires c κs =
+    let S = c .before .before .before .before .before .before .before .before .before .before .before .before .before .before .before .before .before in
+    (omega (arith, S .pre .frame, S .pre .e-in), (omega (arith, S .pre .frame, S .pre .e-in), (omega (arith, S .pre .frame, S .pre .a-in), set-depart (S .pre) refl)))
+
+arrive-requires : tie.Need-arrive-requires
+arrive-requires c κs =
+    let D = c .before .before .before .before .before .before in
+    let S = D .before .before .before .before .before .before .before .before .before .before .before .before .before .before .before .before .before .before in (
+      omega (arith, S .pre .frame, S .pre .e-in, D .depart .ensures .counts-len),
+      (omega (arith, S .pre .frame, S .pre .e-in, D .depart .ensures .masks-len), (omega (arith, S .pre .frame, S .pre .b-in), set-arrive (S .pre) refl (D .depart .ensures))),
+    )
+
+touch-others-requires : tie.Need-touch-others-requires
+touch-others-requires c κs =
+    let A = c .before .before .before .before .before in
+    let D = A .before .before .before .before .before .before .before in
+    let O = D .before .before .before .before in
+    let C₂ = O .before .before .before in
+    let C₁ = C₂ .before .before in
+    let E = C₁ .before .before .before in
+    fast-others (E .before .before .before .before .before .before .pre) refl (E .if1 .left) (C₁ .count-at .ensures) (C₂ .count-at2 .ensures) (O .own-row .ensures)
+
+own-row-requires-2 : tie.Need-own-row-requires-2
+own-row-requires-2 c κs =
+    let T = c .before .before .before in
+    let A = T .before .before .before .before .before .before in
+    let D = A .before .before .before .before .before .before .before in
+    let O = D .before .before .before .before in
+    let C₂ = O .before .before .before in
+    let C₁ = C₂ .before .before in
+    let E = C₁ .before .before .before in
+    fast-own-2 (E .before .before .before .before .before .before .pre) refl (E .if1 .left) (C₁ .count-at .ensures) (C₂ .count-at2 .ensures) (O .own-row .ensures) (D .depart .ensures) (A .arrive .ensures) (T .touch-others .ensures)
+
+same-length : tie.Need-same-length
+same-length c = search needs
+
+same-length-2 : tie.Need-same-length-2
+same-length-2 c = search needs
+
+same-length-3 : tie.Need-same-length-3
+same-length-3 c = search needs
+
+returns-2 : tie.Need-returns-2
+returns-2 c =
+    let P = c .before in
+    let T = P .before .before .before .before in
+    let A = T .before .before .before .before .before .before in
+    let D = A .before .before .before .before .before .before .before in
+    let O = D .before .before .before .before in
+    let C₂ = O .before .before .before in
+    let C₁ = C₂ .before .before in
+    let E = C₁ .before .before .before in
+    fast-done (E .before .before .before .before .before .before .pre) refl (E .if1 .left) (C₁ .count-at .ensures) (C₂ .count-at2 .ensures) (O .own-row .ensures) (D .depart .ensures) (A .arrive .ensures) (T .touch-others .ensures) (P .own-row2 .ensures)
+
+pub set-pin-spec : {M : Type 1} → statement M
+set-pin-spec =
+    tie.close
+    (tie.spec
+    returns
+    mul-w
+    shared-slice-read-w
+    count-at-requires
+    count-at-requires-2
+    own-row-requires
+    depart-requires
+    arrive-requires
+    touch-others-requires
+    own-row-requires-2
+    same-length
+    same-length-2
+    same-length-3
+    returns-2)

@@ -1,0 +1,73 @@
+-- Whether a vertex is among the pins of a stretch, and the rows of 16 entries that vertices have in the tables.
+-- Vertices count from 0, pin lists name them from 1. Rests on laws of occurrences.
+use Prim.Native.Nat.{ℕ, zero, suc, _+_, _*_, _-_, _<_, _≤_}
+use mathlib.Core.Path.{_≡_, refl, sym, ap, _∙_}
+use mathlib.Core.Bool.{Bool, true, false, cond}
+use mathlib.Core.List.{List}
+use native.Mathlib.Omega.{arith}
+use native.Mathlib.Decide.{ℕ-discrete}
+use borrow.Author.Tests.{eq-eqb, ne-eqb, eqb-true}
+use lib.Dec.{eqb}
+use lib.ListN.{getD}
+use Rattle.laws.specs.Occurrence.{In}
+
+-- the vertex at a place of a stretch
+abbrev pub vertexAt : List ℕ → ℕ → ℕ → ℕ
+vertexAt pins first j = getD pins (first + j) 0 - 1
+
+-- whether the vertex q is among the n pins from first
+unfoldable pub has : List ℕ → ℕ → ℕ → ℕ → Bool
+has pins first zero q = false
+has pins first (suc n) q = cond (eqb (getD pins (first + n) 0) (q + 1)) true (has pins first n q)
+
+pub has-at : (pins : List ℕ) (first u p i : ℕ) → i < p → getD pins (first + i) 0 ≡ u + 1 → true ≡ has pins first p u
+unfolding has
+has-at pins first u zero i l e = absurd (omega arith)
+has-at pins first u (suc p) i l e = by (has-at pins first u p i) (ℕ-discrete p i)
+  where
+    by : (i < p → getD pins (first + i) 0 ≡ u + 1 → true ≡ has pins first p u) → Dec (p ≡ i) → true ≡ cond (eqb (getD pins (first + p) 0) (u + 1)) true (has pins first p u)
+    by rec (yes q) = rw (eq-eqb (getD pins (first + p) 0) (u + 1) (ap (λ (z : ℕ). getD pins (first + z) 0) q ∙ e))
+    by rec (no q) = or-true (eqb (getD pins (first + p) 0) (u + 1)) (rec (omega arith) e)
+      where
+        or-true : (b : Bool) {d : Bool} → true ≡ d → true ≡ cond b true d
+        or-true true h = refl
+        or-true false h = h
+
+pub has-none : (pins : List ℕ) (first u p : ℕ) → ((i : ℕ) → i < p → getD pins (first + i) 0 ≡ u + 1 → ⊥) → false ≡ has pins first p u
+unfolding has
+has-none pins first u zero h = refl
+has-none pins first u (suc p) h = rw (ne-eqb (getD pins (first + p) 0) (u + 1) (h p (omega arith))) (has-none pins first u p (λ i l. h i (omega arith)))
+
+pub in-has : (l : List ℕ) (f n y : ℕ) → In l f n (y + 1) → has l f n y ≡ true
+in-has l f n y i = sym (has-at l f y n (i .0) (i .1) (i .2))
+
+pub has-in : (l : List ℕ) (f n y : ℕ) → has l f n y ≡ true → In l f n (y + 1)
+unfolding has
+has-in l f zero y e = let z : _≡_ {A = ℕ} 0 1 = cc in absurd (omega arith)
+has-in l f (suc n) y e = by (has-in l f n y) (eqb (getD l (f + n) 0) (y + 1)) refl e
+  where
+    by : (has l f n y ≡ true → In l f n (y + 1)) → (t : Bool) → eqb (getD l (f + n) 0) (y + 1) ≡ t → cond t true (has l f n y) ≡ true → In l f (suc n) (y + 1)
+    by rec true d _ = (n, omega arith, eqb-true _ _ d)
+    by rec false d h = let r = rec h in (r .0, omega (arith, r .1), r .2)
+
+pub has-iff : (l l′ : List ℕ) (f n n′ y y′ : ℕ) → (In l f n (y + 1) → In l′ f n′ (y′ + 1)) → (In l′ f n′ (y′ + 1) → In l f n (y + 1)) → has l f n y ≡ has l′ f n′ y′
+has-iff l l′ f n n′ y y′ a b = by (has l f n y) refl (has l′ f n′ y′) refl
+  where
+    by : (s : Bool) → has l f n y ≡ s → (t : Bool) → has l′ f n′ y′ ≡ t → has l f n y ≡ has l′ f n′ y′
+    by true e true d = e ∙ sym d
+    by false e false d = e ∙ sym d
+    by true e false d = cc (in-has l′ f n′ y′ (a (has-in l f n y e)))
+    by false e true d = cc (in-has l f n y (b (has-in l′ f n′ y′ d)))
+
+pub has-not : (l : List ℕ) (f n y : ℕ) → (In l f n (y + 1) → ⊥) → has l f n y ≡ false
+has-not l f n y h = sym (has-none l f y n (λ i u e. h (i, u, e)))
+
+
+-- ---- rows of 16
+
+-- no entry of the stretch at b lies in the stretch at a
+abbrev pub Clear : ℕ → ℕ → ℕ → Type 0
+Clear k a b = (x : ℕ) → x < k → a ≤ b + x → a + k ≤ b + x
+
+pub clear16 : (k a b : ℕ) → k ≤ 16 → (a ≡ b → ⊥) → Clear k (16 * a) (16 * b)
+clear16 k a b h ne x l o = omega arith

@@ -1,0 +1,45 @@
+-- What one buyer adds to the gain of a move. Assumes nothing.
+use Prim.Native.Nat.{ℕ, _+_, _≤_}
+use mathlib.Core.Path.{_≡_, refl}
+use native.Mathlib.Omega.{arith}
+use borrow.Author.Tests.{eq-eqb, ne-eqb}
+use mathlib.Core.Bool.{Bool, true, false, cond}
+use mathlib.Core.List.{List}
+use lib.Dec.{eqb}
+use lib.ListN.{getD}
+use lib.IntN.{ℤ, pos, natAbs, _-ℤ_}
+use Rattle.laws.specs.Integer.{natAbs-diff}
+
+-- the weight `w` if the count is `want`, else nothing
+unfoldable pub when : ℕ → ℕ → ℕ → ℕ
+when n want w = cond (eqb n want) w 0
+
+-- What a buyer of weight `w`, whose counts start at `crow`, adds to the gain of a vertexAt of the block `own` for the block `x`
+unfoldable pub share : List ℕ → ℕ → ℕ → ℕ → ℕ → ℤ
+share counts crow own w x =
+    cond (eqb x own) (pos 0) (pos (when (getD counts (crow + own) 0) 1 w) -ℤ pos (when (getD counts (crow + x) 0) 0 w))
+
+pub share-own : (counts : List ℕ) (crow own w x : ℕ) → x ≡ own → pos 0 ≡ share counts crow own w x
+unfolding share
+share-own counts crow own w x e = rw (eq-eqb x own e)
+
+pub share-off : (counts : List ℕ) (crow own w x f d : ℕ) (a b r : ℤ) → (x ≡ own → ⊥) → f ≡ when (getD counts (crow + own) 0) 1 w →
+    d ≡ when (getD counts (crow + x) 0) 0 w → a ≡ pos f → b ≡ pos d → r ≡ a -ℤ b → r ≡ share counts crow own w x
+unfolding share
+share-off counts crow own w x f d a b r ne ef ed ea eb er = rw (ne-eqb x own ne) (rw (er, ea, eb, ef, ed) refl)
+
+when-le : (n want w : ℕ) → when n want w ≤ w
+unfolding when
+when-le n want w = by (eqb n want)
+  where
+    by : (t : Bool) → cond t w 0 ≤ w
+    by true = omega arith
+    by false = omega arith
+
+pub share-le : (counts : List ℕ) (crow own w x : ℕ) → natAbs (share counts crow own w x) ≤ w
+unfolding share
+share-le counts crow own w x = by (eqb x own)
+  where
+    by : (t : Bool) → natAbs (cond t (pos 0) (pos (when (getD counts (crow + own) 0) 1 w) -ℤ pos (when (getD counts (crow + x) 0) 0 w))) ≤ w
+    by true = omega arith
+    by false = natAbs-diff (when (getD counts (crow + own) 0) 1 w) (when (getD counts (crow + x) 0) 0 w) w (when-le (getD counts (crow + own) 0) 1 w) (when-le (getD counts (crow + x) 0) 0 w)

@@ -1,0 +1,212 @@
+// Pin counts, connectivity sets and gains, and the one change of a pin that they are kept in step with. Gains of a net's other pins change
+// only where a count leaves or reaches 0 or 1.
+mod counts;
+mod shares;
+
+ghost use Prim.Native.Nat.{ℕ, _+_, _*_, _-_, _<_, _≤_};
+ghost use mathlib.Core.Path.{_≡_};
+ghost use lib.ListN.{length, getD, set};
+ghost use lib.IntN.{ℤ, pos, natAbs, _+ℤ_};
+ghost use Rattle.connectivity.specs.Raised.{Raised, at};
+ghost use Rattle.laws.specs.Place.{place};
+ghost use Rattle.connectivity.specs.Row.{row};
+ghost use Rattle.connectivity.specs.Laid.{Laid, given, signed};
+ghost use Rattle.connectivity.specs.Set.{Sets, Set};
+ghost use Rattle.connectivity.specs.Touch.{Room, One, But, Amount, Touches, Others, Delta};
+ghost use Rattle.connectivity.specs.Fast.{CountAt, OwnRow};
+use counts::arrive;
+use counts::depart;
+use shares::add_at;
+use shares::share_row;
+use shares::sub_at;
+use shares::wide;
+
+fn index(x: u16) -> usize
+    ensures { λ r. ⌜ r ≡ x ⌝ }
+{
+    x as usize
+}
+
+fn shift_at(g: &mut [i32], i: usize, w: u16, take: bool)
+    requires { ⌜ i < length (now g) ⌝ }
+    requires { ⌜ natAbs (at (now g) i) ≤ 2010000 ⌝ }
+    ensures { λ _. ⌜ now (g .exit) ≡ set (now (g .entry)) i (at (now (g .entry)) i +ℤ signed take (pos w)) ⌝ }
+{
+    if take {
+        sub_at(g, i, wide(w));
+    } else {
+        add_at(g, i, wide(w));
+    }
+}
+
+// The weight at the block `a` of the vertex `q`, if the count `f` is `want`.
+fn one_entry(gains: &mut [i32], q: usize, a: usize, f: u16, want: u16, k: usize, w: u16, take: bool)
+    requires { ⌜ Room (now gains) q k w ⌝ }
+    requires { ⌜ a ≤ k ⌝ }
+    requires { ⌜ (f ≡ want → 1 ≤ a) ⌝ }
+    ensures { λ _. ⌜ Raised (One take f want a w) (16 * q) k (now (gains .entry)) (now (gains .exit)) ⌝ }
+{
+    if f != want {
+        return;
+    }
+    shift_at(gains, 16 * q + (a - 1), w, take);
+}
+
+fn amount(j: usize, a: usize, w: u16) -> u16
+    requires { ⌜ j < 16 ⌝ }
+    ensures { λ r. ⌜ Amount j a w r ⌝ }
+{
+    if j + 1 == a { 0 } else { w }
+}
+
+// The weight at each block but `a` of the vertex `q`, if its block is `a` and the count `f` is `want`.
+fn but_row(
+    gains: &mut [i32],
+    q: usize,
+    o: usize,
+    a: usize,
+    f: u16,
+    want: u16,
+    k: usize,
+    w: u16,
+    take: bool,
+)
+    requires { ⌜ Room (now gains) q k w ⌝ }
+    ensures { λ _. ⌜ Raised (But take f want o a w) (16 * q) k (now (gains .entry)) (now (gains .exit)) ⌝ }
+{
+    if f != want {
+        return;
+    }
+    if o != a {
+        return;
+    }
+    let mut j = 0;
+    while j < k {
+        let d = amount(j, a, w);
+        shift_at(gains, 16 * q + j, d, take);
+        j += 1;
+    }
+}
+
+// The four rules, at a vertex `q` of the block `o`.
+fn touch(
+    gains: &mut [i32],
+    q: usize,
+    o: usize,
+    a: usize,
+    b: usize,
+    fa: u16,
+    fb: u16,
+    k: usize,
+    w: u16,
+)
+    requires { ⌜ Touches (now gains) q o a b fa fb k w ⌝ }
+    ensures { λ _. ⌜ Raised (Delta a b fa fb w o) (16 * q) k (now (gains .entry)) (now (gains .exit)) ⌝ }
+{
+    but_row(gains, q, o, a, fa, 2, k, w, false);
+    but_row(gains, q, o, b, fb, 1, k, w, true);
+    one_entry(gains, q, a, fa, 1, k, w, true);
+    one_entry(gains, q, b, fb, 0, k, w, false);
+}
+
+// The four rules at each pin of the stretch but `x`. Where neither count is critical nothing is done.
+fn touch_others(
+    gains: &mut [i32],
+    pins: &[u16],
+    blocks: &[u16],
+    n: usize,
+    k: usize,
+    first: usize,
+    p: usize,
+    x: usize,
+    a: usize,
+    b: usize,
+    fa: u16,
+    fb: u16,
+    w: u16,
+)
+    requires { ⌜ Others (now gains) (now pins) (now blocks) n k first p x a b fa fb w ⌝ }
+    ensures { λ _. ⌜ Laid (Delta a b fa fb w) (place (row (now (pins .entry)) (now (blocks .entry)) first p) x 0) k (now (gains .entry)) (now (gains .exit)) ⌝ }
+{
+    if fa > 2 {
+        if fb > 1 {
+            return;
+        }
+    }
+    let mut i = 0;
+    while i < p {
+        let q = index(pins[first + i]) - 1;
+        if q != x {
+            let o = index(blocks[q]);
+            touch(gains, q, o, a, b, fa, fb, k, w);
+        }
+        i += 1;
+    }
+}
+
+// The shares of the net `e` in the gains of the vertex `x` alone, of the block `a`.
+fn own_row(
+    gains: &mut [i32],
+    counts: &[u16],
+    x: usize,
+    e: usize,
+    a: usize,
+    k: usize,
+    w: u16,
+    take: bool,
+)
+    requires { ⌜ OwnRow (now gains) (now counts) x e a k w ⌝ }
+    ensures { λ _. ⌜ Laid (given take (now (counts .entry)) e w) (place (λ _. 0) x a) k (now (gains .entry)) (now (gains .exit)) ⌝ }
+{
+    if a == 0 {
+        return;
+    }
+    share_row(gains, counts, x, e, a - 1, k, w, take);
+}
+
+// The count of the block `a`, or `none` where that is no block.
+fn count_at(counts: &[u16], e: usize, a: usize, none: u16) -> u16
+    requires { ⌜ 16 * e + 16 ≤ length (now counts) ⌝ }
+    requires { ⌜ a ≤ 16 ⌝ }
+    ensures { λ r. ⌜ CountAt (now (counts .entry)) e a none r ⌝ }
+{
+    if a == 0 {
+        return none;
+    }
+    counts[16 * e + (a - 1)]
+}
+
+// The net `e` counts its pin `x`, so far in the block `a`, in the block `b`; 0 is no pin. The `p` pins from `first` are those of the net, with
+// `x` or without it. The gains of the other pins change only where a count is critical: 2 or 1 at `a`, 1 or 0 at `b`.
+pub fn set_pin(
+    counts: &mut [u16],
+    visited: &mut [u16],
+    gains: &mut [i32],
+    weights: &[u16],
+    pins: &[u16],
+    blocks: &[u16],
+    n: usize,
+    m: usize,
+    k: usize,
+    first: usize,
+    p: usize,
+    e: usize,
+    x: usize,
+    a: usize,
+    b: usize,
+)
+    requires { ⌜ Sets (now weights) (now counts) (now visited) (now pins) (now blocks) (now gains) n m k first p e x a b ⌝ }
+    ensures { λ _. ⌜ Set (now (weights .entry)) (now (pins .entry)) (now (blocks .entry)) n m k first p e x a b (now (counts .entry)) (now (counts .exit)) (now (visited .entry)) (now (visited .exit)) (now (gains .entry)) (now (gains .exit)) ⌝ }
+{
+    if a == b {
+        return;
+    }
+    let w = weights[e];
+    let fa = count_at(counts, e, a, 3);
+    let fb = count_at(counts, e, b, 2);
+    own_row(gains, counts, x, e, a, k, w, true);
+    depart(counts, visited, e, a);
+    arrive(counts, visited, e, b);
+    touch_others(gains, pins, blocks, n, k, first, p, x, a, b, fa, fb, w);
+    own_row(gains, counts, x, e, b, k, w, false);
+}

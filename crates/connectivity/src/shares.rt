@@ -1,0 +1,127 @@
+// The share of a net in the gains of a vertex, put to the vertex's row of the gain table or taken from it.
+ghost use Prim.Native.Nat.{ℕ, _+_, _*_, _^_, _<_, _≤_};
+ghost use mathlib.Core.Path.{_≡_};
+ghost use lib.ListN.{length, getD, set};
+ghost use lib.IntN.{ℤ, pos, _+ℤ_, _-ℤ_, negℤ};
+ghost use mir.Syntax.{w32};
+ghost use mir.Val.{SFits};
+ghost use Rattle.connectivity.specs.Share.{share, when};
+ghost use Rattle.connectivity.specs.Raised.{Raised, Ready};
+ghost use Rattle.connectivity.specs.Laid.{signed};
+
+// The weight `w` if `n` is `want`, else 0.
+fn when_is(n: u16, want: u16, w: u16) -> u16
+    ensures { λ r. ⌜ r ≡ when n want w ⌝ }
+{
+    if n == want { w } else { 0 }
+}
+
+// The number as a signed one.
+pub fn wide(x: u16) -> i32
+    ensures { λ r. ⌜ r ≡ pos x ⌝ }
+{
+    x as i32
+}
+
+// Adds to an entry, and takes from it.
+pub fn add_at(g: &mut [i32], i: usize, s: i32)
+    requires { ⌜ i < length (now g) ⌝ }
+    requires { ⌜ SFits w32 (getD (now g) i (pos 0) +ℤ s) ⌝ }
+    ensures { λ _. ⌜ now (g .exit) ≡ set (now (g .entry)) i (getD (now (g .entry)) i (pos 0) +ℤ s) ⌝ }
+{
+    g[i] = g[i] + s;
+}
+
+pub fn sub_at(g: &mut [i32], i: usize, s: i32)
+    requires { ⌜ i < length (now g) ⌝ }
+    requires { ⌜ SFits w32 (getD (now g) i (pos 0) -ℤ s) ⌝ }
+    ensures { λ _. ⌜ now (g .exit) ≡ set (now (g .entry)) i (getD (now (g .entry)) i (pos 0) -ℤ s) ⌝ }
+{
+    g[i] = g[i] - s;
+}
+
+// The difference of two numbers.
+fn less(a: i32, b: i32) -> i32
+    requires { ⌜ SFits w32 (a -ℤ b) ⌝ }
+    ensures { λ r. ⌜ r ≡ a -ℤ b ⌝ }
+{
+    a - b
+}
+
+// The share of a net of weight `w` in the gain of the block `x` for a vertex of the block `own`.
+fn share_of(counts: &[u16], crow: usize, own: usize, w: u16, x: usize) -> i32
+    requires { ⌜ crow + own < length (now counts) ⌝ }
+    requires { ⌜ crow + x < length (now counts) ⌝ }
+    ensures { λ r. ⌜ r ≡ share (now (counts .entry)) crow own w x ⌝ }
+{
+    if x == own {
+        return 0;
+    }
+    let freed = when_is(counts[crow + own], 1, w);
+    let drawn = when_is(counts[crow + x], 0, w);
+    less(wide(freed), wide(drawn))
+}
+
+// Adds to the `k` gains at `row`, of a vertex of the block `own`, the shares of a net of weight `w` whose counts start at `crow`.
+pub fn put_share(
+    gains: &mut [i32],
+    counts: &[u16],
+    row: usize,
+    crow: usize,
+    own: usize,
+    k: usize,
+    w: u16,
+)
+    requires { ⌜ Ready (now gains) (now counts) row crow own k w ⌝ }
+    ensures { λ _. ⌜ Raised (share (now (counts .entry)) crow own w) row k (now (gains .entry)) (now (gains .exit)) ⌝ }
+{
+    let mut x = 0;
+    while x < k {
+        let s = share_of(counts, crow, own, w, x);
+        add_at(gains, row + x, s);
+        x += 1;
+    }
+}
+
+// Takes from the `k` gains at `row`, of a vertex of the block `own`, the shares of a net of weight `w` whose counts start at `crow`.
+pub fn take_share(
+    gains: &mut [i32],
+    counts: &[u16],
+    row: usize,
+    crow: usize,
+    own: usize,
+    k: usize,
+    w: u16,
+)
+    requires { ⌜ Ready (now gains) (now counts) row crow own k w ⌝ }
+    ensures { λ _. ⌜ Raised (λ x. negℤ (share (now (counts .entry)) crow own w x)) row k (now (gains .entry)) (now (gains .exit)) ⌝ }
+{
+    let mut x = 0;
+    while x < k {
+        let s = share_of(counts, crow, own, w, x);
+        sub_at(gains, row + x, s);
+        x += 1;
+    }
+}
+
+// Takes a net's shares from the gains of one vertex, or puts them.
+pub fn share_row(
+    gains: &mut [i32],
+    counts: &[u16],
+    q: usize,
+    e: usize,
+    own: usize,
+    k: usize,
+    w: u16,
+    take: bool,
+)
+    requires { ⌜ Ready (now gains) (now counts) (16 * q) (16 * e) own k w ⌝ }
+    requires { ⌜ (16 * q < 2 ^ 64) × (16 * e < 2 ^ 64) ⌝ }
+    ensures { λ _. ⌜ Raised (λ j. signed take (share (now (counts .entry)) (16 * e) own w j)) (16 * q) k (now (gains .entry)) (now (gains .exit)) ⌝ }
+{
+    if take {
+        take_share(gains, counts, 16 * q, 16 * e, own, k, w);
+    } else {
+        put_share(gains, counts, 16 * q, 16 * e, own, k, w);
+    }
+}

@@ -1,0 +1,114 @@
+-- The files that document 01 turns down, with the refusal's number and line, and files just inside its ranges: one table proved by
+-- computing, by refusal. Rests on Grammar and Report. Assumes nothing.
+use Prim.Native.Nat.{ℕ, zero, suc}
+use Prim.Native.String.{String}
+use mathlib.Core.Path.{_≡_, refl}
+use mathlib.Core.List.{List, [], _∷_, _++_}
+use Rattle.laws.specs.Sum.{sum, sumTo, foldTo}
+use Rattle.laws.specs.Fold.{sumOver, any, all}
+use Rattle.model.specs.Catalogue.{Hypergraph, Net, mainLimits, totalWeight, averageWeight, capacity}
+use Rattle.model.specs.Measure.{above, climb, representative, weight, blockWeight}
+use Rattle.model.specs.Machine.{callM, callW}
+use Rattle.model.specs.Report.{digitsOf, digits}
+use Rattle.model.specs.Grammar.{Reading, reading, stopped, marked, wrong, bytes, same, parts, isNumber, onward, value, fields, isLine, saleLine, overfull, grown, withLot, lotLine, mark, marking, withNet, bought, buyLine, asked, withCall, callLine, line, ending, lines, parse}
+
+-- a text, so many times
+unfoldable pub many : ℕ → List ℕ → List ℕ
+many zero l = []
+many (suc n) l = l ++ many n l
+
+-- what the file says under the main entry's limits
+abbrev pub says : List ℕ → Reading
+says file = parse mainLimits file
+
+-- one lot in a catalogue of two sessions with the widest slack
+abbrev pub lone : List ℕ
+lone = bytes "SALE,1,0,2,1000\nLOT,7,1\n"
+
+-- nine lots, and so many buyers announced
+abbrev pub nine : ℕ → List ℕ
+nine buyers = bytes "SALE,9," ++ digits buyers ++ bytes ",2,1000\n" ++ many 9 (bytes "LOT,1,1\n")
+
+-- a buyer with a mark at each of them
+abbrev pub nineMarks : List ℕ
+nineMarks = bytes "BUY,1,1,2,3,4,5,6,7,8,9\n"
+
+-- a catalogue of one lot
+abbrev pub oneLot : Hypergraph
+oneLot = record { blocks = 2; imbalance = 0; weights = 1 ∷ []; draft = 1 ∷ []; nets = [] }
+
+pub edges :
+    -- 1: 60,001 bytes on line 0; 60,000 are read
+    (says (many 60001 (bytes "S")) ≡ stopped 1 0)
+    × (says (many 60000 (bytes "S")) ≡ stopped 2 1)
+    -- 2: form, a missing line, a missing line feed
+    × (says (bytes "") ≡ stopped 2 1)
+    × (says (bytes "SALE,1,0,2,0\nLOT,07,1\n") ≡ stopped 2 2)
+    × (says (bytes "SALE,1,1,2,1000\nLOT,7,1\nBUY,1\n") ≡ stopped 2 3)
+    × (says (bytes "SALE,1,0,2\n") ≡ stopped 2 1)
+    × (says (bytes "SALE,1,0,2,0,\n") ≡ stopped 2 1)
+    × (says (bytes "SALE,1,0,2,1234567890\n") ≡ stopped 2 1)
+    × (says (bytes "sale,1,0,2,0\n") ≡ stopped 2 1)
+    × (says (bytes "SALE,1,0,2,1000\n") ≡ stopped 2 2)
+    × (says (bytes "SALE,1,0,2,1000\nLOT,7,1") ≡ stopped 2 2)
+    × (says (bytes "SALE,1,1,2,1000\nLOT,7,1\n") ≡ stopped 2 3)
+    × (says (bytes "SALE,1,0,2,1000\nLOT,7,1\n\n") ≡ stopped 2 3)
+    × (says (bytes "SALE,1,0,2,1000\nLOT,7,1\nJ,1\n") ≡ stopped 2 3)
+    × (says (bytes "SALE,1,0,2,1000\nLOT,7,1\nS,\n") ≡ stopped 2 3)
+    × (says (bytes "SALE,1,0,2,1000\nLOT,7,1\nB") ≡ stopped 2 3)
+    -- 3: a catalogue field outside its range
+    × (says (bytes "SALE,0,0,2,0\n") ≡ stopped 3 1)
+    × (says (bytes "SALE,1025,0,2,0\n") ≡ stopped 3 1)
+    × (says (bytes "SALE,1,1025,2,0\n") ≡ stopped 3 1)
+    × (says (bytes "SALE,1,0,1,0\n") ≡ stopped 3 1)
+    × (says (bytes "SALE,1,0,17,0\n") ≡ stopped 3 1)
+    × (says (bytes "SALE,1,0,2,1001\n") ≡ stopped 3 1)
+    × (says (bytes "SALE,1,0,2,1000\nLOT,0,1\n") ≡ stopped 3 2)
+    × (says (bytes "SALE,1,0,2,1000\nLOT,65536,1\n") ≡ stopped 3 2)
+    × (says (bytes "SALE,1,0,2,1000\nLOT,7,0\n") ≡ stopped 3 2)
+    × (says (bytes "SALE,1,0,2,1000\nLOT,7,3\n") ≡ stopped 3 2)
+    × (says (bytes "SALE,1,1,2,1000\nLOT,7,1\nBUY,0,1\n") ≡ stopped 3 3)
+    × (says (bytes "SALE,1,1,2,1000\nLOT,7,1\nBUY,1001,1\n") ≡ stopped 3 3)
+    × (says (bytes "SALE,1,1,2,1000\nLOT,7,1\nBUY,1,2\n") ≡ stopped 3 3)
+    × (says (bytes "SALE,1,1,2,1000\nLOT,7,1\nBUY,1,0\n") ≡ stopped 3 3)
+    -- 4: a lot twice with one buyer
+    × (says (bytes "SALE,1,1,2,1000\nLOT,7,1\nBUY,1,1,1\n") ≡ stopped 4 3)
+    -- 5: the 8,193rd mark; of one mark 3 and 4 come before 5
+    × (says (nine 912 ++ many 910 nineMarks ++ bytes "BUY,1,1,2\nBUY,1,3\n") ≡ stopped 5 922)
+    × (mark oneLot (marked [] 8191) 1 ≡ marked (1 ∷ []) 8192)
+    × (mark oneLot (marked [] 8192) 1 ≡ wrong 5)
+    × (mark oneLot (marked (1 ∷ []) 8192) 1 ≡ wrong 4)
+    × (mark oneLot (marked [] 8192) 2 ≡ wrong 3)
+    -- 6: on the last catalogue line, a lot's or a buyer's, and before the calls
+    × (says (bytes "SALE,1,0,2,0\nLOT,7,1\nP\n") ≡ stopped 6 2)
+    × (says (bytes "SALE,1,1,2,0\nLOT,7,1\nBUY,1,1\nP\n") ≡ stopped 6 3)
+    -- 7: the 513th call line, before its form and before its missing line feed
+    × (says (lone ++ many 512 (bytes "S\n") ++ bytes "x\n") ≡ stopped 7 515)
+    × (says (lone ++ many 512 (bytes "S\n") ++ bytes "S") ≡ stopped 7 515)
+    × (says (lone ++ many 511 (bytes "S\n") ++ bytes "x\n") ≡ stopped 2 514)
+    -- two faults in one file: the earlier line, the form of a line before its fields, fields from left to right, each mark by 3, 4
+    × (says (bytes "SALE,1,0,2,1001\nLOT,07,1\n") ≡ stopped 3 1)
+    × (says (bytes "SALE,1,0,2,0\nLOT,0,x\n") ≡ stopped 2 2)
+    × (says (bytes "SALE,1,0,2,0\nLOT,0,1") ≡ stopped 2 2)
+    × (says (bytes "SALE,2,1,2,1000\nLOT,7,1\nLOT,7,1\nBUY,1,1,1,3\n") ≡ stopped 4 4)
+    × (says (bytes "SALE,2,1,2,1000\nLOT,7,1\nLOT,7,1\nBUY,1,1,3,1\n") ≡ stopped 3 4)
+    × (says (bytes "SALE,2,1,2,1000\nLOT,7,1\nLOT,7,1\nBUY,0,1,1\n") ≡ stopped 3 4)
+    × (says (bytes "SALE,1,1,2,0\nLOT,7,1\nBUY,1,1,1\n") ≡ stopped 4 3)
+    × (says (bytes "SALE,1,0,2,0\nLOT,7,1\nx\n") ≡ stopped 6 2)
+    -- accepted: slack 1,000; the greatest numbers of the lines; no buyer, no call
+    × (says (bytes "SALE,1,0,2,1000\nLOT,65535,1\n") ≡ reading (record {
+      lots = 1;
+      buyers = 0;
+      graph = record { blocks = 2; imbalance = 1000; weights = 65535 ∷ []; draft = 1 ∷ []; nets = [] };
+      marks = 0;
+      calls = [];
+    }))
+    × (says (bytes "SALE,1,1,16,1000\nLOT,1,16\nBUY,1000,1\nM,999999999,0\nW,1,1\n") ≡ reading (record {
+      lots = 1;
+      buyers = 1;
+      graph = record { blocks = 16; imbalance = 1000; weights = 1 ∷ []; draft = 16 ∷ []; nets = record { weight = 1000; pins = 1 ∷ [] } ∷ [] };
+      marks = 1;
+      calls = callM 999999999 0 ∷ callW 1 1 ∷ [];
+    }))
+unfolding many digitsOf digits sum sumTo foldTo sumOver any all totalWeight averageWeight capacity above climb representative weight blockWeight bytes same parts isNumber onward value fields isLine saleLine overfull grown withLot lotLine mark marking withNet bought buyLine asked withCall callLine line ending lines parse
+edges = (refl, refl, refl, refl, refl, refl, refl, refl, refl, refl, refl, refl, refl, refl, refl, refl, refl, refl, refl, refl, refl, refl, refl, refl, refl, refl, refl, refl, refl, refl, refl, refl, refl, refl, refl, refl, refl, refl, refl, refl, refl, refl, refl, refl, refl, refl, refl, refl, refl, refl, refl)

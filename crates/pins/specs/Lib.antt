@@ -1,0 +1,9 @@
+-- Pin lists and their undo.
+-- Link     a pin replaced or removed in one stretch, and put back
+-- Stack    what the contraction stack says of a net: its pins, and those removed, the last removed first
+-- Stretch  one net's list against the stack
+-- Board    all nets' lists and the incidence against a stack for each net
+pub mod Link
+pub mod Stack
+pub mod Stretch
+pub mod Board

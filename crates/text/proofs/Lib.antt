@@ -1,0 +1,5 @@
+pub mod Walk
+pub mod Compare
+pub mod Lines
+pub mod Digits
+pub mod Signs

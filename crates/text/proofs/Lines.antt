@@ -1,0 +1,200 @@
+-- Laws of a line's fields: which of them a cursor stands at, how many there are, what a line's form tells. Rests on Walk and Compare.
+use Prim.Native.Nat.{ℕ, zero, suc, _+_, _-_, _≤_, _<_}
+use Prim.Native.String.{String}
+use mathlib.Core.Path.{_≡_, refl, ap, sym, _∙_}
+use mathlib.Core.List.{List, [], _∷_}
+use mathlib.Core.Bool.{Bool, true, false, _&&_, cond}
+use native.Mathlib.Omega.{arith}
+use lib.ListN.{length, getD, drop}
+use lib.Seq.{slice}
+use lib.Dec.{eqb, ltb}
+use borrow.Author.Tests.{ltb-true, ltb-false, eq-eqb, ne-eqb}
+use Rattle.laws.specs.Fold.{all}
+use Rattle.laws.specs.Choice.{and-left, and-right}
+use Rattle.model.specs.Grammar.{Fields, same, parts, isNumber, value, fields, bytes, isLine, isLineOf}
+use Rattle.text.specs.Field.{first, FirstAt, readOf, counted, formOf, Numbered, Third}
+use Rattle.text.specs.declared.Read.{Read}
+use Rattle.text.specs.declared.Read.the-variants.{Whole, Not}
+use Rattle.text.proofs.Walk.{fields-on, fields-one, whole-cases, not-cases, parts-some}
+
+-- a field that was read
+pub whole-is : (f : List ℕ) (v : ℕ) → Whole v ≡ readOf f → (isNumber f ≡ true) × (v ≡ value f)
+whole-is f v e = whole-cases (isNumber f) v (value f) e
+
+pub not-is : (f : List ℕ) → Not ≡ readOf f → isNumber f ≡ false
+not-is f e = not-cases (isNumber f) (value f) e
+
+pub never : true ≡ false → ⊥
+never e = let z : _≡_ {A = ℕ} 0 1 = cc in omega arith
+
+-- ---- the parts from a cursor on, where `find` answered e
+module _ (s : List ℕ) (i end sep e : ℕ) (le : i ≤ end) (within : end ≤ length s) (found : FirstAt s i end sep e) where
+  pub parts-on : e < end → parts sep (slice i end s) ≡ slice i e s ∷ parts sep (slice (e + 1) end s)
+  parts-on x = fields-on s i end e sep le within (found .is) x
+
+  pub parts-last : e ≡ end → parts sep (slice i end s) ≡ slice i e s ∷ []
+  parts-last x = fields-one s i end e sep le within (found .is) (omega arith) ∙ ap (λ (n : ℕ). slice i n s ∷ []) (sym x)
+
+  pub parts-first : (ps : Fields) × (parts sep (slice i end s) ≡ slice i e s ∷ ps)
+  parts-first = go (ltb e end) refl
+    where
+      go : (t : Bool) → ltb e end ≡ t → (ps : Fields) × (parts sep (slice i end s) ≡ slice i e s ∷ ps)
+      go true q = (parts sep (slice (e + 1) end s), parts-on (ltb-true e end q))
+      go false q = ([], parts-last (omega (arith, ltb-false e end q, found .high)))
+
+-- ---- counting
+pub counted-no : (k : ℕ) (f : List ℕ) (fs : Fields) → isNumber f ≡ false → counted k (f ∷ fs) ≡ 0
+unfolding counted all
+counted-no k f fs e = rw e
+
+pub counted-on : (k : ℕ) (f : List ℕ) (fs : Fields) → isNumber f ≡ true → counted k (f ∷ fs) ≡ counted (k + 1) fs
+unfolding counted all
+counted-on k f fs e = let z : k + suc (length fs) ≡ k + 1 + length fs = omega arith in rw (e, z)
+
+pub counted-end : (k : ℕ) → counted k [] ≡ k
+unfolding counted all
+counted-end k = omega arith
+
+module _ (s : List ℕ) (i end e k : ℕ) (le : i ≤ end) (within : end ≤ length s) (found : FirstAt s i end 44 e) where
+  pub count-no : Not ≡ readOf (slice i e s) → counted k (parts 44 (slice i end s)) ≡ 0
+  count-no h = let p = parts-first s i end 44 e le within found in
+      ap (counted k) (p .1) ∙ counted-no k (slice i e s) (p .0) (not-is (slice i e s) h)
+
+  module _ (v : ℕ) (h : Whole v ≡ readOf (slice i e s)) where
+    pub count-last : e ≡ end → counted k (parts 44 (slice i end s)) ≡ k + 1
+    count-last x = ap (counted k) (parts-last s i end 44 e le within found x) ∙ counted-on k (slice i e s) [] (whole-is (slice i e s) v h .0) ∙ counted-end (k + 1)
+
+    pub count-on : e < end → counted k (parts 44 (slice i end s)) ≡ counted (k + 1) (parts 44 (slice (e + 1) end s))
+    count-on x = ap (counted k) (parts-on s i end 44 e le within found x) ∙ counted-on k (slice i e s) (parts 44 (slice (e + 1) end s)) (whole-is (slice i e s) v h .0)
+
+-- ---- the form of a line
+module _ (s w : List ℕ) (at end a : ℕ) (le : at ≤ end) (within : end ≤ length s) (found : FirstAt s at end 44 a) where
+  pub form-no : same (slice at a s) w ≡ false → 0 ≡ formOf w (fields (slice at end s))
+  unfolding formOf fields
+  form-no h = rw (parts-first s at end 44 a le within found .1, h)
+
+  pub form-one : same (slice at a s) w ≡ true → a ≡ end → 1 ≡ formOf w (fields (slice at end s))
+  unfolding formOf fields
+  form-one h x = rw (parts-last s at end 44 a le within found x, h) (sym (counted-end 1))
+
+  pub form-on : same (slice at a s) w ≡ true → a < end → counted 1 (parts 44 (slice (a + 1) end s)) ≡ formOf w (fields (slice at end s))
+  unfolding formOf fields
+  form-on h x = rw (parts-on s at end 44 a le within found x, h)
+
+-- ---- the i-th field
+numbered-tail : (f : List ℕ) (fs : Fields) (k : ℕ) → 0 < k → Numbered (f ∷ fs) k → Numbered fs (k - 1)
+numbered-tail f fs zero l n = absurd (omega arith)
+numbered-tail f fs (suc k) l n = let z : suc k - 1 ≡ k = omega arith in record { inside = omega (arith, n .inside); is = rw z (n .is) }
+
+tail-at : (f : List ℕ) (fs : Fields) (k : ℕ) → 0 < k → getD (f ∷ fs) k [] ≡ getD fs (k - 1) []
+tail-at f fs zero l = absurd (omega arith)
+tail-at f fs (suc k) l = let z : suc k - 1 ≡ k = omega arith in rw z
+
+pub record OnGet (s : List ℕ) (at end i a k : ℕ) : Type 0 where
+  pub high : a ≤ end
+  pub num : Numbered (parts 44 (slice a end s)) k
+  pub says : getD (parts 44 (slice at end s)) i [] ≡ getD (parts 44 (slice a end s)) k []
+
+pub get-start : (s : List ℕ) (at end i : ℕ) → at ≤ end → Numbered (fields (slice at end s)) i → OnGet s at end i at i
+unfolding fields
+get-start s at end i l n = record { high = l; num = n; says = refl }
+
+module _ (s : List ℕ) (at end i a k e : ℕ) (on : OnGet s at end i a k) (within : end ≤ length s) (found : FirstAt s a end 44 e) where
+  pub get-short : 0 < k → e ≡ end → ⊥
+  get-short l x = let n = rw (parts-last s a end 44 e (on .high) within found x) at (on .num .inside) in omega arith
+
+  pub get-on : 0 < k → e < end → OnGet s at end i (e + 1) (k - 1)
+  get-on l x =
+      let p = parts-on s a end 44 e (on .high) within found x in
+      record {
+        high = omega arith;
+        num = numbered-tail (slice a e s) (parts 44 (slice (e + 1) end s)) k l (rw p at (on .num));
+        says = on .says ∙ ap (λ (fs : Fields). getD fs k []) p ∙ tail-at (slice a e s) (parts 44 (slice (e + 1) end s)) k l;
+      }
+
+  module _ (z : k ≡ 0) where
+    here : getD (parts 44 (slice at end s)) i [] ≡ slice a e s
+    here = on .says ∙ ap (λ (n : ℕ). getD (parts 44 (slice a end s)) n []) z ∙ ap (λ (fs : Fields). getD fs 0 []) (parts-first s a end 44 e (on .high) within found .1)
+
+    pub get-value : (v : ℕ) → Whole v ≡ readOf (slice a e s) → v ≡ value (getD (fields (slice at end s)) i [])
+    unfolding fields
+    get-value v h = whole-is (slice a e s) v h .1 ∙ ap value (sym here)
+
+    pub get-none : Not ≡ readOf (slice a e s) → ⊥
+    get-none h = never (sym (on .num .is) ∙ ap (λ (n : ℕ). isNumber (getD (parts 44 (slice a end s)) n [])) z ∙ ap (λ (fs : Fields). isNumber (getD fs 0 [])) (parts-first s a end 44 e (on .high) within found .1) ∙ not-is (slice a e s) h)
+
+-- ---- what a form says of the line
+pub record Formed (w : List ℕ) (fs : Fields) (n : ℕ) : Type 0 where
+  pub word : same (getD fs 0 []) w ≡ true
+  pub nums : all (drop 1 fs) isNumber ≡ true
+  pub size : 1 + length (drop 1 fs) ≡ n
+
+pub formed : (w : List ℕ) (fs : Fields) (n : ℕ) → formOf w fs ≡ suc n → Formed w fs (suc n)
+unfolding formOf counted
+formed w fs n e = go (same (getD fs 0 []) w) refl (all (drop 1 fs) isNumber) refl e
+  where
+    go : (a : Bool) → same (getD fs 0 []) w ≡ a → (b : Bool) → all (drop 1 fs) isNumber ≡ b → cond a (cond b (1 + length (drop 1 fs)) 0) 0 ≡ suc n → Formed w fs (suc n)
+    go true p true q h = record { word = p; nums = q; size = h }
+    go true p false q h = absurd (omega arith)
+    go false p b q h = absurd (omega arith)
+
+all-at : (fs : Fields) (i : ℕ) → all fs isNumber ≡ true → i < length fs → isNumber (getD fs i []) ≡ true
+unfolding all
+all-at [] i e l = absurd (omega arith)
+all-at (f ∷ fs) zero e l = and-left (isNumber f) (all fs isNumber) e
+all-at (f ∷ fs) (suc i) e l = all-at fs i (and-right (isNumber f) (all fs isNumber) e) (omega arith)
+
+pub numbered : (w : List ℕ) (fs : Fields) (n i : ℕ) → formOf w fs ≡ suc n → 1 ≤ i → i ≤ n → Numbered fs i
+numbered w fs n i e l u = go fs i (formed w fs n e) l u
+  where
+    go : (fs : Fields) (i : ℕ) → Formed w fs (suc n) → 1 ≤ i → i ≤ n → Numbered fs i
+    go [] i f l u = absurd (omega (arith, f .size))
+    go (g ∷ gs) zero f l u = absurd (omega arith)
+    go (g ∷ gs) (suc i) f l u = record { inside = omega (arith, f .size); is = all-at gs i (f .nums) (omega (arith, f .size)) }
+
+pub fields-cons : (l : List ℕ) → (f : List ℕ) × (fs : Fields) × (fields l ≡ f ∷ fs)
+unfolding fields
+fields-cons l = go (parts 44 l) refl
+  where
+    go : (ps : Fields) → parts 44 l ≡ ps → (f : List ℕ) × (fs : Fields) × (parts 44 l ≡ f ∷ fs)
+    go [] e = absurd (parts-some 44 l e)
+    go (f ∷ fs) e = (f, fs, e)
+
+line-of : (word : String) (n : ℕ) (f : List ℕ) (fs : Fields) → isLineOf word n (f ∷ fs) ≡ eqb (formOf (bytes word) (f ∷ fs)) (suc n)
+unfolding isLine formOf counted
+line-of word n f fs = go (same f (bytes word)) (all fs isNumber)
+  where
+    go : (a b : Bool) → (a && b && eqb (suc (length fs)) (suc n)) ≡ eqb (cond a (cond b (1 + length fs) 0) 0) (suc n)
+    go true true = let z : 1 + length fs ≡ suc (length fs) = omega arith in rw z
+    go true false = sym (ne-eqb 0 (suc n) (λ e. omega arith))
+    go false b = sym (ne-eqb 0 (suc n) (λ e. omega arith))
+
+module _ (word : String) (w : List ℕ) (n r : ℕ) (l : List ℕ) (is : bytes word ≡ w) (form : r ≡ formOf w (fields l)) where
+  of : isLineOf word n (fields l) ≡ eqb r (suc n)
+  of = let c = fields-cons l in
+      ap (isLineOf word n) (c .2) ∙ line-of word n (c .0) (c .1) ∙ ap (λ (g : Fields). eqb (formOf (bytes word) g) (suc n)) (sym (c .2)) ∙ ap (λ (v : List ℕ). eqb (formOf v (fields l)) (suc n)) is ∙ ap (λ (m : ℕ). eqb m (suc n)) (sym form)
+
+  pub line-yes : r ≡ suc n → isLineOf word n (fields l) ≡ true
+  line-yes e = of ∙ eq-eqb r (suc n) e
+
+  pub line-no : (r ≡ suc n → ⊥) → isLineOf word n (fields l) ≡ false
+  line-no e = of ∙ ne-eqb r (suc n) e
+
+-- ---- the third field
+module _ (s : List ℕ) (at end a : ℕ) (le : at ≤ end) (within : end ≤ length s) (found : FirstAt s at end 44 a) (long : 3 ≤ length (fields (slice at end s))) where
+  pub third-one : a ≡ end → ⊥
+  unfolding fields
+  third-one x = omega (arith, long, ap length (parts-last s at end 44 a le within found x))
+
+  module _ (more : a < end) (b : ℕ) (found2 : FirstAt s (a + 1) end 44 b) where
+    pub third-two : b ≡ end → ⊥
+    unfolding fields
+    third-two x = omega (arith, long, ap length (parts-on s at end 44 a le within found more), ap length (parts-last s (a + 1) end 44 b (omega arith) within found2 x))
+
+    pub third-here : b < end → Third s at end (b + 1)
+    unfolding fields
+    third-here x = record {
+      low = omega (arith, found .low, found2 .low);
+      high = omega arith;
+      is = sym (ap (drop 2) (parts-on s at end 44 a le within found more) ∙ ap (drop 1) (parts-on s (a + 1) end 44 b (omega arith) within found2 x));
+    }

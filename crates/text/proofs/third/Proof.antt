@@ -1,0 +1,37 @@
+-- `text::third` meets its contract.
+use Rattle.text.proofs.Lines.{third-one, third-two, third-here}
+use native.Mathlib.Omega.{arith}
+use mathlib.Core.Path.{_≡_, sym, _∙_, ap}
+use denote.Ref.{now}
+use borrow.Author.Needs.{needs}
+use Rattle.text.proofs.third.Statement.{statement}
+use Rattle.text.proofs.third.Tie as tie
+use Rattle.text.proofs.third.Reads as reads
+use Rattle.text.proofs.third.Lts as lts
+use Rattle.text.proofs.find.Reads as find-reads
+
+find-requires : tie.Need-find-requires
+find-requires c κs = search needs
+
+returns : tie.Need-returns
+returns c = let a = c .before .before .before .args in absurd (third-one (now (a .s)) (a .at) (a .end) (c .before .find .result) (omega arith) (omega arith) (c .before .find .ensures) (c .before .before .before .pre .2) (omega arith))
+
+add-find : tie.Need-add-find
+add-find c = search needs
+
+find-requires-2 : tie.Need-find-requires-2
+find-requires-2 c κs = search needs
+
+returns-2 : tie.Need-returns-2
+returns-2 c = let a = c .before .before .before .before .before .args in absurd (third-two (now (a .s)) (a .at) (a .end) (c .before .before .before .find .result) (omega arith) (omega arith) (c .before .before .before .find .ensures) (c .before .before .before .before .before .pre .2) (omega arith) (c .before .find2 .result) (c .before .find2 .ensures) (omega arith))
+
+add-result : tie.Need-add-result
+add-result c = search needs
+
+returns-3 : tie.Need-returns-3
+returns-3 c = let a = c .before .before .before .before .before .args in third-here (now (a .s)) (a .at) (a .end) (c .before .before .before .find .result) (omega arith) (omega arith) (c .before .before .before .find .ensures) (c .before .before .before .before .before .pre .2) (omega arith) (c .before .find2 .result) (c .before .find2 .ensures) (omega arith)
+
+pub third-spec : {M : Type 1} → statement M
+third-spec =
+    tie.close
+    (tie.spec find-requires returns add-find find-requires-2 returns-2 add-result returns-3)

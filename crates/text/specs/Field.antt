@@ -1,0 +1,46 @@
+-- The first separator of a stretch of bytes, the number that a field holds, and a line's form. Rests on model's grammar. Assumes nothing.
+use Prim.Native.Nat.{ℕ, zero, suc, _+_, _≤_, _<_}
+use mathlib.Core.Path.{_≡_}
+use mathlib.Core.Bool.{Bool, true, false, cond}
+use mathlib.Core.List.{List, [], _∷_}
+use lib.Dec.{eqb}
+use lib.ListN.{length, getD, drop}
+use lib.Seq.{slice}
+use Rattle.laws.specs.Fold.{all}
+use Rattle.model.specs.Grammar.{Fields, same, parts, fields, isNumber, value}
+use Rattle.text.specs.declared.Read.{Read}
+use Rattle.text.specs.declared.Read.the-variants.{Whole, Not}
+
+-- how many elements stand before the first separator: all of them, where there is none
+abbrev pub first : ℕ → List ℕ → ℕ
+first sep [] = zero
+first sep (b ∷ bs) = cond (eqb b sep) zero (suc (first sep bs))
+
+-- r is where the first separator of s from `at` to `end` stands, or `end`; the bounds follow from `is`
+pub record FirstAt (s : List ℕ) (at end sep r : ℕ) : Type 0 where
+  pub is : r ≡ at + first sep (slice at end s)
+  pub low : at ≤ r
+  pub high : r ≤ end
+
+-- what a field holds: a number of document 01, or none
+abbrev pub readOf : List ℕ → Read
+readOf f = cond (isNumber f) (Whole (value f)) Not
+
+-- k and the number of fields, if all are numbers; else 0
+unfoldable pub counted : ℕ → Fields → ℕ
+counted k fs = cond (all fs isNumber) (k + length fs) 0
+
+-- a line's form: the number of its fields, if it begins with the word and goes on with numbers; else 0
+unfoldable pub formOf : List ℕ → Fields → ℕ
+formOf w fs = cond (same (getD fs 0 []) w) (counted 1 (drop 1 fs)) 0
+
+-- the i-th field is there and is a number
+pub record Numbered (fs : Fields) (i : ℕ) : Type 0 where
+  pub inside : i < length fs
+  pub is : isNumber (getD fs i []) ≡ true
+
+-- the third field of the line from `at` to `end` starts at r
+pub record Third (s : List ℕ) (at end r : ℕ) : Type 0 where
+  pub low : at ≤ r
+  pub high : r ≤ end
+  pub is : parts 44 (slice r end s) ≡ drop 2 (fields (slice at end s))

@@ -1,0 +1,200 @@
+// Fields, lines and numbers of a sale file, and numbers written into a buffer. Each function is proved against a definition of model.
+ghost use mathlib.Core.Path.{_≡_};
+ghost use Prim.Native.Nat.{ℕ, _+_, _-_, _≤_, _<_};
+ghost use lib.ListN.{length};
+ghost use lib.Seq.{slice};
+ghost use Rattle.model.specs.Grammar.{same, parts, fields, at as fieldAt};
+ghost use Rattle.model.specs.Report.{digits, signed};
+ghost use Rattle.text.specs.Field.{FirstAt, readOf, counted, formOf, Numbered, Third};
+ghost use Rattle.text.specs.Output.{written, signOf};
+
+// What a field holds.
+pub enum Read {
+    Whole(u32),
+    Not,
+}
+
+// A number's size, and on which side of 0 it lies.
+pub enum Sign {
+    Plus(u32),
+    Minus(u32),
+}
+
+// The first `sep` at or after `at` and before `end`, or `end`.
+pub fn find(s: &[u8], at: usize, end: usize, sep: u8) -> usize
+    requires { ⌜ (at ≤ end) × (end ≤ length (now s)) ⌝ }
+    ensures { λ r. ⌜ FirstAt (now (s .entry)) at end sep r ⌝ }
+{
+    let mut i = at;
+    while i < end {
+        if s[i] == sep {
+            return i;
+        }
+        i += 1;
+    }
+    i
+}
+
+// What the field from `at` to `end` holds.
+pub fn number(s: &[u8], at: usize, end: usize) -> Read
+    requires { ⌜ (at ≤ end) × (end ≤ length (now s)) ⌝ }
+    ensures { λ r. ⌜ r ≡ readOf (slice at end (now (s .entry))) ⌝ }
+{
+    let n = end - at;
+    if n == 0 {
+        return Read::Not;
+    }
+    if 1 < n {
+        if s[at] == 48 {
+            return Read::Not;
+        }
+    }
+    if 9 < n {
+        return Read::Not;
+    }
+    let mut v: u32 = 0;
+    let mut i = at;
+    while i < end {
+        let b = s[i];
+        if b < 48 {
+            return Read::Not;
+        }
+        if 57 < b {
+            return Read::Not;
+        }
+        v = v * 10 + (b - 48) as u32;
+        i += 1;
+    }
+    Read::Whole(v)
+}
+
+// Whether the field from `at` to `end` is `w`.
+pub fn word(s: &[u8], at: usize, end: usize, w: &[u8]) -> bool
+    requires { ⌜ (at ≤ end) × (end ≤ length (now s)) ⌝ }
+    ensures { λ r. ⌜ r ≡ same (slice at end (now (s .entry))) (now (w .entry)) ⌝ }
+{
+    if end - at != w.len() {
+        return false;
+    }
+    let mut i = 0;
+    while i < w.len() {
+        if s[at + i] != w[i] {
+            return false;
+        }
+        i += 1;
+    }
+    true
+}
+
+// One more than the number of fields from `at` to `end`, if each is a number; else 0.
+pub fn count(s: &[u8], at: usize, end: usize) -> usize
+    requires { ⌜ (1 ≤ at) × (at ≤ end) × (end ≤ length (now s)) ⌝ }
+    ensures { λ r. ⌜ r ≡ counted 1 (parts 44 (slice at end (now (s .entry)))) ⌝ }
+{
+    let mut i = at;
+    let mut k: usize = 1;
+    loop {
+        let e = find(s, i, end, 44);
+        let f = number(s, i, e);
+        if let Read::Not = f {
+            return 0;
+        }
+        k += 1;
+        if e == end {
+            return k;
+        }
+        i = e + 1;
+    }
+}
+
+// A line's form: how many fields it has, if it begins with `w` and goes on with numbers; else 0.
+pub fn form(s: &[u8], at: usize, end: usize, w: &[u8]) -> usize
+    requires { ⌜ (at ≤ end) × (end ≤ length (now s)) ⌝ }
+    ensures { λ r. ⌜ r ≡ formOf (now (w .entry)) (fields (slice at end (now (s .entry)))) ⌝ }
+{
+    let a = find(s, at, end, 44);
+    if !word(s, at, a, w) {
+        return 0;
+    }
+    if a == end {
+        return 1;
+    }
+    count(s, a + 1, end)
+}
+
+// The number in the i-th field.
+pub fn get(s: &[u8], at: usize, end: usize, i: usize) -> u32
+    requires { ⌜ (at ≤ end) × (end ≤ length (now s)) × Numbered (fields (slice at end (now s))) i ⌝ }
+    ensures { λ r. ⌜ r ≡ fieldAt (fields (slice at end (now (s .entry)))) i ⌝ }
+{
+    let mut a = at;
+    let mut k = i;
+    while 0 < k {
+        let e = find(s, a, end, 44);
+        if e == end {
+            return 0;
+        }
+        a = e + 1;
+        k -= 1;
+    }
+    let e = find(s, a, end, 44);
+    match number(s, a, e) {
+        Read::Whole(v) => v,
+        Read::Not => 0,
+    }
+}
+
+// Where the third field of a line starts.
+pub fn third(s: &[u8], at: usize, end: usize) -> usize
+    requires { ⌜ (at ≤ end) × (end ≤ length (now s)) × (3 ≤ length (fields (slice at end (now s)))) ⌝ }
+    ensures { λ r. ⌜ Third (now (s .entry)) at end r ⌝ }
+{
+    let a = find(s, at, end, 44);
+    if a == end {
+        return end;
+    }
+    let b = find(s, a + 1, end, 44);
+    if b == end {
+        return end;
+    }
+    b + 1
+}
+
+// Writes x in base ten from `at` on, and says where it ends.
+pub fn put_number(out: &mut [u8], at: usize, x: u32) -> usize
+    requires { ⌜ at + length (digits x) ≤ length (now out) ⌝ }
+    ensures { λ r. ⌜ (r ≡ at + length (digits x)) × (now (out .exit) ≡ written (now (out .entry)) at (digits x)) ⌝ }
+{
+    if x < 10 {
+        out[at] = 48 + x as u8;
+        return at + 1;
+    }
+    let n = put_number(out, at, x / 10);
+    out[n] = 48 + (x % 10) as u8;
+    n + 1
+}
+
+// A number's size and its side of 0.
+pub fn side(x: i32) -> Sign
+    ensures { λ r. ⌜ r ≡ signOf x ⌝ }
+{
+    if x < 0 {
+        let m = (-1 - x) as u32;
+        return Sign::Minus(m + 1);
+    }
+    Sign::Plus(x as u32)
+}
+
+// Writes x in base ten from `at` on, after a - where it is below 0, and says where it ends.
+pub fn put_signed(out: &mut [u8], at: usize, x: i32) -> usize
+    requires { ⌜ at + length (signed x) ≤ length (now out) ⌝ }
+    ensures { λ r. ⌜ (r ≡ at + length (signed x)) × (now (out .exit) ≡ written (now (out .entry)) at (signed x)) ⌝ }
+{
+    match side(x) {
+        Sign::Plus(n) => put_number(out, at, n),
+        Sign::Minus(n) => {
+            out[at] = 45;
+            put_number(out, at + 1, n)
+        }
+    }
+}
