@@ -1,4 +1,5 @@
--- What the best pair is: open, of the highest worth, and the first of those. Assumes nothing.
+-- What the best pair is: open, of the highest worth, and the first of those; and that it rests on tests and worths in range alone.
+-- Assumes nothing.
 use Prim.Native.Nat.{ℕ, zero, suc, _+_, _≤_, _<_}
 use native.Mathlib.Decide.{ℕ-discrete}
 use native.Mathlib.Omega.{arith}
@@ -9,7 +10,7 @@ use lib.Dec.{T}
 use lib.IntN.{ℤ, pos}
 use lib.Signed.{ltZ, _≤ℤ_, _<ℤ_, ≤ℤ-refl, ltZ-yes, ltZ-no}
 use Rattle.laws.specs.Integer.{≤ℤ-trans, ≤ℤ-<ℤ-trans, <ℤ-≤}
-use Rattle.laws.specs.Sum.{foldTo}
+use Rattle.laws.specs.Sum.{foldTo, foldTo-ext}
 use Rattle.model.specs.Search.{Best, none, best, better, consider, bestPair}
 
 abbrev pub Earlier : ℕ → ℕ → ℕ → ℕ → Type 0
@@ -155,3 +156,17 @@ module _ (may : ℕ → ℕ → Bool) (worth : ℕ → ℕ → ℤ) where
     pub best-top : (n : ℕ) → Top (λ a c. (1 ≤ a) × (a ≤ n) × (1 ≤ c) × (c ≤ m)) (bestPair n m may worth)
     unfolding bestPair
     best-top n = top-same (Done n 0) _ (rows n) (λ a c s. inl s) (λ a c s. ⊎-elim (λ s. s) (λ s. absurd (omega arith)) s) (rows-top n)
+
+-- tests and worths that agree in range give the same pair
+module _ (may may′ : ℕ → ℕ → Bool) (worth worth′ : ℕ → ℕ → ℤ) where
+  consider-ext : (x y : ℕ) (b : Best) → may x y ≡ may′ x y → worth x y ≡ worth′ x y → consider may worth x b y ≡ consider may′ worth′ x b y
+  unfolding consider
+  consider-ext x y b em ew = ap (λ (t : Bool). cond t (better b x y (worth x y)) b) em ∙ ap (λ (g : ℤ). cond (may′ x y) (better b x y g) b) ew
+
+  pub bestPair-ext : (n m : ℕ)
+      → ((x y : ℕ) → 1 ≤ x → x ≤ n → 1 ≤ y → y ≤ m → may x y ≡ may′ x y)
+      → ((x y : ℕ) → 1 ≤ x → x ≤ n → 1 ≤ y → y ≤ m → worth x y ≡ worth′ x y)
+      → bestPair n m may worth ≡ bestPair n m may′ worth′
+  unfolding bestPair
+  bestPair-ext n m em ew = foldTo-ext n (λ b x. foldTo m (consider may worth x) b) (λ b x. foldTo m (consider may′ worth′ x) b) none (λ b x l u.
+      foldTo-ext m (consider may worth x) (consider may′ worth′ x) b (λ c y p q. consider-ext x y c (em x y l u p q) (ew x y l u p q)))
