@@ -157,16 +157,21 @@ module _ (may : ℕ → ℕ → Bool) (worth : ℕ → ℕ → ℤ) where
     unfolding bestPair
     best-top n = top-same (Done n 0) _ (rows n) (λ a c s. inl s) (λ a c s. ⊎-elim (λ s. s) (λ s. absurd (omega arith)) s) (rows-top n)
 
--- tests and worths that agree in range give the same pair
+-- tests that agree in range, and worths that agree on the open pairs of it, give the same pair
 module _ (may may′ : ℕ → ℕ → Bool) (worth worth′ : ℕ → ℕ → ℤ) where
-  consider-ext : (x y : ℕ) (b : Best) → may x y ≡ may′ x y → worth x y ≡ worth′ x y → consider may worth x b y ≡ consider may′ worth′ x b y
+  consider-ext : (x y : ℕ) (b : Best) → may x y ≡ may′ x y → (may x y ≡ true → worth x y ≡ worth′ x y) → consider may worth x b y ≡ consider may′ worth′ x b y
   unfolding consider
-  consider-ext x y b em ew = ap (λ (t : Bool). cond t (better b x y (worth x y)) b) em ∙ ap (λ (g : ℤ). cond (may′ x y) (better b x y g) b) ew
+  consider-ext x y b em ew = go (may x y) refl ∙ ap (λ (t : Bool). cond t (better b x y (worth′ x y)) b) em
+    where
+      go : (t : Bool) → may x y ≡ t → cond t (better b x y (worth x y)) b ≡ cond t (better b x y (worth′ x y)) b
+      go true e = ap (better b x y) (ew e)
+      go false e = refl
 
   pub bestPair-ext : (n m : ℕ)
       → ((x y : ℕ) → 1 ≤ x → x ≤ n → 1 ≤ y → y ≤ m → may x y ≡ may′ x y)
-      → ((x y : ℕ) → 1 ≤ x → x ≤ n → 1 ≤ y → y ≤ m → worth x y ≡ worth′ x y)
+      → ((x y : ℕ) → 1 ≤ x → x ≤ n → 1 ≤ y → y ≤ m → may x y ≡ true → worth x y ≡ worth′ x y)
       → bestPair n m may worth ≡ bestPair n m may′ worth′
   unfolding bestPair
-  bestPair-ext n m em ew = foldTo-ext n (λ b x. foldTo m (consider may worth x) b) (λ b x. foldTo m (consider may′ worth′ x) b) none (λ b x l u.
+  bestPair-ext n m em ew =
+      foldTo-ext n (λ b x. foldTo m (consider may worth x) b) (λ b x. foldTo m (consider may′ worth′ x) b) none (λ b x l u.
       foldTo-ext m (consider may worth x) (consider may′ worth′ x) b (λ c y p q. consider-ext x y c (em x y l u p q) (ew x y l u p q)))
