@@ -1,7 +1,7 @@
 -- Sums of f over the numbers below n and over 1..n, and how many of them pass a test. Assumes nothing.
 -- Below n: sum-zero, sum-suc, sum-step, sum-front, sum-ext, sum-change, sum-add, sum-split, sum-mono, sum-mul, sum-const, sum-nil, sum-skip, term-le, sum-swap;
 --   count-le, count-change
--- Over 1..n: sumTo-ext, sumTo-change, sumTo-change2, sumTo-add, sumTo-nil, sumTo-term, countTo-le, countTo-full; foldTo-zero, foldTo-step, foldTo-ext, foldTo-skip
+-- Over 1..n: sumTo-ext, sumTo-change, sumTo-change2, sumTo-add, sumTo-nil, sumTo-term, sumTo-two, countTo-le, countTo-full; foldTo-zero, foldTo-step, foldTo-ext, foldTo-skip
 -- Both: sum-sumTo · over a list's places: sum-list
 use mathlib.Core.Path.{_≡_, refl, sym, ap, ap₂, _∙_}
 use mathlib.Core.Bool.{Bool, true, false}
@@ -193,6 +193,18 @@ sumTo-change2 n i k f g li ui lk uk ik e =
     off : (j : ℕ) → (j ≡ k → ⊥) → Dec (j ≡ i) → place f i (g i) j ≡ g j
     off j ne (yes q) = ap (place f i (g i)) q ∙ place-at f i (g i) ∙ ap g (sym q)
     off j ne (no nq) = place-off f i (g i) j nq ∙ e j nq ne
+
+-- two terms are at most the sum
+pub sumTo-two : (n i k : ℕ) (f : ℕ → ℕ) → 1 ≤ i → i ≤ n → 1 ≤ k → k ≤ n → (i ≡ k → ⊥) → f i + f k ≤ sumTo n f
+sumTo-two n i k f li ui lk uk ne =
+    let m : ℕ → ℕ = place f i 0 in
+    omega (
+      arith,
+      sumTo-change n i f m li ui (λ j _ _ nq. sym (place-off f i 0 j nq)),
+      sumTo-term n k m lk uk,
+      place-at f i 0,
+      place-off f i 0 k (λ q. ne (sym q)),
+    )
 
 pub countTo-le : (n : ℕ) (p : ℕ → Bool) → countTo n p ≤ n
 unfolding sumTo
