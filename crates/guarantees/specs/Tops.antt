@@ -1,6 +1,12 @@
+<<<<<<< HEAD
 -- The best pair is open, of the highest worth, and the first of those: lowest first number, then lowest second one; there is none exactly where
 -- no pair is open (best-top). Rests on laws' integers. Assumes nothing.
 use Prim.Native.Nat.{ℕ, zero, suc, _≤_, _<_}
+=======
+-- What the best pair is: open, of the highest worth, and the first of those; and that it rests on tests and worths in range alone.
+-- Assumes nothing.
+use Prim.Native.Nat.{ℕ, zero, suc, _+_, _≤_, _<_}
+>>>>>>> eb28ba9ea14086f3f7920e914317bc72de1c0eb6
 use native.Mathlib.Decide.{ℕ-discrete}
 use native.Mathlib.Omega.{arith}
 use mathlib.Core.Path.{_≡_, refl, sym, _∙_, subst}
@@ -9,8 +15,13 @@ use mathlib.Core.Bool.{Bool, true, false, not, true≢false, cond}
 use lib.Dec.{T}
 use lib.IntN.{ℤ}
 use lib.Signed.{ltZ, _≤ℤ_, _<ℤ_, ≤ℤ-refl, ltZ-yes, ltZ-no}
+<<<<<<< HEAD
 use Rattle.laws.specs.Integer.{≤ℤ-<ℤ-trans, <ℤ-≤}
 use Rattle.laws.specs.Sum.{foldTo}
+=======
+use Rattle.laws.specs.Integer.{≤ℤ-trans, ≤ℤ-<ℤ-trans, <ℤ-≤}
+use Rattle.laws.specs.Sum.{foldTo, foldTo-ext}
+>>>>>>> eb28ba9ea14086f3f7920e914317bc72de1c0eb6
 use Rattle.model.specs.Search.{Best, none, best, better, consider, bestPair}
 
 abbrev pub Earlier : ℕ → ℕ → ℕ → ℕ → Type 0
@@ -156,3 +167,22 @@ module _ (may : ℕ → ℕ → Bool) (worth : ℕ → ℕ → ℤ) where
     pub best-top : (n : ℕ) → Top (λ a c. (1 ≤ a) × (a ≤ n) × (1 ≤ c) × (c ≤ m)) (bestPair n m may worth)
     unfolding bestPair
     best-top n = top-same (Done n 0) _ (rows n) (λ a c s. inl s) (λ a c s. ⊎-elim (λ s. s) (λ s. absurd (omega arith)) s) (rows-top n)
+
+-- tests that agree in range, and worths that agree on the open pairs of it, give the same pair
+module _ (may may′ : ℕ → ℕ → Bool) (worth worth′ : ℕ → ℕ → ℤ) where
+  consider-ext : (x y : ℕ) (b : Best) → may x y ≡ may′ x y → (may x y ≡ true → worth x y ≡ worth′ x y) → consider may worth x b y ≡ consider may′ worth′ x b y
+  unfolding consider
+  consider-ext x y b em ew = go (may x y) refl ∙ ap (λ (t : Bool). cond t (better b x y (worth′ x y)) b) em
+    where
+      go : (t : Bool) → may x y ≡ t → cond t (better b x y (worth x y)) b ≡ cond t (better b x y (worth′ x y)) b
+      go true e = ap (better b x y) (ew e)
+      go false e = refl
+
+  pub bestPair-ext : (n m : ℕ)
+      → ((x y : ℕ) → 1 ≤ x → x ≤ n → 1 ≤ y → y ≤ m → may x y ≡ may′ x y)
+      → ((x y : ℕ) → 1 ≤ x → x ≤ n → 1 ≤ y → y ≤ m → may x y ≡ true → worth x y ≡ worth′ x y)
+      → bestPair n m may worth ≡ bestPair n m may′ worth′
+  unfolding bestPair
+  bestPair-ext n m em ew =
+      foldTo-ext n (λ b x. foldTo m (consider may worth x) b) (λ b x. foldTo m (consider may′ worth′ x) b) none (λ b x l u.
+      foldTo-ext m (consider may worth x) (consider may′ worth′ x) b (λ c y p q. consider-ext x y c (em x y l u p q) (ew x y l u p q)))

@@ -1,8 +1,9 @@
 -- A choice by a test (the library's cond), 1 for true, and the laws of both and of &&. Assumes nothing.
--- one: one-le, one-full · cond: cond-yes, cond-no, cond-zero, cond-or, cond-le · &&: and-left, and-right
+-- one: one-le, one-full, one-eqb · cond: cond-yes, cond-no, cond-zero, cond-or, cond-le · &&: and-left, and-right · eqb-sym
 use Prim.Native.Nat.{ℕ, zero, suc, _+_, _≤_}
+use native.Mathlib.Decide.{ℕ-discrete}
 use native.Mathlib.Omega.{arith}
-use mathlib.Core.Path.{_≡_, refl, sym, ap}
+use mathlib.Core.Path.{_≡_, refl, sym, ap, _∙_}
 use mathlib.Core.Bool.{Bool, true, false, cond, _&&_, _||_, true≢false}
 use borrow.Author.Tests.{eq-eqb, ne-eqb}
 use lib.Dec.{eqb}
@@ -50,3 +51,14 @@ and-left false b q = q
 pub and-right : (a b : Bool) → (a && b) ≡ true → b ≡ true
 and-right true b q = q
 and-right false b q = absurd (true≢false (sym q))
+
+pub one-eqb : (b : Bool) → eqb (one b) 1 ≡ b
+one-eqb true = refl
+one-eqb false = refl
+
+pub eqb-sym : (a b : ℕ) → eqb a b ≡ eqb b a
+eqb-sym a b = go (ℕ-discrete a b)
+  where
+    go : Dec (a ≡ b) → eqb a b ≡ eqb b a
+    go (yes e) = eq-eqb a b e ∙ sym (eq-eqb b a (sym e))
+    go (no e) = ne-eqb a b e ∙ sym (ne-eqb b a (λ q. e (sym q)))

@@ -1,9 +1,13 @@
 -- Sums and tests over a list, and what holds of every element. Assumes nothing.
+<<<<<<< HEAD
 -- sumOver: sumOver-ext, sumOver-all, sumOver-more, sumOver-both, sumOver-le · any: any-ext · All: all-map, all-more, all-get
+=======
+-- sumOver: sumOver-ext, sumOver-all, sumOver-both, sumOver-le · any: any-ext, any-at, any-not · All: all-map, all-more, all-get
+>>>>>>> eb28ba9ea14086f3f7920e914317bc72de1c0eb6
 use Prim.Native.Nat.{ℕ, zero, suc, _+_, _*_, _≤_, _<_}
 use native.Mathlib.Omega.{arith}
-use mathlib.Core.Path.{_≡_, refl, ap₂}
-use mathlib.Core.Bool.{Bool, true, false, _||_, _&&_}
+use mathlib.Core.Path.{_≡_, refl, sym, ap₂}
+use mathlib.Core.Bool.{Bool, true, false, _||_, _&&_, true≢false}
 use mathlib.Core.List.{List, [], _∷_, _++_}
 use lib.ListN.{length, getD}
 
@@ -73,3 +77,24 @@ pub any-ext : {A : Type 0} (l : List A) (f g : A → Bool) → ((x : A) → f x 
 unfolding any
 any-ext [] f g e = refl
 any-ext (x ∷ l) f g e = ap₂ (λ (a b : Bool). a || b) (e x) (any-ext l f g e)
+
+-- some element passes: its place
+pub any-at : {A : Type 0} (l : List A) (d : A) (p : A → Bool) → any l p ≡ true → (i : ℕ) × (i < length l) × (p (getD l i d) ≡ true)
+unfolding any
+any-at [] d p q = absurd (true≢false (sym q))
+any-at (x ∷ l) d p q = go (p x) refl (any-at l d p) q
+  where
+    go : (b : Bool) → p x ≡ b → (any l p ≡ true → (i : ℕ) × (i < length l) × (p (getD l i d) ≡ true)) → (b || any l p) ≡ true → (i : ℕ) × (i < length (x ∷ l)) × (p (getD (x ∷ l) i d) ≡ true)
+    go true e ih q = (0, omega arith, e)
+    go false e ih q = let r = ih q in (suc (r .0), omega (arith, r .1), r .2)
+
+-- none passes
+pub any-not : {A : Type 0} (l : List A) (d : A) (p : A → Bool) → any l p ≡ false → (i : ℕ) → i < length l → p (getD l i d) ≡ false
+unfolding any
+any-not [] d p q i h = absurd (omega arith)
+any-not (x ∷ l) d p q i h = go (p x) refl i h q (any-not l d p)
+  where
+    go : (b : Bool) → p x ≡ b → (i : ℕ) → i < length (x ∷ l) → (b || any l p) ≡ false → (any l p ≡ false → (i : ℕ) → i < length l → p (getD l i d) ≡ false) → p (getD (x ∷ l) i d) ≡ false
+    go true r i h q ih = absurd (true≢false q)
+    go false r zero h q ih = r
+    go false r (suc i) h q ih = ih q i (omega arith)

@@ -1,9 +1,14 @@
 -- Sums of f over the numbers below n and over 1..n, and how many of them pass a test. Assumes nothing.
--- Below n: sum-zero, sum-suc, sum-step, sum-front, sum-ext, sum-change, sum-add, sum-split, sum-mono, sum-mul, sum-const, sum-nil, term-le, sum-swap;
+-- Below n: sum-zero, sum-suc, sum-step, sum-front, sum-ext, sum-change, sum-add, sum-split, sum-mono, sum-mul, sum-const, sum-nil, sum-skip, term-le, sum-swap;
 --   count-le, count-change
+<<<<<<< HEAD
 -- Over 1..n: sumTo-ext, sumTo-change, sumTo-change2, sumTo-add, sumTo-nil, sumTo-term, sumTo-mono, sumTo-const, sumTo-swap, sumTo-once,
 --   sumTo-suc, sumTo-prefix, countTo-le, countTo-full
 -- Both: sum-sumTo · over a list's places: sum-list, sumTo-list
+=======
+-- Over 1..n: sumTo-ext, sumTo-change, sumTo-change2, sumTo-add, sumTo-nil, sumTo-term, sumTo-two, countTo-le, countTo-full; foldTo-zero, foldTo-step, foldTo-ext, foldTo-skip
+-- Both: sum-sumTo · over a list's places: sum-list
+>>>>>>> eb28ba9ea14086f3f7920e914317bc72de1c0eb6
 use mathlib.Core.Path.{_≡_, refl, sym, ap, ap₂, _∙_}
 use mathlib.Core.Bool.{Bool, true, cond}
 use Prim.Native.Nat.{ℕ, zero, suc, _+_, _-_, _*_, _≤_, _<_}
@@ -100,6 +105,16 @@ unfolding sum
 sum-nil zero f h = refl
 sum-nil (suc n) f h = omega (arith, sum-nil n f (λ i l. h i (omega arith)), h n (omega arith))
 
+-- nothing is added from a on
+pub sum-skip : (a b : ℕ) (f : ℕ → ℕ) → a ≤ b → ((i : ℕ) → a ≤ i → i < b → f i ≡ 0) → sum b f ≡ sum a f
+unfolding sum
+sum-skip a zero f l h = let e : 0 ≡ a = omega arith in ap (λ (n : ℕ). sum n f) e
+sum-skip a (suc b) f l h = go (sum-skip a b f) (ℕ-discrete a (suc b))
+  where
+    go : (a ≤ b → ((i : ℕ) → a ≤ i → i < b → f i ≡ 0) → sum b f ≡ sum a f) → Dec (a ≡ suc b) → sum (suc b) f ≡ sum a f
+    go ih (yes e) = ap (λ (n : ℕ). sum n f) (sym e)
+    go ih (no ne) = omega (arith, ih (omega arith) (λ i p q. h i p (omega arith)), h b (omega arith) (omega arith))
+
 -- one term is at most the sum
 pub term-le : (n i : ℕ) (f : ℕ → ℕ) → i < n → f i ≤ sum n f
 unfolding sum
@@ -186,6 +201,18 @@ sumTo-change2 n i k f g li ui lk uk ik e =
     off j ne (yes q) = ap (place f i (g i)) q ∙ place-at f i (g i) ∙ ap g (sym q)
     off j ne (no nq) = place-off f i (g i) j nq ∙ e j nq ne
 
+-- two terms are at most the sum
+pub sumTo-two : (n i k : ℕ) (f : ℕ → ℕ) → 1 ≤ i → i ≤ n → 1 ≤ k → k ≤ n → (i ≡ k → ⊥) → f i + f k ≤ sumTo n f
+sumTo-two n i k f li ui lk uk ne =
+    let m : ℕ → ℕ = place f i 0 in
+    omega (
+      arith,
+      sumTo-change n i f m li ui (λ j _ _ nq. sym (place-off f i 0 j nq)),
+      sumTo-term n k m lk uk,
+      place-at f i 0,
+      place-off f i 0 k (λ q. ne (sym q)),
+    )
+
 pub countTo-le : (n : ℕ) (p : ℕ → Bool) → countTo n p ≤ n
 unfolding sumTo
 countTo-le n p = count-le n (λ i. p (suc i))
@@ -199,6 +226,7 @@ countTo-full (suc n) f l i a b = go (λ k. countTo-full n f (omega (arith, one-l
     go ih (yes q) = ap f q ∙ one-full (f (suc n)) (omega (arith, countTo-le n f))
     go ih (no m) = ih (omega arith)
 
+<<<<<<< HEAD
 pub sumTo-mono : (n : ℕ) (f g : ℕ → ℕ) → ((i : ℕ) → 1 ≤ i → i ≤ n → f i ≤ g i) → sumTo n f ≤ sumTo n g
 unfolding sumTo
 sumTo-mono n f g h = sum-mono n (λ i. f (suc i)) (λ i. g (suc i)) (λ i l. h (suc i) (omega arith) (omega arith))
@@ -236,3 +264,27 @@ sumTo-list l d f = sym (sum-sumTo (length l) (λ i. f (getD l i d)) (λ i. f (ge
   where
     down : (i : ℕ) → i ≡ suc i - 1
     down i = omega arith
+=======
+pub foldTo-zero : {B : Type 0} (f : B → ℕ → B) (b : B) → foldTo 0 f b ≡ b
+unfolding foldTo
+foldTo-zero f b = refl
+
+pub foldTo-step : {B : Type 0} (n : ℕ) (f : B → ℕ → B) (b : B) → foldTo (n + 1) f b ≡ f (foldTo n f b) (n + 1)
+unfolding foldTo
+foldTo-step n f b = rw add-one
+
+pub foldTo-ext : {B : Type 0} (n : ℕ) (f g : B → ℕ → B) (b : B) → ((c : B) (i : ℕ) → 1 ≤ i → i ≤ n → f c i ≡ g c i) → foldTo n f b ≡ foldTo n g b
+unfolding foldTo
+foldTo-ext zero f g b h = refl
+foldTo-ext (suc n) f g b h = ap (λ c. f c (suc n)) (foldTo-ext n f g b (λ c i l u. h c i l (omega arith))) ∙ h (foldTo n g b) (suc n) (omega arith) (omega arith)
+
+-- nothing is changed after m
+pub foldTo-skip : {B : Type 0} (m n : ℕ) (f : B → ℕ → B) (b : B) → m ≤ n → ((c : B) (i : ℕ) → m < i → i ≤ n → f c i ≡ c) → foldTo n f b ≡ foldTo m f b
+unfolding foldTo
+foldTo-skip m zero f b l h = let e : 0 ≡ m = omega arith in ap (λ (k : ℕ). foldTo k f b) e
+foldTo-skip m (suc n) f b l h = go (foldTo-skip m n f b) (ℕ-discrete m (suc n))
+  where
+    go : (m ≤ n → ((c : _) (i : ℕ) → m < i → i ≤ n → f c i ≡ c) → foldTo n f b ≡ foldTo m f b) → Dec (m ≡ suc n) → foldTo (suc n) f b ≡ foldTo m f b
+    go ih (yes e) = ap (λ (k : ℕ). foldTo k f b) (sym e)
+    go ih (no ne) = h (foldTo n f b) (suc n) (omega arith) (omega arith) ∙ ih (omega arith) (λ c i p q. h c i p (omega arith))
+>>>>>>> eb28ba9ea14086f3f7920e914317bc72de1c0eb6
