@@ -1,0 +1,7 @@
+-- The tables of a running sale and what makes them sound for a state of the machine; what each operation promises. Assumes nothing.
+-- Tables  the tables as one record, and Sound, their invariant; Keeps, that what is not in use is untouched
+-- Total   the metric less a gain
+-- Move    a vertex goes to another block
+pub mod Tables
+pub mod Total
+pub mod Move

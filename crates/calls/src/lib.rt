@@ -1,0 +1,2 @@
+// The calls J, S, M and B on the tables of a running sale, and the operations that they and the searches share.
+mod moves;
