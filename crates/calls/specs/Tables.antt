@@ -7,13 +7,13 @@ use mathlib.Core.List.{List}
 use lib.ListN.{length, getD}
 use lib.IntN.{ℤ}
 use Rattle.laws.specs.Bit.{bit}
-use Rattle.model.specs.Catalogue.{Limits, Hypergraph, vertices}
+use Rattle.model.specs.Catalogue.{Limits, Hypergraph}
 use Rattle.model.specs.Measure.{Contraction, above, blockWeight, metric}
 use Rattle.model.specs.Memory.{weightEntry, blockEntry}
 use Rattle.guarantees.specs.Climbs.{Sound as SoundStack}
 use Rattle.guarantees.specs.Splits.{AllInside}
 use Rattle.guarantees.specs.Ends.{Placed}
-use Rattle.guarantees.specs.Loads.{Loaded}
+use Rattle.guarantees.specs.Ranges.{Ranges}
 use Rattle.connectivity.specs.Matrix.{Kept}
 use Rattle.pins.specs.Board.{Room}
 use Rattle.levels.specs.World.{World}
@@ -65,9 +65,8 @@ tables counts visited gains pins sizes bits blocks weights aboves loads netWeigh
 pub record Fit (h : Hypergraph) : Type 0 where
   pub limits : Limits
   pub narrow : limits .blockLimit ≤ 16
-  pub loaded : Loaded limits h
-  pub few-vertices : vertices h ≤ 1024
-  pub few-nets : length (h .nets) ≤ 1024
+  pub short : limits .vertexLimit ≤ 1024
+  pub ranges : Ranges limits h
 
 -- the tables are those of the catalogue h with the contractions cs, and each vertex in the block that `block` says
 pub record Sound (h : Hypergraph) (cs : List Contraction) (block : ℕ → ℕ) (T : Tables) : Type 0 where

@@ -63,12 +63,26 @@ pub fn go(
 ) -> u32
     requires { ⌜ CanGo (λ aboves loaded. tables (now counts) (now visited) (now gains) (now pins) (now sizes) (now bits) (now blocks) (now weights) aboves (now loads) (now netweights) (now firsts) loaded n m k total) u t ⌝ }
     ensures { λ r. ⌜ ((aboves loaded : List ℕ) → Went (tables (now (counts .entry)) (now (visited .entry)) (now (gains .entry)) (now (pins .entry)) (now (sizes .entry)) (now (bits .entry)) (now (blocks .entry)) (now (weights .entry)) aboves (now (loads .entry)) (now (netweights .entry)) (now (firsts .entry)) loaded n m k total)
-      (tables (now (counts .exit)) (now (visited .exit)) (now (gains .exit)) (now (pins .exit)) (now (sizes .exit)) (now (bits .exit)) (now (blocks .exit)) (now (weights .exit)) aboves (now (loads .exit)) (now (netweights .exit)) (now (firsts .exit)) loaded n m k r) u t) ⌝ }
+        (tables (now (counts .exit)) (now (visited .exit)) (now (gains .exit)) (now (pins .exit)) (now (sizes .exit)) (now (bits .exit)) (now (blocks .exit)) (now (weights .exit)) aboves (now (loads .exit)) (now (netweights .exit)) (now (firsts .exit)) loaded n m k r) u t) ⌝ }
 {
     let s = index(blocks[u]);
     let b = index(t);
     let after = lower_total(total, gains[16 * u + (b - 1)]);
     shift_load(loads, s, b, wide(weights[u]));
-    move_vertex(counts, visited, gains, blocks, netweights, pins, firsts, sizes, n, m, k, u, t);
+    move_vertex(
+        counts,
+        visited,
+        gains,
+        blocks,
+        netweights,
+        pins,
+        firsts,
+        sizes,
+        n,
+        m,
+        k,
+        u,
+        t,
+    );
     after
 }

@@ -2,6 +2,7 @@ use native.Mathlib.Omega.{arith}
 use mathlib.Core.Path.{_≡_, sym, _∙_, ap}
 use denote.Ref.{now}
 use borrow.Author.Needs.{needs}
+use Rattle.calls.specs.Move.{moves-ok, gain-small, lower-needs, shift-needs, went}
 use Rattle.calls.proofs.moves.go.Statement.{statement}
 use Rattle.calls.proofs.moves.go.Tie as tie
 use Rattle.calls.proofs.moves.go.Reads as reads
@@ -40,7 +41,7 @@ slice-copy-out-lower-total : tie.Need-slice-copy-out-lower-total
 slice-copy-out-lower-total c = search needs
 
 lower-total-requires : tie.Need-lower-total-requires
-lower-total-requires c κs = ?lower
+lower-total-requires c κs = let g = c .before .before .before .before .before .before .before .before .before .before .before .before .before .pre .goes in lower-needs (g .sound) (g .open-pair) (c .before .index2 .result) (c .before .index2 .ensures)
 
 mul-wide : tie.Need-mul-wide
 mul-wide c = search needs
@@ -52,10 +53,10 @@ wide-requires : tie.Need-wide-requires
 wide-requires c κs = search needs
 
 shift-load-requires : tie.Need-shift-load-requires
-shift-load-requires c κs = ?shift
+shift-load-requires c κs = let g = c .before .before .before .before .before .before .before .before .before .before .before .before .before .before .before .before .before .pre .goes in shift-needs (g .sound) (g .open-pair) (c .before .before .before .before .before .before .index .result) (c .before .before .before .before .before .index2 .result) (c .wide .result) (c .before .before .before .before .before .before .index .ensures) (c .before .before .before .before .before .index2 .ensures) (c .wide .ensures)
 
 move-vertex-requires : tie.Need-move-vertex-requires
-move-vertex-requires c κs = search needs
+move-vertex-requires c κs = let g = c .before .before .before .before .before .before .before .before .before .before .before .before .before .before .before .before .before .before .before .before .before .before .pre .goes in moves-ok (g .sound) (c .before .before .before .before .before .before .before .before .before .before .before .before .before .before .before .before .before .before .before .before .before .before .args .u) (c .before .before .before .before .before .before .before .before .before .before .before .before .before .before .before .before .before .before .before .before .before .before .args .t) (g .open-pair)
 
 same-length : tie.Need-same-length
 same-length c = search needs
@@ -70,7 +71,7 @@ same-length-4 : tie.Need-same-length-4
 same-length-4 c = search needs
 
 returns : tie.Need-returns
-returns c = ?returns
+returns c = λ aboves loaded. let g = c .before .before .before .before .before .before .before .before .before .before .before .before .before .before .before .before .before .before .before .before .before .before .before .before .before .before .before .before .before .before .pre .goes in went _ (g .open-pair) (gain-small (g .sound) (g .open-pair)) (c .before .before .before .before .before .before .before .before .before .before .before .before .before .before .before .before .before .before .before .index .ensures) (c .before .before .before .before .before .before .before .before .before .before .before .before .before .before .before .before .before .before .index2 .ensures) (c .before .before .before .before .before .before .before .before .before .before .before .before .before .wide .ensures) (c .before .before .before .before .before .before .before .move-vertex .ensures) (c .before .before .before .before .before .before .before .before .before .before .before .before .shift-load .ensures) (c .before .before .before .before .before .before .before .before .before .before .before .before .before .before .before .before .lower-total .ensures)
 
 pub go-spec : {M : Type 1} → statement M
 go-spec =
