@@ -62,7 +62,6 @@ has-iff l l′ f n n′ y y′ a b = by (has l f n y) refl (has l′ f n′ y′
 pub has-not : (l : List ℕ) (f n y : ℕ) → (In l f n (y + 1) → ⊥) → has l f n y ≡ false
 has-not l f n y h = sym (has-none l f y n (λ i u e. h (i, u, e)))
 
-
 -- ---- rows of 16
 
 -- no entry of the stretch at b lies in the stretch at a

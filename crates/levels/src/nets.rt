@@ -5,9 +5,9 @@ ghost use lib.ListN.{length};
 ghost use Rattle.connectivity.specs.Listed.{has};
 ghost use Rattle.levels.specs.Contract.{Contracts, Contraction};
 ghost use Rattle.levels.specs.Part.{Parts, Parted};
-use connectivity::set_pin;
 use crate::numbers::index;
 use crate::numbers::number;
+use connectivity::set_pin;
 use pins::relink;
 use pins::uncontract_net;
 

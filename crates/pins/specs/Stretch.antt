@@ -110,11 +110,14 @@ module _ (own : ℕ → Bool) (cs : List Contraction) (c : Contraction) (so : So
     module _ (l′ : List ℕ) (r : ℕ) (s : Stretch own (c ∷ cs) l f n N) (k : Unlinked l l′ f n N r (c .into) (c .gone)) where
       -- u was a pin too: v stands just past the stretch
       pub split-both : row own cs (c .into) ≡ true → (r ≡ n + 1) × Stretch own cs l′ f r N
-      split-both hu = (q .0, rw (q .0, q .1) (record {
-        pins = λ x. omega (arith, occ-step l f n x, ap (λ (z : ℕ). same z x) here, s .pins x, contract-pins x, both x);
-        whole = omega (arith, full);
-        after = λ i h. let e : n + 1 + i ≡ n + suc i = omega arith in rw e (places (suc i) (omega arith));
-      }))
+      split-both hu = (
+        q .0,
+        rw (q .0, q .1) (record {
+          pins = λ x. omega (arith, occ-step l f n x, ap (λ (z : ℕ). same z x) here, s .pins x, contract-pins x, both x);
+          whole = omega (arith, full);
+          after = λ i h. let e : n + 1 + i ≡ n + suc i = omega arith in rw e (places (suc i) (omega arith));
+        }),
+      )
         where
           full : n + suc (length (past own cs)) ≡ N
           full = rw (past-both own cs c hu hv) at (s .whole)
@@ -137,11 +140,14 @@ module _ (own : ℕ → Bool) (cs : List Contraction) (c : Contraction) (so : So
 
       -- u was none: v's place has u
       pub split-new : row own cs (c .into) ≡ false → (r ≡ n) × Stretch own cs l′ f r N
-      split-new hu = (q .0, rw (q .0) (record {
-        pins = λ x. omega (arith, q .1 x, s .pins x, contract-pins x, alone x);
-        whole = full;
-        after = λ i h. k .outside (f + (n + i)) (inr (omega arith)) ∙ places i h;
-      }))
+      split-new hu = (
+        q .0,
+        rw (q .0) (record {
+          pins = λ x. omega (arith, q .1 x, s .pins x, contract-pins x, alone x);
+          whole = full;
+          after = λ i h. k .outside (f + (n + i)) (inr (omega arith)) ∙ places i h;
+        }),
+      )
         where
           full : n + length (past own cs) ≡ N
           full = rw (past-new own cs c hu) at (s .whole)
