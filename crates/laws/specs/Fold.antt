@@ -1,9 +1,5 @@
 -- Sums and tests over a list, and what holds of every element. Assumes nothing.
-<<<<<<< HEAD
--- sumOver: sumOver-ext, sumOver-all, sumOver-more, sumOver-both, sumOver-le · any: any-ext · All: all-map, all-more, all-get
-=======
--- sumOver: sumOver-ext, sumOver-all, sumOver-both, sumOver-le · any: any-ext, any-at, any-not · All: all-map, all-more, all-get
->>>>>>> eb28ba9ea14086f3f7920e914317bc72de1c0eb6
+-- sumOver: sumOver-ext, sumOver-all, sumOver-more, sumOver-both, sumOver-le · any: any-ext, any-at, any-not · All: all-map, all-more, all-get
 use Prim.Native.Nat.{ℕ, zero, suc, _+_, _*_, _≤_, _<_}
 use native.Mathlib.Omega.{arith}
 use mathlib.Core.Path.{_≡_, refl, sym, ap₂}

@@ -1,14 +1,9 @@
 -- Sums of f over the numbers below n and over 1..n, and how many of them pass a test. Assumes nothing.
 -- Below n: sum-zero, sum-suc, sum-step, sum-front, sum-ext, sum-change, sum-add, sum-split, sum-mono, sum-mul, sum-const, sum-nil, sum-skip, term-le, sum-swap;
 --   count-le, count-change
-<<<<<<< HEAD
--- Over 1..n: sumTo-ext, sumTo-change, sumTo-change2, sumTo-add, sumTo-nil, sumTo-term, sumTo-mono, sumTo-const, sumTo-swap, sumTo-once,
---   sumTo-suc, sumTo-prefix, countTo-le, countTo-full
+-- Over 1..n: sumTo-ext, sumTo-change, sumTo-change2, sumTo-add, sumTo-nil, sumTo-term, sumTo-two, sumTo-mono, sumTo-const, sumTo-swap, sumTo-once,
+--   sumTo-suc, sumTo-prefix, countTo-le, countTo-full; foldTo-zero, foldTo-step, foldTo-ext, foldTo-skip
 -- Both: sum-sumTo · over a list's places: sum-list, sumTo-list
-=======
--- Over 1..n: sumTo-ext, sumTo-change, sumTo-change2, sumTo-add, sumTo-nil, sumTo-term, sumTo-two, countTo-le, countTo-full; foldTo-zero, foldTo-step, foldTo-ext, foldTo-skip
--- Both: sum-sumTo · over a list's places: sum-list
->>>>>>> eb28ba9ea14086f3f7920e914317bc72de1c0eb6
 use mathlib.Core.Path.{_≡_, refl, sym, ap, ap₂, _∙_}
 use mathlib.Core.Bool.{Bool, true, cond}
 use Prim.Native.Nat.{ℕ, zero, suc, _+_, _-_, _*_, _≤_, _<_}
@@ -226,7 +221,6 @@ countTo-full (suc n) f l i a b = go (λ k. countTo-full n f (omega (arith, one-l
     go ih (yes q) = ap f q ∙ one-full (f (suc n)) (omega (arith, countTo-le n f))
     go ih (no m) = ih (omega arith)
 
-<<<<<<< HEAD
 pub sumTo-mono : (n : ℕ) (f g : ℕ → ℕ) → ((i : ℕ) → 1 ≤ i → i ≤ n → f i ≤ g i) → sumTo n f ≤ sumTo n g
 unfolding sumTo
 sumTo-mono n f g h = sum-mono n (λ i. f (suc i)) (λ i. g (suc i)) (λ i l. h (suc i) (omega arith) (omega arith))
@@ -264,7 +258,7 @@ sumTo-list l d f = sym (sum-sumTo (length l) (λ i. f (getD l i d)) (λ i. f (ge
   where
     down : (i : ℕ) → i ≡ suc i - 1
     down i = omega arith
-=======
+
 pub foldTo-zero : {B : Type 0} (f : B → ℕ → B) (b : B) → foldTo 0 f b ≡ b
 unfolding foldTo
 foldTo-zero f b = refl
@@ -287,4 +281,3 @@ foldTo-skip m (suc n) f b l h = go (foldTo-skip m n f b) (ℕ-discrete m (suc n)
     go : (m ≤ n → ((c : _) (i : ℕ) → m < i → i ≤ n → f c i ≡ c) → foldTo n f b ≡ foldTo m f b) → Dec (m ≡ suc n) → foldTo (suc n) f b ≡ foldTo m f b
     go ih (yes e) = ap (λ (k : ℕ). foldTo k f b) (sym e)
     go ih (no ne) = h (foldTo n f b) (suc n) (omega arith) (omega arith) ∙ ih (omega arith) (λ c i p q. h c i p (omega arith))
->>>>>>> eb28ba9ea14086f3f7920e914317bc72de1c0eb6
