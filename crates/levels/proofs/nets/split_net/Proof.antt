@@ -2,7 +2,7 @@ use native.Mathlib.Omega.{arith}
 use mathlib.Core.Path.{_≡_, sym, _∙_, ap}
 use denote.Ref.{now}
 use borrow.Author.Needs.{needs}
-use Rattle.levels.specs.Part.{part-sets, part-sets-2, part-both, part-new}
+use Rattle.levels.specs.SplitNet.{part-sets, part-sets-2, part-both, part-new}
 use Rattle.levels.proofs.nets.split_net.Statement.{statement}
 use Rattle.levels.proofs.nets.split_net.Tie as tie
 use Rattle.levels.proofs.nets.split_net.Reads as reads
@@ -42,7 +42,7 @@ same-length-5 : tie.Need-same-length-5
 same-length-5 c = search needs
 
 returns : tie.Need-returns
-returns c = 
+returns c =
     part-both (c .before .before .before .before .before .before .before .before .before .before .before .before .before .before .before .before .before .before .before .before .before .before .before .before .before .before .pre) (c .before .before .before .before .before .before .before .before .before .before .before .before .before .before .before .before .before .before .index .ensures) (c .before .before .before .before .before .before .before .before .before .before .before .before .before .set-pin .ensures) (c .before .before .before .before .before .uncontract-net .ensures) (omega arith)
 
 set-pin-requires-2 : tie.Need-set-pin-requires-2
@@ -65,7 +65,7 @@ same-length-10 : tie.Need-same-length-10
 same-length-10 c = search needs
 
 returns-2 : tie.Need-returns-2
-returns-2 c = 
+returns-2 c =
     part-new (c .before .before .before .before .before .before .before .before .before .before .before .before .before .before .before .before .before .before .before .before .before .before .before .before .before .before .before .before .before .before .before .before .before .before .before .before .pre) (c .before .before .before .before .before .before .before .before .before .before .before .before .before .before .before .before .before .before .before .before .before .before .before .before .before .before .before .before .index .ensures) (c .before .before .before .before .before .before .before .before .before .before .before .before .before .before .before .before .before .before .before .before .before .before .before .set-pin .ensures) (c .before .before .before .before .before .before .before .before .before .before .before .before .before .before .before .uncontract-net .ensures) (omega arith) (c .before .before .before .before .before .set-pin2 .ensures)
 
 pub split-net-spec : {M : Type 1} → statement M
