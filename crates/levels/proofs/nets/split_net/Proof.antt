@@ -2,7 +2,7 @@ use native.Mathlib.Omega.{arith}
 use mathlib.Core.Path.{_≡_, sym, _∙_, ap}
 use denote.Ref.{now}
 use borrow.Author.Needs.{needs}
-use Rattle.levels.specs.Part.{part-sets, part-sets-2, part-both, part-new}
+use Rattle.levels.specs.SplitNet.{part-sets, part-sets-2, part-both, part-new}
 use Rattle.levels.proofs.nets.split_net.Statement.{statement}
 use Rattle.levels.proofs.nets.split_net.Tie as tie
 use Rattle.levels.proofs.nets.split_net.Reads as reads

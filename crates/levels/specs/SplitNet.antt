@@ -1,8 +1,7 @@
--- A contraction undone in one net, connectivity tables included: the contract, and the steps of its proof. Assumes nothing.
-use Prim.Native.Nat.{ℕ, zero, suc, _+_, _*_, _-_, _<_, _≤_, max}
-use mathlib.Core.Path.{_≡_, refl, sym, ap, _∙_, subst}
-use mathlib.Core.Bool.{Bool, true, false, cond}
-use mathlib.Core.Logic.{⊎-elim, _⊎_, inl, inr}
+-- v split from u in one net: its list, its bit, its counts and its shares in the gains. Rests on World and on pins' Split.
+use Prim.Native.Nat.{ℕ, _+_, _-_, _<_, _≤_}
+use mathlib.Core.Path.{_≡_, refl, sym, ap, _∙_}
+use mathlib.Core.Bool.{Bool, true, false}
 use mathlib.Core.List.{List, _∷_}
 use native.Mathlib.Omega.{arith}
 use native.Mathlib.Decide.{ℕ-discrete}
@@ -11,23 +10,23 @@ use lib.Dec.{ltb}
 use lib.ListN.{length, getD}
 use lib.IntN.{ℤ}
 use Rattle.laws.specs.Choice.{one}
-use Rattle.laws.specs.Occurrence.{at, occ, In, Distinct, occ-at, occ-in}
+use Rattle.laws.specs.Occurrence.{occ, In, occ-at, occ-in}
 use Rattle.laws.specs.Place.{place, place-at, place-off}
 use Rattle.model.specs.Measure.{Contraction}
-use Rattle.guarantees.specs.Climbs.{Sound}
-use Rattle.connectivity.specs.Listed.{has, vertexAt, in-has, has-in, has-iff, has-not}
-use Rattle.connectivity.specs.Matrix.{upd, Stands, Kept}
-use Rattle.connectivity.specs.Row.{row, upd-here, upd-there}
+use Rattle.connectivity.specs.Listed.{has, vertexAt, has-in, has-yes, has-no, has-same}
+use Rattle.connectivity.specs.Matrix.{setPin, Stands, Kept}
+use Rattle.connectivity.specs.Row.{row, row-yes, row-no, row-by, setPin-here, setPin-there}
 use Rattle.connectivity.specs.Laid.{Net}
 use Rattle.connectivity.specs.Law.{stands-ext}
 use Rattle.connectivity.specs.Set.{Frame, Seen, Sets, Set}
-use Rattle.levels.specs.Half.{frame-kept, kept-trans}
-use Rattle.levels.specs.Contract.{setRow, setRow-here, setRow-there, row-by}
+use Rattle.levels.specs.World.{frame-kept, kept-trans}
+use Rattle.levels.specs.ContractNet.{setRow, setRow-here, setRow-there}
 use Rattle.pins.specs.Stack.{present, present-on, present-gone, present-into, present-other}
 use Rattle.pins.specs.Stretch.{Stretch, stretch-distinct}
-use Rattle.pins.specs.Board.{join, Splits, Split}
+use Rattle.pins.specs.Board.{join}
+use Rattle.pins.specs.Split.{Splits, Split}
 
--- what `part_net` needs
+-- what `split_net` needs
 pub record Parts (weights counts visited pins blocks bits : List ℕ) (gains : List ℤ) (n m k first p N e u v : ℕ) : Type 0 where
   pub Q : ℕ → ℕ → ℕ
   pub stands : Stands Q n m k weights counts visited gains
@@ -48,26 +47,6 @@ pub record Parted (weights blocks : List ℕ) (n m k first p N e u v r : ℕ) (p
   pub stands : (Q : ℕ → ℕ → ℕ) → Stands Q n m k weights cs vs g → ((y : ℕ) → y < n → Q e y ≡ row pins blocks first p y) →
       Stands (setRow Q e (row pins′ blocks first r)) n m k weights cs′ vs′ g′
   pub kept : Kept n m k cs cs′ vs vs′ g g′
-
--- ---- `has` and occurrences
-has-yes : (l : List ℕ) (f n y : ℕ) → 1 ≤ occ l f n (y + 1) → has l f n y ≡ true
-has-yes l f n y h = in-has l f n y (occ-in l f n (y + 1) h)
-
-has-no : (l : List ℕ) (f n y : ℕ) → occ l f n (y + 1) ≡ 0 → has l f n y ≡ false
-has-no l f n y h = has-not l f n y (λ i. omega (arith, occ-at l f n (i .0) (y + 1) (i .1) (i .2)))
-
-has-same : (l l′ : List ℕ) (f n r y : ℕ) → occ l f n (y + 1) ≡ occ l′ f r (y + 1) → has l f n y ≡ has l′ f r y
-has-same l l′ f n r y h = has-iff l l′ f n r y y
-    (λ i. occ-in l′ f r (y + 1) (omega (arith, occ-at l f n (i .0) (y + 1) (i .1) (i .2))))
-    (λ i. occ-in l f n (y + 1) (omega (arith, occ-at l′ f r (i .0) (y + 1) (i .1) (i .2))))
-
-row-yes : (pins blocks : List ℕ) (first p y : ℕ) → has pins first p y ≡ true → row pins blocks first p y ≡ getD blocks y 0
-unfolding row
-row-yes pins blocks first p y e = rw e refl
-
-row-no : (pins blocks : List ℕ) (first p y : ℕ) → has pins first p y ≡ false → row pins blocks first p y ≡ 0
-unfolding row
-row-no pins blocks first p y e = rw e refl
 
 module _ {weights cs vs pins blocks bits : List ℕ} {g : List ℤ} {n m k first p N e u v : ℕ} (o : Parts weights cs vs pins blocks bits g n m k first p N e u v) {s : ℕ} (es : s ≡ getD blocks v 0) where
   -- the net and the stack below, by which all is read
@@ -99,7 +78,7 @@ module _ {weights cs vs pins blocks bits : List ℕ} {g : List ℤ} {n m k first
   home =
       let i = has-in pins first p u u-was in
       let q : vertexAt pins first (i .0) ≡ u = omega (arith, i .2) in
-      omega (arith, u-home, o .net .homes (i .0) (i .1), ap (λ (z : ℕ). getD blocks z 0) q)
+      omega (arith, u-home, o .net .in-blocks (i .0) (i .1), ap (λ (z : ℕ). getD blocks z 0) q)
 
   seen-v : (Q : ℕ → ℕ → ℕ) → ((y : ℕ) → y < n → Q e y ≡ row pins blocks first p y) → Seen (Q e) pins blocks first p n v 0
   seen-v Q f y l = f y l ∙ by (ℕ-discrete y v)
@@ -140,8 +119,8 @@ module _ {weights cs vs pins blocks bits : List ℕ} {g : List ℤ} {n m k first
     pub net-parted : Net pins′ blocks first r n k
     net-parted = record {
       pins-fit = omega (arith, t .pins-len, t .small, o .splits .room);
-      vertices = λ j l. lot-in j l (ℕ-discrete (getD pins′ (first + j) 0) (u + 1)) (ℕ-discrete (getD pins′ (first + j) 0) (v + 1));
-      homes = λ j l. home-in j l (ℕ-discrete (getD pins′ (first + j) 0) (u + 1)) (ℕ-discrete (getD pins′ (first + j) 0) (v + 1));
+      in-range = λ j l. lot-in j l (ℕ-discrete (getD pins′ (first + j) 0) (u + 1)) (ℕ-discrete (getD pins′ (first + j) 0) (v + 1));
+      in-blocks = λ j l. home-in j l (ℕ-discrete (getD pins′ (first + j) 0) (u + 1)) (ℕ-discrete (getD pins′ (first + j) 0) (v + 1));
       once = λ i j l h q. let z = stretch-distinct own below pins′ first r N now i j (omega arith) h q in omega (arith, z);
     }
       where
@@ -153,7 +132,7 @@ module _ {weights cs vs pins blocks bits : List ℕ} {g : List ℤ} {n m k first
         lot-in : (j : ℕ) → j < r → Dec (getD pins′ (first + j) 0 ≡ u + 1) → Dec (getD pins′ (first + j) 0 ≡ v + 1) → (1 ≤ getD pins′ (first + j) 0) × (getD pins′ (first + j) 0 ≤ n)
         lot-in j l (yes q) z = omega (arith, o .u-in)
         lot-in j l (no q) (yes z) = omega (arith, o .v-in)
-        lot-in j l (no q) (no z) = let i = back j l q z in omega (arith, i .2, o .net .vertices (i .0) (i .1))
+        lot-in j l (no q) (no z) = let i = back j l q z in omega (arith, i .2, o .net .in-range (i .0) (i .1))
 
         home-in : (j : ℕ) → j < r → Dec (getD pins′ (first + j) 0 ≡ u + 1) → Dec (getD pins′ (first + j) 0 ≡ v + 1) → (1 ≤ getD blocks (vertexAt pins′ first j) 0) × (getD blocks (vertexAt pins′ first j) 0 ≤ k)
         home-in j l (yes q) z =
@@ -165,9 +144,9 @@ module _ {weights cs vs pins blocks bits : List ℕ} {g : List ℤ} {n m k first
         home-in j l (no q) (no z) =
             let i = back j l q z in
             let w : vertexAt pins first (i .0) ≡ vertexAt pins′ first j = omega (arith, i .2) in
-            omega (arith, o .net .homes (i .0) (i .1), ap (λ (i : ℕ). getD blocks i 0) w)
+            omega (arith, o .net .in-blocks (i .0) (i .1), ap (λ (i : ℕ). getD blocks i 0) w)
 
-    after : (Q : ℕ → ℕ → ℕ) → Stands Q n m k weights cs vs g → ((y : ℕ) → y < n → Q e y ≡ row pins blocks first p y) → Stands (upd Q e v s) n m k weights cs₁ vs₁ g₁
+    after : (Q : ℕ → ℕ → ℕ) → Stands Q n m k weights cs vs g → ((y : ℕ) → y < n → Q e y ≡ row pins blocks first p y) → Stands (setPin Q e v s) n m k weights cs₁ vs₁ g₁
     after Q q f = d .stands Q q (seen-v Q f)
 
     -- `u` was a pin too
@@ -187,17 +166,17 @@ module _ {weights cs vs pins blocks bits : List ℕ} {g : List ℤ} {n m k first
         at-e Q f y h (no q) (yes z) = place-off (Q e) v s y q ∙ f y h ∙ row-by pins pins′ blocks first p r y (rw z (u-was ∙ sym u-now))
         at-e Q f y h (no q) (no z) = place-off (Q e) v s y q ∙ f y h ∙ row-by pins pins′ blocks first p r y (others y z q)
 
-        by : (Q : ℕ → ℕ → ℕ) → ((y : ℕ) → y < n → Q e y ≡ row pins blocks first p y) → (i y : ℕ) → y < n → Dec (i ≡ e) → upd Q e v s i y ≡ setRow Q e (row pins′ blocks first r) i y
-        by Q f i y h (yes q) = rw (q, upd-here, setRow-here) (at-e Q f y h (ℕ-discrete y v) (ℕ-discrete y u))
-        by Q f i y h (no q) = ap (λ (w : ℕ → ℕ). w y) (upd-there Q e v s i q ∙ sym (setRow-there Q e (row pins′ blocks first r) i q))
+        by : (Q : ℕ → ℕ → ℕ) → ((y : ℕ) → y < n → Q e y ≡ row pins blocks first p y) → (i y : ℕ) → y < n → Dec (i ≡ e) → setPin Q e v s i y ≡ setRow Q e (row pins′ blocks first r) i y
+        by Q f i y h (yes q) = rw (q, setPin-here, setRow-here) (at-e Q f y h (ℕ-discrete y v) (ℕ-discrete y u))
+        by Q f i y h (no q) = ap (λ (w : ℕ → ℕ). w y) (setPin-there Q e v s i q ∙ sym (setRow-there Q e (row pins′ blocks first r) i q))
 
     -- `u` was none, and goes
     module _ (same : r ≤ p) where
       u-gone : has pins′ first r u ≡ false
       u-gone = has-no pins′ first r u (u-row (le-ltb p r same))
 
-      seen-u : (Q : ℕ → ℕ → ℕ) → ((y : ℕ) → y < n → Q e y ≡ row pins blocks first p y) → Seen (upd Q e v s e) pins′ blocks first r n u s
-      seen-u Q f y l = rw upd-here (by (ℕ-discrete y v) (ℕ-discrete y u))
+      seen-u : (Q : ℕ → ℕ → ℕ) → ((y : ℕ) → y < n → Q e y ≡ row pins blocks first p y) → Seen (setPin Q e v s e) pins′ blocks first r n u s
+      seen-u Q f y l = rw setPin-here (by (ℕ-discrete y v) (ℕ-discrete y u))
         where
           by : Dec (y ≡ v) → Dec (y ≡ u) → place (Q e) v s y ≡ place (row pins′ blocks first r) u s y
           by (yes q) z = rw q (place-at (Q e) v s ∙ es ∙ sym (place-off (row pins′ blocks first r) u s v (λ i. two (sym i)) ∙ row-yes pins′ blocks first r v v-now))
@@ -207,7 +186,7 @@ module _ {weights cs vs pins blocks bits : List ℕ} {g : List ℤ} {n m k first
 
       pub part-sets-2 : Sets weights cs₁ vs₁ pins′ blocks g₁ n m k first r e u s 0
       part-sets-2 = record {
-        Q = upd (o .Q) e v s;
+        Q = setPin (o .Q) e v s;
         stands = after (o .Q) (o .stands) (o .seen);
         seen = seen-u (o .Q) (o .seen);
         frame = frame-kept (o .frame) (d .kept);
@@ -223,14 +202,14 @@ module _ {weights cs vs pins blocks bits : List ℕ} {g : List ℤ} {n m k first
       part-new w = record {
         split = t;
         net = net-parted;
-        stands = λ Q q f. stands-ext (λ i y l h. by Q f i y h (ℕ-discrete i e)) (w .stands (upd Q e v s) (after Q q f) (seen-u Q f));
+        stands = λ Q q f. stands-ext (λ i y l h. by Q f i y h (ℕ-discrete i e)) (w .stands (setPin Q e v s) (after Q q f) (seen-u Q f));
         kept = kept-trans (d .kept) (w .kept);
       }
         where
-          at-e : (Q : ℕ → ℕ → ℕ) → ((y : ℕ) → y < n → Q e y ≡ row pins blocks first p y) → (y : ℕ) → y < n → Dec (y ≡ u) → place (upd Q e v s e) u 0 y ≡ row pins′ blocks first r y
-          at-e Q f y h (yes z) = rw z (place-at (upd Q e v s e) u 0 ∙ sym (row-no pins′ blocks first r u u-gone))
-          at-e Q f y h (no z) = place-off (upd Q e v s e) u 0 y z ∙ seen-u Q f y h ∙ place-off (row pins′ blocks first r) u s y z
+          at-e : (Q : ℕ → ℕ → ℕ) → ((y : ℕ) → y < n → Q e y ≡ row pins blocks first p y) → (y : ℕ) → y < n → Dec (y ≡ u) → place (setPin Q e v s e) u 0 y ≡ row pins′ blocks first r y
+          at-e Q f y h (yes z) = rw z (place-at (setPin Q e v s e) u 0 ∙ sym (row-no pins′ blocks first r u u-gone))
+          at-e Q f y h (no z) = place-off (setPin Q e v s e) u 0 y z ∙ seen-u Q f y h ∙ place-off (row pins′ blocks first r) u s y z
 
-          by : (Q : ℕ → ℕ → ℕ) → ((y : ℕ) → y < n → Q e y ≡ row pins blocks first p y) → (i y : ℕ) → y < n → Dec (i ≡ e) → upd (upd Q e v s) e u 0 i y ≡ setRow Q e (row pins′ blocks first r) i y
-          by Q f i y h (yes q) = rw (q, setRow-here) (ap (λ (w : ℕ → ℕ). w y) (upd-here (upd Q e v s) e u 0) ∙ at-e Q f y h (ℕ-discrete y u))
-          by Q f i y h (no q) = ap (λ (w : ℕ → ℕ). w y) (upd-there (upd Q e v s) e u 0 i q ∙ upd-there Q e v s i q ∙ sym (setRow-there Q e (row pins′ blocks first r) i q))
+          by : (Q : ℕ → ℕ → ℕ) → ((y : ℕ) → y < n → Q e y ≡ row pins blocks first p y) → (i y : ℕ) → y < n → Dec (i ≡ e) → setPin (setPin Q e v s) e u 0 i y ≡ setRow Q e (row pins′ blocks first r) i y
+          by Q f i y h (yes q) = rw (q, setRow-here) (ap (λ (w : ℕ → ℕ). w y) (setPin-here (setPin Q e v s) e u 0) ∙ at-e Q f y h (ℕ-discrete y u))
+          by Q f i y h (no q) = ap (λ (w : ℕ → ℕ). w y) (setPin-there (setPin Q e v s) e u 0 i q ∙ setPin-there Q e v s i q ∙ sym (setRow-there Q e (row pins′ blocks first r) i q))

@@ -1,66 +1,51 @@
--- A contraction undone in every net, in all tables. Assumes nothing.
-use Prim.Native.Nat.{ℕ, zero, suc, _+_, _*_, _-_, _<_, _≤_}
-use mathlib.Core.Path.{_≡_, refl, sym, ap, _∙_, subst}
-use mathlib.Core.Bool.{Bool, true, false, cond}
+-- v split from u in every net that had v, found by the bitset. Rests on SplitNet and on pins' Uncontract.
+use Prim.Native.Nat.{ℕ, _+_, _-_, _<_, _≤_}
+use mathlib.Core.Path.{_≡_, refl, sym, ap, _∙_}
 use mathlib.Core.Logic.{⊎-elim, _⊎_, inl, inr}
-use mathlib.Core.List.{List, _∷_}
+use mathlib.Core.List.{List}
 use native.Mathlib.Omega.{arith}
 use native.Mathlib.Decide.{ℕ-discrete}
-use lib.ListN.{length, getD, set, length-set}
+use lib.ListN.{getD, set, length-set}
 use lib.Seq.{getD-set-same, getD-set-other}
 use lib.IntN.{ℤ}
-use Rattle.connectivity.specs.Listed.{has}
+use Rattle.connectivity.specs.Listed.{has, has-ext}
 use Rattle.incidence.specs.On.{on, Next}
-use Rattle.connectivity.specs.Matrix.{Stands, Kept}
-use Rattle.connectivity.specs.Row.{row}
-use Rattle.connectivity.specs.Laid.{Net}
+use Rattle.connectivity.specs.Matrix.{Kept}
+use Rattle.connectivity.specs.Row.{row, row-by}
+use Rattle.connectivity.specs.Laid.{Net, net-ext}
 use Rattle.connectivity.specs.Law.{stands-ext}
-use Rattle.levels.specs.World.{mat, Lists, World}
-use Rattle.levels.specs.Half.{frame-kept, kept-trans, kept-none}
-use Rattle.levels.specs.Contract.{setRow, setRow-here, setRow-there, row-by}
-use Rattle.pins.specs.Board.{Room, Uncontracts, Uncontracting, Uncontracted, uncontract-none, uncontract-splits, uncontract-more, uncontract-done}
-use Rattle.levels.specs.Part.{Parts, Parted}
+use Rattle.levels.specs.World.{mat, World, frame-kept, kept-trans, kept-none}
+use Rattle.levels.specs.ContractNet.{setRow, setRow-here, setRow-there}
+use Rattle.pins.specs.Uncontract.{Uncontracts, Uncontracting, Uncontracted, uncontract-none, uncontract-splits, uncontract-more, uncontract-done}
+use Rattle.levels.specs.SplitNet.{Parts, Parted}
 
--- what `uncontract` needs: the tables stand for the matrix of the pin lists, which are those of a stack with (u, v) on top
-pub record Undoes (weights counts visited pins blocks firsts sizes loaded bits : List ℕ) (gains : List ℤ) (n m k u v : ℕ) : Type 0 where
+-- what the loop needs: the tables stand for the matrix of the pin lists, which are those of a stack with (u, v) on top
+pub record UncontractsAll (weights counts visited pins blocks firsts sizes loaded bits : List ℕ) (gains : List ℤ) (n m k u v : ℕ) : Type 0 where
   pub world : World weights counts visited pins blocks firsts sizes gains n m k
   pub lists : Uncontracts pins firsts sizes loaded bits n m u v
   pub together : getD blocks u 0 ≡ getD blocks v 0
 
 -- the nets below e are done
-pub record Undoing (weights blocks firsts loaded : List ℕ) (n m k u v e : ℕ) (pins pins′ sizes sizes′ bits bits′ cs cs′ vs vs′ : List ℕ) (g g′ : List ℤ) : Type 0 where
+pub record UncontractingAll (weights blocks firsts loaded : List ℕ) (n m k u v e : ℕ) (pins pins′ sizes sizes′ bits bits′ cs cs′ vs vs′ : List ℕ) (g g′ : List ℤ) : Type 0 where
   pub world : World weights cs′ vs′ pins′ blocks firsts sizes′ g′ n m k
   pub kept : Kept n m k cs cs′ vs vs′ g g′
   pub lists : Uncontracting firsts loaded n m u v e pins pins′ sizes sizes′ bits bits′
 
 -- what it does: the tables stand for the matrix of the pin lists, which are those of the stack below
-pub record Undone (weights blocks firsts loaded : List ℕ) (n m k u v : ℕ) (pins pins′ sizes sizes′ bits bits′ cs cs′ vs vs′ : List ℕ) (g g′ : List ℤ) : Type 0 where
+pub record UncontractedAll (weights blocks firsts loaded : List ℕ) (n m k u v : ℕ) (pins pins′ sizes sizes′ bits bits′ cs cs′ vs vs′ : List ℕ) (g g′ : List ℤ) : Type 0 where
   pub world : World weights cs′ vs′ pins′ blocks firsts sizes′ g′ n m k
   pub kept : Kept n m k cs cs′ vs vs′ g g′
   pub lists : Uncontracted firsts loaded n m u v pins pins′ sizes sizes′ bits bits′
 
-has-ext : (l l′ : List ℕ) (f n y : ℕ) → ((i : ℕ) → i < n → getD l′ (f + i) 0 ≡ getD l (f + i) 0) → has l′ f n y ≡ has l f n y
-unfolding has
-has-ext l l′ f zero y h = refl
-has-ext l l′ f (suc n) y h = rw (h n (omega arith), has-ext l l′ f n y (λ i u. h i (omega arith))) refl
-
-net-ext : {pins pins′ blocks : List ℕ} {f p n k : ℕ} → length pins′ ≡ length pins → ((i : ℕ) → i < p → getD pins′ (f + i) 0 ≡ getD pins (f + i) 0) → Net pins blocks f p n k → Net pins′ blocks f p n k
-net-ext {pins} {pins′} {blocks} {f} {p} {n} {k} hl h s = record {
-  pins-fit = omega (arith, hl, s .pins-fit);
-  vertices = λ j l. rw (h j l) (s .vertices j l);
-  homes = λ j l. rw (h j l) (s .homes j l);
-  once = λ i j l u q. s .once i j l u (sym (h i (omega arith)) ∙ q ∙ h j u);
-}
-
-module _ {weights cs₀ vs₀ pins₀ blocks firsts sizes₀ loaded bits₀ : List ℕ} {g₀ : List ℤ} {n m k u v : ℕ} (o : Undoes weights cs₀ vs₀ pins₀ blocks firsts sizes₀ loaded bits₀ g₀ n m k u v) where
-  pub undo-none : {e : ℕ} → Next bits₀ v 0 m e → Undoing weights blocks firsts loaded n m k u v e pins₀ pins₀ sizes₀ sizes₀ bits₀ bits₀ cs₀ cs₀ vs₀ vs₀ g₀ g₀
-  undo-none w = record { world = o .world; kept = kept-none cs₀ vs₀ g₀; lists = uncontract-none (o .lists) w }
+module _ {weights cs₀ vs₀ pins₀ blocks firsts sizes₀ loaded bits₀ : List ℕ} {g₀ : List ℤ} {n m k u v : ℕ} (o : UncontractsAll weights cs₀ vs₀ pins₀ blocks firsts sizes₀ loaded bits₀ g₀ n m k u v) where
+  pub uncontracting-none : {e : ℕ} → Next bits₀ v 0 m e → UncontractingAll weights blocks firsts loaded n m k u v e pins₀ pins₀ sizes₀ sizes₀ bits₀ bits₀ cs₀ cs₀ vs₀ vs₀ g₀ g₀
+  uncontracting-none w = record { world = o .world; kept = kept-none cs₀ vs₀ g₀; lists = uncontract-none (o .lists) w }
 
   module _ {cs vs pins sizes bits : List ℕ} {g : List ℤ} {e : ℕ} (he : e < m) (here : on bits v e ≡ 1)
-      (c : Undoing weights blocks firsts loaded n m k u v e pins₀ pins sizes₀ sizes bits₀ bits cs₀ cs vs₀ vs g₀ g)
+      (c : UncontractingAll weights blocks firsts loaded n m k u v e pins₀ pins sizes₀ sizes bits₀ bits cs₀ cs vs₀ vs g₀ g)
       {f p N : ℕ} (ef : f ≡ getD firsts e 0) (ep : p ≡ getD sizes e 0) (eN : N ≡ getD loaded e 0) where
-    pub undo-parts : Parts weights cs vs pins blocks bits g n m k f p N e u v
-    undo-parts = record {
+    pub uncontracting-parts : Parts weights cs vs pins blocks bits g n m k f p N e u v
+    uncontracting-parts = record {
       Q = mat pins blocks firsts sizes;
       stands = c .world .stands;
       seen = λ y l. rw (ef, ep) refl;
@@ -107,8 +92,8 @@ module _ {weights cs₀ vs₀ pins₀ blocks firsts sizes₀ loaded bits₀ : Li
       net-at d l (yes q) = rw (q, size-e, ← ef) (t .net)
       net-at d l (no q) = rw (size-d d q) (net-ext (t .split .pins-len) (apart d l q) (c .world .lists .nets d l))
 
-      pub undo-more : {e′ : ℕ} → Next bits₁ v (e + 1) m e′ → Undoing weights blocks firsts loaded n m k u v e′ pins₀ pins₁ sizes₀ (set sizes e r) bits₀ bits₁ cs₀ cs₁ vs₀ vs₁ g₀ g₁
-      undo-more w = record {
+      pub uncontracting-more : {e′ : ℕ} → Next bits₁ v (e + 1) m e′ → UncontractingAll weights blocks firsts loaded n m k u v e′ pins₀ pins₁ sizes₀ (set sizes e r) bits₀ bits₁ cs₀ cs₁ vs₀ vs₁ g₀ g₁
+      uncontracting-more w = record {
         world = record {
           stands = stands-ext (λ d y l q. values d y l q) (t .stands (mat pins blocks firsts sizes) (c .world .stands) (λ y l. rw (ef, ep) refl));
           frame = frame-kept (c .world .frame) (t .kept);
@@ -123,6 +108,6 @@ module _ {weights cs₀ vs₀ pins₀ blocks firsts sizes₀ loaded bits₀ : Li
         lists = uncontract-more (o .lists) he here (c .lists) ef ep eN (t .split) w;
       }
 
-  pub undo-done : {cs vs pins sizes bits : List ℕ} {g : List ℤ} {e : ℕ} → e ≡ m → Undoing weights blocks firsts loaded n m k u v e pins₀ pins sizes₀ sizes bits₀ bits cs₀ cs vs₀ vs g₀ g →
-      Undone weights blocks firsts loaded n m k u v pins₀ pins sizes₀ sizes bits₀ bits cs₀ cs vs₀ vs g₀ g
-  undo-done q c = record { world = c .world; kept = c .kept; lists = uncontract-done (o .lists) q (c .lists) }
+  pub uncontracting-done : {cs vs pins sizes bits : List ℕ} {g : List ℤ} {e : ℕ} → e ≡ m → UncontractingAll weights blocks firsts loaded n m k u v e pins₀ pins sizes₀ sizes bits₀ bits cs₀ cs vs₀ vs g₀ g →
+      UncontractedAll weights blocks firsts loaded n m k u v pins₀ pins sizes₀ sizes bits₀ bits cs₀ cs vs₀ vs g₀ g
+  uncontracting-done q c = record { world = c .world; kept = c .kept; lists = uncontract-done (o .lists) q (c .lists) }
