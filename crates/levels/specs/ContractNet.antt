@@ -15,7 +15,7 @@ use Rattle.laws.specs.Occurrence.{occ, In, Distinct}
 use Rattle.laws.specs.Choice.{one}
 use Rattle.laws.specs.Place.{place, place-at, place-off}
 use Rattle.incidence.specs.On.{on}
-use Rattle.connectivity.specs.Listed.{has, vertexAt, in-has, has-in, has-iff, has-not}
+use Rattle.connectivity.specs.Listed.{has, vertexAt, in-has, has-in, has-iff, has-not, has-yes, has-no}
 use Rattle.pins.specs.Link.{Contracted, Becomes}
 use Rattle.connectivity.specs.Matrix.{setPin, Stands, Kept}
 use Rattle.connectivity.specs.Row.{row, row-yes, row-no, row-by, setPin-here, setPin-there}
@@ -210,6 +210,13 @@ linked-le {pins} {pins′} {first} {p} {r} {u} c = ⊎-elim
     (λ l. omega (arith, c .counted .removed l))
     (λ l. omega (arith, c .counted .replaced (omega arith)))
     (le-or-lt 1 (occ pins first p u))
+
+-- the size tells whether u was a pin
+pub was-pin : {pins pins′ : List ℕ} {first p r v : ℕ} (u : ℕ) → Contracted pins pins′ first p r (u + 1) v → r < p → has pins first p u ≡ true
+was-pin {pins} {first = first} {p = p} u c l = ⊎-elim (λ h. has-yes pins first p u h) (λ h. absurd (omega (arith, c .counted .replaced (omega arith)))) (le-or-lt 1 (occ pins first p (u + 1)))
+
+pub was-none : {pins pins′ : List ℕ} {first p r v : ℕ} (u : ℕ) → Contracted pins pins′ first p r (u + 1) v → p ≤ r → has pins first p u ≡ false
+was-none {pins} {first = first} {p = p} u c l = ⊎-elim (λ h. absurd (omega (arith, c .counted .removed h))) (λ h. has-no pins first p u (omega arith)) (le-or-lt 1 (occ pins first p (u + 1)))
 
 module _ {weights cs vs pins blocks bits : List ℕ} {g : List ℤ} {n m k first p e u v : ℕ} (o : Contracts weights cs vs pins blocks bits g n m k first p e u v) where
   pub distinct : Distinct pins first p

@@ -51,7 +51,7 @@ pub fn contract_net(
     );
     let both = is_pin(bits, u, e);
     let r = relink(pins, first, p, number(u), number(v), both);
-    if both {
+    if r < p {
         return r;
     }
     set_pin(
