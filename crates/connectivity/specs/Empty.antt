@@ -1,5 +1,5 @@
--- Tables of zeros stand for the matrix of no pins: loading starts here, and no contract is empty. Rests on Set.
-use Prim.Native.Nat.{ℕ, zero, suc, _+_, _*_, _-_}
+-- Tables that are blank where they are in use stand for the matrix of no pins: loading starts here. Rests on Row.
+use Prim.Native.Nat.{ℕ, zero, suc, _+_, _*_, _-_, _<_}
 use mathlib.Core.Path.{_≡_, refl, sym, ap, _∙_}
 use mathlib.Core.List.{List}
 use native.Mathlib.Omega.{arith}
@@ -24,13 +24,18 @@ unfolding sumZ
 sum-none zero = refl
 sum-none (suc m) = rw (sum-none m) refl
 
-module _ {n m k : ℕ} {weights cs vs : List ℕ} {g : List ℤ} (zc : (i : ℕ) → getD cs i 0 ≡ 0) (zv : (e j : ℕ) → bit (getD vs e 0) j ≡ 0) (zg : (i : ℕ) → at g i ≡ pos 0) where
-  pub stands-empty : Stands (λ _ _. 0) n m k weights cs vs g
-  stands-empty = record {
-    tally = record {
-      block-le = λ e y l u. omega arith;
-      counted = λ e j l u. zc (16 * e + j) ∙ sym (rowCount-none n j);
-      shown = λ e j l u. zv e j ∙ sym (ap (λ (z : ℕ). one (ltb 0 z)) (rowCount-none n j));
-    };
-    gained = λ y j hy hj. zg (16 * y + j) ∙ sym (sumZ-ext _ (λ _. pos 0) m (λ e l. shareOf-none (rowCount n (λ _. 0)) (getD weights e 0) (j + 1)) ∙ sum-none m);
-  }
+-- no entry in use has anything
+pub record Blank (n m k : ℕ) (counts visited : List ℕ) (gains : List ℤ) : Type 0 where
+  pub counts-none : (e j : ℕ) → e < m → j < k → getD counts (16 * e + j) 0 ≡ 0
+  pub masks-none : (e j : ℕ) → e < m → j < k → bit (getD visited e 0) j ≡ 0
+  pub gains-none : (y j : ℕ) → y < n → j < k → at gains (16 * y + j) ≡ pos 0
+
+pub stands-empty : {n m k : ℕ} {weights cs vs : List ℕ} {g : List ℤ} → Blank n m k cs vs g → Stands (λ _ _. 0) n m k weights cs vs g
+stands-empty {n} {m} {weights = weights} z = record {
+  tally = record {
+    block-le = λ e y l u. omega arith;
+    counted = λ e j l u. z .counts-none e j l u ∙ sym (rowCount-none n j);
+    shown = λ e j l u. z .masks-none e j l u ∙ sym (ap (λ (x : ℕ). one (ltb 0 x)) (rowCount-none n j));
+  };
+  gained = λ y j hy hj. z .gains-none y j hy hj ∙ sym (sumZ-ext _ (λ _. pos 0) m (λ e l. shareOf-none (rowCount n (λ _. 0)) (getD weights e 0) (j + 1)) ∙ sum-none m);
+}

@@ -4,11 +4,13 @@ use Prim.Native.Nat.{ℕ, zero, suc, _+_, _*_, _-_, _<_, _≤_}
 use mathlib.Core.Path.{_≡_, refl, sym, ap, _∙_}
 use mathlib.Core.Bool.{Bool, true, false, cond}
 use mathlib.Core.List.{List}
+use native.Mathlib.Numerals.{add-one}
 use native.Mathlib.Omega.{arith}
 use native.Mathlib.Decide.{ℕ-discrete}
 use borrow.Author.Tests.{eq-eqb, ne-eqb, eqb-true, lt-ltb, le-ltb}
 use lib.Dec.{eqb, ltb}
 use lib.ListN.{getD}
+use Rattle.laws.specs.Choice.{one}
 use Rattle.laws.specs.Occurrence.{occ, In, occ-at, occ-in}
 
 -- the vertex at a place of a stretch
@@ -86,6 +88,25 @@ has-occ l f n y = go (ℕ-discrete (occ l f n (y + 1)) 0)
     go : Dec (occ l f n (y + 1) ≡ 0) → has l f n y ≡ ltb 0 (occ l f n (y + 1))
     go (yes q) = has-no l f n y q ∙ sym (le-ltb 0 (occ l f n (y + 1)) (omega arith))
     go (no q) = has-yes l f n y (omega arith) ∙ sym (lt-ltb 0 (occ l f n (y + 1)) (omega arith))
+
+pub has-is : (l : List ℕ) (f n y : ℕ) (b : Bool) → occ l f n (y + 1) ≡ one b → has l f n y ≡ b
+has-is l f n y true q = has-yes l f n y (omega arith)
+has-is l f n y false q = has-no l f n y q
+
+-- ---- one place more
+pub has-empty : (pins : List ℕ) (first y : ℕ) → has pins first 0 y ≡ false
+unfolding has
+has-empty pins first y = refl
+
+has-more : (pins : List ℕ) (first p y : ℕ) → has pins first (p + 1) y ≡ cond (eqb (getD pins (first + p) 0) (y + 1)) true (has pins first p y)
+unfolding has
+has-more pins first p y = rw add-one
+
+pub has-here : (pins : List ℕ) (first p y : ℕ) → getD pins (first + p) 0 ≡ y + 1 → has pins first (p + 1) y ≡ true
+has-here pins first p y e = rw (has-more pins first p y, eq-eqb (getD pins (first + p) 0) (y + 1) e)
+
+pub has-there : (pins : List ℕ) (first p y : ℕ) → (getD pins (first + p) 0 ≡ y + 1 → ⊥) → has pins first (p + 1) y ≡ has pins first p y
+has-there pins first p y ne = rw (has-more pins first p y, ne-eqb (getD pins (first + p) 0) (y + 1) ne)
 
 -- ---- rows of 16
 

@@ -5,7 +5,6 @@ use mathlib.Core.Bool.{Bool, true, false, cond}
 use mathlib.Core.List.{List}
 use native.Mathlib.Omega.{arith}
 use native.Mathlib.Decide.{ℕ-discrete}
-use native.Mathlib.Numerals.{add-one}
 use borrow.Author.Tests.{eq-eqb, ne-eqb}
 use lib.Dec.{eqb}
 use lib.ListN.{getD, set}
@@ -16,7 +15,7 @@ use Rattle.laws.specs.Sum.{countBelow, count-change, count-le, sum-ext}
 use Rattle.laws.specs.Integer.{natAbs-diff}
 use Rattle.laws.specs.Place.{place, place-at, place-off}
 use Rattle.connectivity.specs.Share.{when, when-le, share}
-use Rattle.connectivity.specs.Listed.{has, has-none}
+use Rattle.connectivity.specs.Listed.{has, has-none, has-empty, has-here, has-there}
 use Rattle.connectivity.specs.Matrix.{rowCount, shareOf, setPin}
 
 pub setPin-here : (Q : ℕ → ℕ → ℕ) (e x b : ℕ) → setPin Q e x b e ≡ place (Q e) x b
@@ -85,20 +84,16 @@ row pins blocks first p y = cond (has pins first p y) (getD blocks y 0) 0
 
 module _ (pins blocks : List ℕ) (first : ℕ) where
   pub row-none : (y : ℕ) → row pins blocks first 0 y ≡ 0
-  unfolding row has
-  row-none y = refl
-
-  has-more : (p y : ℕ) → has pins first (p + 1) y ≡ cond (eqb (getD pins (first + p) 0) (y + 1)) true (has pins first p y)
-  unfolding has
-  has-more p y = rw add-one
+  unfolding row
+  row-none y = rw (has-empty pins first y)
 
   pub row-here : (p y : ℕ) → getD pins (first + p) 0 ≡ y + 1 → row pins blocks first (p + 1) y ≡ getD blocks y 0
   unfolding row
-  row-here p y e = rw (has-more p y, eq-eqb (getD pins (first + p) 0) (y + 1) e)
+  row-here p y e = rw (has-here pins first p y e)
 
   pub row-there : (p y : ℕ) → (getD pins (first + p) 0 ≡ y + 1 → ⊥) → row pins blocks first (p + 1) y ≡ row pins blocks first p y
   unfolding row
-  row-there p y ne = rw (has-more p y, ne-eqb (getD pins (first + p) 0) (y + 1) ne)
+  row-there p y ne = rw (has-there pins first p y ne)
 
   pub row-not : (p y : ℕ) → ((i : ℕ) → i < p → getD pins (first + i) 0 ≡ y + 1 → ⊥) → row pins blocks first p y ≡ 0
   unfolding row

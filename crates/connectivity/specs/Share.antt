@@ -14,7 +14,7 @@ use Rattle.laws.specs.Integer.{natAbs-diff}
 unfoldable pub when : ℕ → ℕ → ℕ → ℕ
 when n want w = cond (eqb n want) w 0
 
--- What a buyer of weight `w`, whose counts start at `crow`, adds to the gain of a vertexAt of the block `own` for the block `x`
+-- what a net of weight `w`, whose counts start at `crow`, adds to the gain of a vertex of the block `own` for the block `x`
 unfoldable pub share : List ℕ → ℕ → ℕ → ℕ → ℕ → ℤ
 share counts crow own w x =
     cond (eqb x own) (pos 0) (pos (when (getD counts (crow + own) 0) 1 w) -ℤ pos (when (getD counts (crow + x) 0) 0 w))

@@ -6,22 +6,21 @@ use mathlib.Core.Logic.{⊎-elim, _⊎_, inl, inr}
 use mathlib.Core.List.{List, _∷_}
 use native.Mathlib.Omega.{arith}
 use native.Mathlib.Decide.{ℕ-discrete, decLt}
-use lib.Dec.{ltb}
 use lib.ListN.{length, getD, set, length-set}
 use lib.Seq.{getD-set-same, getD-set-other}
 use lib.IntN.{ℤ}
 use Rattle.laws.specs.Choice.{one, one-full, one-none}
-use Rattle.laws.specs.Occurrence.{at, occ}
+use Rattle.laws.specs.Occurrence.{at}
 use Rattle.model.specs.Measure.{Contraction}
 use Rattle.guarantees.specs.Climbs.{Sound}
-use Rattle.connectivity.specs.Listed.{has, in-has, has-ext, has-occ}
+use Rattle.connectivity.specs.Listed.{has, in-has, has-ext, has-is}
 use Rattle.incidence.specs.On.{on, Next, Joined}
 use Rattle.connectivity.specs.Matrix.{Kept}
 use Rattle.connectivity.specs.Row.{row, row-by}
 use Rattle.connectivity.specs.Laid.{Net, net-ext}
 use Rattle.connectivity.specs.Law.{stands-ext}
 use Rattle.levels.specs.World.{mat, World, frame-kept, kept-trans, kept-none}
-use Rattle.levels.specs.ContractNet.{setRow, setRow-here, setRow-there, Contracts, Contraction as InNet}
+use Rattle.levels.specs.ContractNet.{setRow, setRow-here, setRow-there, ContractNetNeeds, ContractNetDoes}
 use Rattle.pins.specs.Stack.{row as stackRow, present-on, row-into, row-other, one-or}
 use Rattle.pins.specs.Stretch.{Stretch, stretch-ext, stretch-in, skip-on, stretch-contract}
 use Rattle.pins.specs.Board.{join, half, half-below, half-from, Board, Room, KeptLists, room-kept}
@@ -127,16 +126,10 @@ module _ {weights cs₀ vs₀ pins₀ blocks firsts sizes₀ bits : List ℕ} {g
         (one-full _ (omega (arith, row-of (o .own) (o .cs) (o .loaded) (o .board) e he, here)))))
 
     marked-u : on bits u e ≡ one (has pins f p u)
-    marked-u = rw (ef, ep) (o .board .marked u e (o .u-in) he ∙ sym (ap one (has-occ pins (getD firsts e 0) (getD sizes e 0) u) ∙ some (stretch-e (o .cs) u v e (o .sound) nets-now he)))
-      where
-        shown : (b : Bool) → one (ltb 0 (one b)) ≡ one b
-        shown true = refl
-        shown false = refl
+    marked-u = rw (ef, ep) (o .board .marked u e (o .u-in) he
+        ∙ ap one (sym (has-is pins (getD firsts e 0) (getD sizes e 0) u (stackRow (o .own e) (o .cs) (u + 1)) (stretch-e (o .cs) u v e (o .sound) nets-now he .pins (u + 1) ∙ present-on (o .own e) (o .cs) (u + 1) (o .sound .0 .into-on)))))
 
-        some : Stretch (o .own e) (o .cs) pins (getD firsts e 0) (getD sizes e 0) (getD (o .loaded) e 0) → one (ltb 0 (occ pins (getD firsts e 0) (getD sizes e 0) (u + 1))) ≡ one (stackRow (o .own e) (o .cs) (u + 1))
-        some s = ap (λ (z : ℕ). one (ltb 0 z)) (s .pins (u + 1) ∙ present-on (o .own e) (o .cs) (u + 1) (o .sound .0 .into-on)) ∙ shown (stackRow (o .own e) (o .cs) (u + 1))
-
-    pub contracting-contracts : Contracts weights cs vs pins blocks bits g n m k f p e u v
+    pub contracting-contracts : ContractNetNeeds weights cs vs pins blocks bits g n m k f p e u v
     contracting-contracts = record {
       Q = mat pins blocks firsts sizes;
       stands = c .world .stands;
@@ -154,7 +147,7 @@ module _ {weights cs₀ vs₀ pins₀ blocks firsts sizes₀ bits : List ℕ} {g
       bits-fit = omega (arith, o .room .bits-fit, o .u-in);
     }
 
-    module _ {cs₁ vs₁ pins₁ : List ℕ} {g₁ : List ℤ} {r : ℕ} (t : InNet weights blocks n m k f p e u v r pins pins₁ cs cs₁ vs vs₁ g g₁) where
+    module _ {cs₁ vs₁ pins₁ : List ℕ} {g₁ : List ℤ} {r : ℕ} (t : ContractNetDoes weights blocks n m k f p e u v r pins pins₁ cs cs₁ vs vs₁ g g₁) where
       size-e : getD (set sizes e r) e 0 ≡ r
       size-e = getD-set-same sizes e r 0 (omega (arith, c .world .lists .sizes-fit))
 
@@ -226,7 +219,7 @@ module _ {weights cs₀ vs₀ pins₀ blocks firsts sizes₀ bits : List ℕ} {g
     kept = c .kept;
     board = λ own st loaded so ro b. record {
       nets = λ d l. rw (half-below e (join u v ∷ st) st d (omega arith)) at (c .nets own st loaded so ro b .net d l);
-      marked = λ x d k l. mark own st loaded b x d k l (ℕ-discrete x u);
+      marked = λ x d k l. bit-after own st loaded b x d k l (ℕ-discrete x u);
     };
     room = λ loaded ro. room-kept (c .pins-len) (c .sizes-len) (j .len) ro;
     kept-lists = λ own st loaded b. record {
@@ -237,8 +230,8 @@ module _ {weights cs₀ vs₀ pins₀ blocks firsts sizes₀ bits : List ℕ} {g
     };
   }
     where
-      mark : (own : ℕ → ℕ → Bool) (st : List Contraction) (loaded : List ℕ) → Board own (λ _. st) pins₀ firsts sizes₀ loaded bits n m → (x d : ℕ) → x < n → d < m → Dec (x ≡ u) → on bits′ x d ≡ one (stackRow (own d) (join u v ∷ st) (x + 1))
-      mark own st loaded b x d xn l (yes z) = rw z (omega (
+      bit-after : (own : ℕ → ℕ → Bool) (st : List Contraction) (loaded : List ℕ) → Board own (λ _. st) pins₀ firsts sizes₀ loaded bits n m → (x d : ℕ) → x < n → d < m → Dec (x ≡ u) → on bits′ x d ≡ one (stackRow (own d) (join u v ∷ st) (x + 1))
+      bit-after own st loaded b x d xn l (yes z) = rw z (omega (
         arith,
         j .here d (omega (arith, o .room .few-nets)),
         b .marked u d (o .u-in) l,
@@ -246,4 +239,4 @@ module _ {weights cs₀ vs₀ pins₀ blocks firsts sizes₀ bits : List ℕ} {g
         ap one (row-into (own d) st (join u v)),
         one-or (stackRow (own d) st (u + 1)) (stackRow (own d) st (v + 1)),
       ))
-      mark own st loaded b x d xn l (no z) = j .elsewhere x d (omega (arith, o .room .few-nets)) z ∙ b .marked x d xn l ∙ ap one (sym (row-other (own d) st (join u v) (x + 1) (λ q. z (omega arith))))
+      bit-after own st loaded b x d xn l (no z) = j .elsewhere x d (omega (arith, o .room .few-nets)) z ∙ b .marked x d xn l ∙ ap one (sym (row-other (own d) st (join u v) (x + 1) (λ q. z (omega arith))))

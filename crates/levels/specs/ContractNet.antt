@@ -15,7 +15,7 @@ use Rattle.laws.specs.Occurrence.{occ, In, Distinct}
 use Rattle.laws.specs.Choice.{one}
 use Rattle.laws.specs.Place.{place, place-at, place-off}
 use Rattle.incidence.specs.On.{on}
-use Rattle.connectivity.specs.Listed.{has, vertexAt, in-has, has-in, has-iff, has-not}
+use Rattle.connectivity.specs.Listed.{has, vertexAt, in-has, has-in, has-iff, has-not, has-yes, has-no}
 use Rattle.pins.specs.Link.{Contracted, Becomes}
 use Rattle.connectivity.specs.Matrix.{setPin, Stands, Kept}
 use Rattle.connectivity.specs.Row.{row, row-yes, row-no, row-by, setPin-here, setPin-there}
@@ -29,7 +29,7 @@ unfoldable pub setRow : (ℕ → ℕ → ℕ) → ℕ → (ℕ → ℕ) → ℕ 
 setRow Q e r d = cond (eqb d e) r (Q d)
 
 -- what `contract_net` needs
-pub record Contracts (weights counts visited pins blocks bits : List ℕ) (gains : List ℤ) (n m k first p e u v : ℕ) : Type 0 where
+pub record ContractNetNeeds (weights counts visited pins blocks bits : List ℕ) (gains : List ℤ) (n m k first p e u v : ℕ) : Type 0 where
   pub Q : ℕ → ℕ → ℕ
   pub stands : Stands Q n m k weights counts visited gains
   pub seen : (y : ℕ) → y < n → Q e y ≡ row pins blocks first p y
@@ -46,7 +46,7 @@ pub record Contracts (weights counts visited pins blocks bits : List ℕ) (gains
   pub bits-fit : 16 * u + 16 ≤ length bits
 
 -- what it does
-pub record Contraction (weights blocks : List ℕ) (n m k first p e u v r : ℕ) (pins pins′ cs cs′ vs vs′ : List ℕ) (g g′ : List ℤ) : Type 0 where
+pub record ContractNetDoes (weights blocks : List ℕ) (n m k first p e u v r : ℕ) (pins pins′ cs cs′ vs vs′ : List ℕ) (g g′ : List ℤ) : Type 0 where
   pub linked : Contracted pins pins′ first p r (u + 1) (v + 1)
   pub pins-len : length pins′ ≡ length pins
   pub shorter : r ≤ p
@@ -77,7 +77,7 @@ module _ {pins pins′ : List ℕ} {first p r u v : ℕ} (c : Contracted pins pi
       (λ i. let q = c .members (y + 1) .0 i in ⊎-elim (λ b. subst (In pins first p) (b .0) (q .1)) (λ b. absurd (nu (omega (arith, b .1)))) (q .2))
 
 -- ---- the steps of `contract_net`
-module _ {weights cs vs pins blocks bits : List ℕ} {g : List ℤ} {n m k first p e u v : ℕ} (o : Contracts weights cs vs pins blocks bits g n m k first p e u v) {s : ℕ} (es : s ≡ getD blocks v 0) where
+module _ {weights cs vs pins blocks bits : List ℕ} {g : List ℤ} {n m k first p e u v : ℕ} (o : ContractNetNeeds weights cs vs pins blocks bits g n m k first p e u v) {s : ℕ} (es : s ≡ getD blocks v 0) where
   seen-v : (Q : ℕ → ℕ → ℕ) → ((y : ℕ) → y < n → Q e y ≡ row pins blocks first p y) → Seen (Q e) pins blocks first p n v s
   seen-v Q f y l = f y l ∙ by (ℕ-discrete y v)
     where
@@ -111,7 +111,7 @@ module _ {weights cs vs pins blocks bits : List ℕ} {g : List ℤ} {n m k first
     net-linked : Net pins′ blocks first r n k
     net-linked = record {
       pins-fit = omega (arith, hl, hr, o .net .pins-fit);
-      in-range = λ j l. lot-in j l;
+      in-range = λ j l. number-in j l;
       in-blocks = λ j l. home-in j l;
       once = λ i j l h q. let z = c .distinct i j (omega arith) h q in omega (arith, z);
     }
@@ -119,8 +119,8 @@ module _ {weights cs vs pins blocks bits : List ℕ} {g : List ℤ} {n m k first
         back : (j : ℕ) → j < r → (y : ℕ) × (In pins first p y) × (Becomes (u + 1) (v + 1) y (getD pins′ (first + j) 0))
         back j l = c .members (getD pins′ (first + j) 0) .0 (j, l, refl)
 
-        lot-in : (j : ℕ) → j < r → (1 ≤ getD pins′ (first + j) 0) × (getD pins′ (first + j) 0 ≤ n)
-        lot-in j l = let q = back j l in ⊎-elim
+        number-in : (j : ℕ) → j < r → (1 ≤ getD pins′ (first + j) 0) × (getD pins′ (first + j) 0 ≤ n)
+        number-in j l = let q = back j l in ⊎-elim
             (λ b. omega (arith, b .0, q .1 .2, o .net .in-range (q .1 .0) (q .1 .1)))
             (λ b. omega (arith, b .1, o .u-in)) (q .2)
 
@@ -138,7 +138,7 @@ module _ {weights cs vs pins blocks bits : List ℕ} {g : List ℤ} {n m k first
     after Q t f = d .stands Q t (seen-v Q f)
 
     -- `u` was a pin already
-    pub contract-both : has pins first p u ≡ true → Contraction weights blocks n m k first p e u v r pins pins′ cs cs₁ vs vs₁ g g₁
+    pub contract-both : has pins first p u ≡ true → ContractNetDoes weights blocks n m k first p e u v r pins pins′ cs cs₁ vs vs₁ g g₁
     contract-both hu = record {
       linked = c;
       pins-len = hl;
@@ -182,7 +182,7 @@ module _ {weights cs vs pins blocks bits : List ℕ} {g : List ℤ} {n m k first
         b-in = home .1;
       }
 
-      pub contract-new : {cs₂ vs₂ : List ℕ} {g₂ : List ℤ} → Set weights pins′ blocks n m k first r e u 0 s cs₁ cs₂ vs₁ vs₂ g₁ g₂ → Contraction weights blocks n m k first p e u v r pins pins′ cs cs₂ vs vs₂ g g₂
+      pub contract-new : {cs₂ vs₂ : List ℕ} {g₂ : List ℤ} → Set weights pins′ blocks n m k first r e u 0 s cs₁ cs₂ vs₁ vs₂ g₁ g₂ → ContractNetDoes weights blocks n m k first p e u v r pins pins′ cs cs₂ vs vs₂ g g₂
       contract-new t = record {
         linked = c;
         pins-len = hl;
@@ -211,7 +211,14 @@ linked-le {pins} {pins′} {first} {p} {r} {u} c = ⊎-elim
     (λ l. omega (arith, c .counted .replaced (omega arith)))
     (le-or-lt 1 (occ pins first p u))
 
-module _ {weights cs vs pins blocks bits : List ℕ} {g : List ℤ} {n m k first p e u v : ℕ} (o : Contracts weights cs vs pins blocks bits g n m k first p e u v) where
+-- the size tells whether u was a pin
+pub was-pin : {pins pins′ : List ℕ} {first p r v : ℕ} (u : ℕ) → Contracted pins pins′ first p r (u + 1) v → r < p → has pins first p u ≡ true
+was-pin {pins} {first = first} {p = p} u c l = ⊎-elim (λ h. has-yes pins first p u h) (λ h. absurd (omega (arith, c .counted .replaced (omega arith)))) (le-or-lt 1 (occ pins first p (u + 1)))
+
+pub was-none : {pins pins′ : List ℕ} {first p r v : ℕ} (u : ℕ) → Contracted pins pins′ first p r (u + 1) v → p ≤ r → has pins first p u ≡ false
+was-none {pins} {first = first} {p = p} u c l = ⊎-elim (λ h. absurd (omega (arith, c .counted .removed h))) (λ h. has-no pins first p u (omega arith)) (le-or-lt 1 (occ pins first p (u + 1)))
+
+module _ {weights cs vs pins blocks bits : List ℕ} {g : List ℤ} {n m k first p e u v : ℕ} (o : ContractNetNeeds weights cs vs pins blocks bits g n m k first p e u v) where
   pub distinct : Distinct pins first p
   distinct i j hi hj q = ⊎-elim
       (λ l. ⊎-elim (λ h. omega arith) (λ h. absurd (o .net .once i j h hj q)) (le-or-lt j i))

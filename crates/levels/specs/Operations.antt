@@ -3,9 +3,8 @@ use Prim.Native.Nat.{ℕ, _+_, _-_, _<_, _≤_}
 use native.Mathlib.Omega.{arith}
 use native.Mathlib.Decide.{ℕ-discrete}
 use mathlib.Core.Path.{_≡_, refl, sym, ap, _∙_}
-use mathlib.Core.Bool.{Bool, true, false}
+use mathlib.Core.Bool.{false}
 use mathlib.Core.List.{List, _∷_}
-use lib.Dec.{ltb}
 use lib.ListN.{length, getD, set, length-set}
 use lib.Seq.{getD-set-same, getD-set-other}
 use lib.IntN.{ℤ}
@@ -16,7 +15,7 @@ use Rattle.model.specs.Measure.{Contraction, above}
 use Rattle.model.specs.Machine.{uncontract}
 use Rattle.guarantees.specs.Climbs.{Joins}
 use Rattle.incidence.specs.On.{on}
-use Rattle.connectivity.specs.Listed.{has, has-no, has-occ}
+use Rattle.connectivity.specs.Listed.{has, has-no, has-is}
 use Rattle.pins.specs.Stack.{row as stackRow, present-on, present-gone, loadedPin}
 use Rattle.pins.specs.Board.{join, Board}
 use Rattle.levels.specs.World.{world-set}
@@ -39,13 +38,7 @@ marked-on : {h : Hypergraph} {cs : List Contraction} {block : ℕ → ℕ} {load
     (e : ℕ) → e < m → on (T .bits) u e ≡ one (has (T .pins) (getD (T .firsts) e 0) (getD (T .sizes) e 0) u)
 marked-on {h} {cs} {T = T} w u l q e le =
     w .says .board .marked u e l le
-    ∙ sym (shown (stackRow (loadedPin (netAt h e)) cs (u + 1)))
-    ∙ ap (λ (z : ℕ). one (ltb 0 z)) (sym (w .says .board .nets e le .pins (u + 1) ∙ present-on (loadedPin (netAt h e)) cs (u + 1) q))
-    ∙ ap one (sym (has-occ (T .pins) (getD (T .firsts) e 0) (getD (T .sizes) e 0) u))
-  where
-    shown : (b : Bool) → one (ltb 0 (one b)) ≡ one b
-    shown true = refl
-    shown false = refl
+    ∙ ap one (sym (has-is (T .pins) (getD (T .firsts) e 0) (getD (T .sizes) e 0) u (stackRow (loadedPin (netAt h e)) cs (u + 1)) (w .says .board .nets e le .pins (u + 1) ∙ present-on (loadedPin (netAt h e)) cs (u + 1) q)))
 
 -- a vertex that has just left the board is on no list
 gone-off : (h : Hypergraph) {cs : List Contraction} {pins firsts sizes loaded bits : List ℕ} {n m : ℕ} (u v : ℕ) → Joins cs (join u v) → Board (λ e. loadedPin (netAt h e)) (λ _. join u v ∷ cs) pins firsts sizes loaded bits n m →

@@ -14,12 +14,12 @@ use Rattle.laws.specs.Choice.{one, one-none}
 use Rattle.laws.specs.Bit.{bit}
 use Rattle.laws.specs.Sum.{sum, sumTo, sum-sumTo, sum-nil, sum-list}
 use Rattle.laws.specs.IntegerSum.{sumZ, sumZ-ext, sumZ-split}
-use Rattle.laws.specs.Occurrence.{occ, occ-at, occ-in}
+use Rattle.laws.specs.Occurrence.{occ}
 use Rattle.laws.specs.Fold.{sumOver}
 use Rattle.model.specs.Catalogue.{Net, Hypergraph}
 use Rattle.model.specs.Memory.{noNet}
 use Rattle.model.specs.Measure.{Contraction, above, pin, pinCount, freed, drawn, gain}
-use Rattle.connectivity.specs.Listed.{has, vertexAt, in-has, has-in, has-not}
+use Rattle.connectivity.specs.Listed.{has, vertexAt, has-in, has-is}
 use Rattle.connectivity.specs.Raised.{at}
 use Rattle.connectivity.specs.Share.{when}
 use Rattle.connectivity.specs.Matrix.{rowCount, shareOf, rowShare}
@@ -32,14 +32,7 @@ module _ {h : Hypergraph} {cs : List Contraction} {block : ℕ → ℕ} {weights
   module _ (e : ℕ) (l : e < m) where
     -- the stretch of a net has its pins
     pub has-pin : (y : ℕ) → has pins (getD firsts e 0) (getD sizes e 0) y ≡ pin cs (netAt h e) (y + 1)
-    has-pin y = go (pin cs (netAt h e) (y + 1)) refl
-      where
-        count : occ pins (getD firsts e 0) (getD sizes e 0) (y + 1) ≡ one (pin cs (netAt h e) (y + 1))
-        count = w .board .nets e l .pins (y + 1) ∙ present-pin (netAt h e) cs (w .sound) (y + 1)
-
-        go : (b : Bool) → pin cs (netAt h e) (y + 1) ≡ b → has pins (getD firsts e 0) (getD sizes e 0) y ≡ pin cs (netAt h e) (y + 1)
-        go true q = in-has pins _ _ y (occ-in pins _ _ (y + 1) (omega (arith, count, ap one q))) ∙ sym q
-        go false q = has-not pins _ _ y (λ i. omega (arith, count, ap one q, occ-at pins (getD firsts e 0) (getD sizes e 0) (i .0) (y + 1) (i .1) (i .2))) ∙ sym q
+    has-pin y = has-is pins (getD firsts e 0) (getD sizes e 0) y (pin cs (netAt h e) (y + 1)) (w .board .nets e l .pins (y + 1) ∙ present-pin (netAt h e) cs (w .sound) (y + 1))
 
     -- a vertex off the board is no pin
     pin-off : (y : ℕ) → (above cs (y + 1) ≡ 0 → ⊥) → pin cs (netAt h e) (y + 1) ≡ false

@@ -27,7 +27,7 @@ use Rattle.pins.specs.Board.{join}
 use Rattle.pins.specs.Split.{Splits, Split}
 
 -- what `split_net` needs
-pub record Parts (weights counts visited pins blocks bits : List ℕ) (gains : List ℤ) (n m k first p N e u v : ℕ) : Type 0 where
+pub record SplitNetNeeds (weights counts visited pins blocks bits : List ℕ) (gains : List ℤ) (n m k first p N e u v : ℕ) : Type 0 where
   pub Q : ℕ → ℕ → ℕ
   pub stands : Stands Q n m k weights counts visited gains
   pub seen : (y : ℕ) → y < n → Q e y ≡ row pins blocks first p y
@@ -41,14 +41,14 @@ pub record Parts (weights counts visited pins blocks bits : List ℕ) (gains : L
   pub splits : Splits pins bits first p N e u v
 
 -- what it does
-pub record Parted (weights blocks : List ℕ) (n m k first p N e u v r : ℕ) (pins pins′ bits bits′ cs cs′ vs vs′ : List ℕ) (g g′ : List ℤ) : Type 0 where
+pub record SplitNetDoes (weights blocks : List ℕ) (n m k first p N e u v r : ℕ) (pins pins′ bits bits′ cs cs′ vs vs′ : List ℕ) (g g′ : List ℤ) : Type 0 where
   pub split : Split pins pins′ bits bits′ first p N r e u v
   pub net : Net pins′ blocks first r n k
   pub stands : (Q : ℕ → ℕ → ℕ) → Stands Q n m k weights cs vs g → ((y : ℕ) → y < n → Q e y ≡ row pins blocks first p y) →
       Stands (setRow Q e (row pins′ blocks first r)) n m k weights cs′ vs′ g′
   pub kept : Kept n m k cs cs′ vs vs′ g g′
 
-module _ {weights cs vs pins blocks bits : List ℕ} {g : List ℤ} {n m k first p N e u v : ℕ} (o : Parts weights cs vs pins blocks bits g n m k first p N e u v) {s : ℕ} (es : s ≡ getD blocks v 0) where
+module _ {weights cs vs pins blocks bits : List ℕ} {g : List ℤ} {n m k first p N e u v : ℕ} (o : SplitNetNeeds weights cs vs pins blocks bits g n m k first p N e u v) {s : ℕ} (es : s ≡ getD blocks v 0) where
   -- the net and the stack below, by which all is read
   abbrev own : ℕ → Bool
   own = o .splits .own
@@ -87,8 +87,8 @@ module _ {weights cs vs pins blocks bits : List ℕ} {g : List ℤ} {n m k first
       by (yes q) = rw q (row-no pins blocks first p v v-was ∙ sym (place-at (row pins blocks first p) v 0))
       by (no q) = sym (place-off (row pins blocks first p) v 0 y q)
 
-  pub part-sets : Sets weights cs vs pins blocks g n m k first p e v 0 s
-  part-sets = record {
+  pub split-sets : Sets weights cs vs pins blocks g n m k first p e v 0 s
+  split-sets = record {
     Q = o .Q;
     stands = o .stands;
     seen = seen-v (o .Q) (o .seen);
@@ -116,10 +116,10 @@ module _ {weights cs vs pins blocks bits : List ℕ} {g : List ℤ} {n m k first
     u-row q = now .pins (u + 1) ∙ present-on own below (u + 1) (o .splits .sound .0 .into-on) ∙ ap one (t .tells own below (o .splits .sound) (o .splits .has-v) was ∙ q)
 
     -- the new stretch is whole
-    pub net-parted : Net pins′ blocks first r n k
-    net-parted = record {
+    pub net-split : Net pins′ blocks first r n k
+    net-split = record {
       pins-fit = omega (arith, t .pins-len, t .small, o .splits .room);
-      in-range = λ j l. lot-in j l (ℕ-discrete (getD pins′ (first + j) 0) (u + 1)) (ℕ-discrete (getD pins′ (first + j) 0) (v + 1));
+      in-range = λ j l. number-in j l (ℕ-discrete (getD pins′ (first + j) 0) (u + 1)) (ℕ-discrete (getD pins′ (first + j) 0) (v + 1));
       in-blocks = λ j l. home-in j l (ℕ-discrete (getD pins′ (first + j) 0) (u + 1)) (ℕ-discrete (getD pins′ (first + j) 0) (v + 1));
       once = λ i j l h q. let z = stretch-distinct own below pins′ first r N now i j (omega arith) h q in omega (arith, z);
     }
@@ -129,10 +129,10 @@ module _ {weights cs vs pins blocks bits : List ℕ} {g : List ℤ} {n m k first
             let x = getD pins′ (first + j) 0 in
             occ-in pins first p x (omega (arith, occ-at pins′ first r j x l refl, now .pins x, was .pins x, present-other own below (join u v) (o .splits .sound .0) x nu nv))
 
-        lot-in : (j : ℕ) → j < r → Dec (getD pins′ (first + j) 0 ≡ u + 1) → Dec (getD pins′ (first + j) 0 ≡ v + 1) → (1 ≤ getD pins′ (first + j) 0) × (getD pins′ (first + j) 0 ≤ n)
-        lot-in j l (yes q) z = omega (arith, o .u-in)
-        lot-in j l (no q) (yes z) = omega (arith, o .v-in)
-        lot-in j l (no q) (no z) = let i = back j l q z in omega (arith, i .2, o .net .in-range (i .0) (i .1))
+        number-in : (j : ℕ) → j < r → Dec (getD pins′ (first + j) 0 ≡ u + 1) → Dec (getD pins′ (first + j) 0 ≡ v + 1) → (1 ≤ getD pins′ (first + j) 0) × (getD pins′ (first + j) 0 ≤ n)
+        number-in j l (yes q) z = omega (arith, o .u-in)
+        number-in j l (no q) (yes z) = omega (arith, o .v-in)
+        number-in j l (no q) (no z) = let i = back j l q z in omega (arith, i .2, o .net .in-range (i .0) (i .1))
 
         home-in : (j : ℕ) → j < r → Dec (getD pins′ (first + j) 0 ≡ u + 1) → Dec (getD pins′ (first + j) 0 ≡ v + 1) → (1 ≤ getD blocks (vertexAt pins′ first j) 0) × (getD blocks (vertexAt pins′ first j) 0 ≤ k)
         home-in j l (yes q) z =
@@ -150,10 +150,10 @@ module _ {weights cs vs pins blocks bits : List ℕ} {g : List ℤ} {n m k first
     after Q q f = d .stands Q q (seen-v Q f)
 
     -- `u` was a pin too
-    pub part-both : p < r → Parted weights blocks n m k first p N e u v r pins pins′ bits bits′ cs cs₁ vs vs₁ g g₁
-    part-both grown = record {
+    pub split-both : p < r → SplitNetDoes weights blocks n m k first p N e u v r pins pins′ bits bits′ cs cs₁ vs vs₁ g g₁
+    split-both grown = record {
       split = t;
-      net = net-parted;
+      net = net-split;
       stands = λ Q q f. stands-ext (λ i y l h. by Q f i y h (ℕ-discrete i e)) (after Q q f);
       kept = d .kept;
     }
@@ -184,13 +184,13 @@ module _ {weights cs vs pins blocks bits : List ℕ} {g : List ℤ} {n m k first
           by (no q) (no z) =
               place-off (Q e) v s y q ∙ f y l ∙ row-by pins pins′ blocks first p r y (others y z q) ∙ sym (place-off (row pins′ blocks first r) u s y z)
 
-      pub part-sets-2 : Sets weights cs₁ vs₁ pins′ blocks g₁ n m k first r e u s 0
-      part-sets-2 = record {
+      pub split-sets-2 : Sets weights cs₁ vs₁ pins′ blocks g₁ n m k first r e u s 0
+      split-sets-2 = record {
         Q = setPin (o .Q) e v s;
         stands = after (o .Q) (o .stands) (o .seen);
         seen = seen-u (o .Q) (o .seen);
         frame = frame-kept (o .frame) (d .kept);
-        net = net-parted;
+        net = net-split;
         blocks-fit = o .blocks-fit;
         e-in = o .e-in;
         x-in = o .u-in;
@@ -198,10 +198,10 @@ module _ {weights cs vs pins blocks bits : List ℕ} {g : List ℤ} {n m k first
         b-in = omega arith;
       }
 
-      pub part-new : {cs₂ vs₂ : List ℕ} {g₂ : List ℤ} → Set weights pins′ blocks n m k first r e u s 0 cs₁ cs₂ vs₁ vs₂ g₁ g₂ → Parted weights blocks n m k first p N e u v r pins pins′ bits bits′ cs cs₂ vs vs₂ g g₂
-      part-new w = record {
+      pub split-new : {cs₂ vs₂ : List ℕ} {g₂ : List ℤ} → Set weights pins′ blocks n m k first r e u s 0 cs₁ cs₂ vs₁ vs₂ g₁ g₂ → SplitNetDoes weights blocks n m k first p N e u v r pins pins′ bits bits′ cs cs₂ vs vs₂ g g₂
+      split-new w = record {
         split = t;
-        net = net-parted;
+        net = net-split;
         stands = λ Q q f. stands-ext (λ i y l h. by Q f i y h (ℕ-discrete i e)) (w .stands (setPin Q e v s) (after Q q f) (seen-u Q f));
         kept = kept-trans (d .kept) (w .kept);
       }

@@ -17,7 +17,7 @@ use Rattle.connectivity.specs.Law.{stands-ext}
 use Rattle.levels.specs.World.{mat, World, frame-kept, kept-trans, kept-none}
 use Rattle.levels.specs.ContractNet.{setRow, setRow-here, setRow-there}
 use Rattle.pins.specs.Uncontract.{Uncontracts, Uncontracting, Uncontracted, uncontract-none, uncontract-splits, uncontract-more, uncontract-done}
-use Rattle.levels.specs.SplitNet.{Parts, Parted}
+use Rattle.levels.specs.SplitNet.{SplitNetNeeds, SplitNetDoes}
 
 -- what the loop needs: the tables stand for the matrix of the pin lists, which are those of a stack with (u, v) on top
 pub record UncontractsAll (weights counts visited pins blocks firsts sizes loaded bits : List ℕ) (gains : List ℤ) (n m k u v : ℕ) : Type 0 where
@@ -44,8 +44,8 @@ module _ {weights cs₀ vs₀ pins₀ blocks firsts sizes₀ loaded bits₀ : Li
   module _ {cs vs pins sizes bits : List ℕ} {g : List ℤ} {e : ℕ} (he : e < m) (here : on bits v e ≡ 1)
       (c : UncontractingAll weights blocks firsts loaded n m k u v e pins₀ pins sizes₀ sizes bits₀ bits cs₀ cs vs₀ vs g₀ g)
       {f p N : ℕ} (ef : f ≡ getD firsts e 0) (ep : p ≡ getD sizes e 0) (eN : N ≡ getD loaded e 0) where
-    pub uncontracting-parts : Parts weights cs vs pins blocks bits g n m k f p N e u v
-    uncontracting-parts = record {
+    pub uncontracting-splits : SplitNetNeeds weights cs vs pins blocks bits g n m k f p N e u v
+    uncontracting-splits = record {
       Q = mat pins blocks firsts sizes;
       stands = c .world .stands;
       seen = λ y l. rw (ef, ep) refl;
@@ -59,7 +59,7 @@ module _ {weights cs₀ vs₀ pins₀ blocks firsts sizes₀ loaded bits₀ : Li
       splits = uncontract-splits (o .lists) he here (c .lists) ef ep eN;
     }
 
-    module _ {cs₁ vs₁ pins₁ bits₁ : List ℕ} {g₁ : List ℤ} {r : ℕ} (t : Parted weights blocks n m k f p N e u v r pins pins₁ bits bits₁ cs cs₁ vs vs₁ g g₁) where
+    module _ {cs₁ vs₁ pins₁ bits₁ : List ℕ} {g₁ : List ℤ} {r : ℕ} (t : SplitNetDoes weights blocks n m k f p N e u v r pins pins₁ bits bits₁ cs cs₁ vs vs₁ g g₁) where
       size-e : getD (set sizes e r) e 0 ≡ r
       size-e = getD-set-same sizes e r 0 (omega (arith, c .world .lists .sizes-fit))
 

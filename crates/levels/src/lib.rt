@@ -64,7 +64,7 @@ pub fn move_vertex(
     blocks[u] = t;
 }
 
-// Contracts `v` into `u`, of the same block, in every net that has `v`.
+// ContractNetNeeds `v` into `u`, of the same block, in every net that has `v`.
 fn contract_nets(
     counts: &mut [u16],
     visited: &mut [u16],
@@ -111,7 +111,7 @@ fn contract_nets(
     copy_or(bits, u, v);
 }
 
-// Contracts `v` into `u`, of the same block: `v` leaves the board.
+// ContractNetNeeds `v` into `u`, of the same block: `v` leaves the board.
 pub fn contract(
     counts: &mut [u16],
     visited: &mut [u16],

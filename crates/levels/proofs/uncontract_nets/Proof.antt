@@ -4,7 +4,7 @@ use mathlib.Core.Path.{_≡_, sym, _∙_, ap}
 use denote.Ref.{now}
 use borrow.Author.Needs.{needs}
 use Rattle.incidence.specs.On.{on}
-use Rattle.levels.specs.Uncontract.{UncontractingAll, uncontracting-none, uncontracting-parts, uncontracting-more, uncontracting-done}
+use Rattle.levels.specs.Uncontract.{UncontractingAll, uncontracting-none, uncontracting-splits, uncontracting-more, uncontracting-done}
 use Rattle.levels.proofs.uncontract_nets.Statement.{statement}
 use Rattle.levels.proofs.uncontract_nets.Tie as tie
 use Rattle.levels.proofs.uncontract_nets.Reads as reads
@@ -57,7 +57,7 @@ index-requires-3 c κs = search needs
 
 split-net-requires : tie.Need-split-net-requires Inv-loop μ-loop
 split-net-requires c κs =
-    uncontracting-parts (c .before .before .before .before .before .before .before .before .before .before .before .before .before .before .before .before .before .before .before .before .before .before .before .before .pre) (c .before .before .before .before .before .before .before .before .before .before .before .loop-test .taken) (c .before .before .before .before .before .before .before .before .before .before .before .before .loop .inv .1 (c .before .before .before .before .before .before .before .before .before .before .before .loop-test .taken)) (c .before .before .before .before .before .before .before .before .before .before .before .before .loop .inv .2) (c .before .before .before .before .before .before .before .before .before .index .ensures) (c .before .before .before .before .before .before .before .index2 .ensures) (c .before .before .before .before .before .index3 .ensures)
+    uncontracting-splits (c .before .before .before .before .before .before .before .before .before .before .before .before .before .before .before .before .before .before .before .before .before .before .before .before .pre) (c .before .before .before .before .before .before .before .before .before .before .before .loop-test .taken) (c .before .before .before .before .before .before .before .before .before .before .before .before .loop .inv .1 (c .before .before .before .before .before .before .before .before .before .before .before .loop-test .taken)) (c .before .before .before .before .before .before .before .before .before .before .before .before .loop .inv .2) (c .before .before .before .before .before .before .before .before .before .index .ensures) (c .before .before .before .before .before .before .before .index2 .ensures) (c .before .before .before .before .before .index3 .ensures)
 
 narrow-requires : tie.Need-narrow-requires Inv-loop μ-loop
 narrow-requires c κs = omega (arith, c .before .before .before .before .before .before .before .before .before .split-net .ensures .split .small, c .before .before .before .before .before .before .before .before .before .before .before .before .before .before .before .index3 .ensures, c .before .before .before .before .before .before .before .before .before .before .before .before .before .before .before .before .shared-slice-known6 .given (c .before .before .before .before .before .before .before .before .before .before .before .before .before .before .before .before .before .before .before .before .before .before .loop .e))

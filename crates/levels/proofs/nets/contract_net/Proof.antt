@@ -2,7 +2,7 @@ use native.Mathlib.Omega.{arith}
 use mathlib.Core.Path.{_≡_, refl, sym, _∙_, ap}
 use denote.Ref.{now}
 use borrow.Author.Needs.{needs}
-use Rattle.levels.specs.ContractNet.{contract-sets, contract-sets-2, contract-both, contract-new, linked-of, linked-le, distinct, in-v, both}
+use Rattle.levels.specs.ContractNet.{contract-sets, contract-sets-2, contract-both, contract-new, linked-of, linked-le, was-pin, was-none, distinct, in-v, both}
 use Rattle.connectivity.specs.Listed.{has-occ}
 use Rattle.levels.proofs.nets.contract_net.Statement.{statement}
 use Rattle.levels.proofs.nets.contract_net.Tie as tie
@@ -61,13 +61,13 @@ returns : tie.Need-returns
 returns c =
     let S = c .before .before .before .before .before .before .before .before .before .before .before .before .before .before .before .before .before .before .before .before .before .before .before .before .before .before in
     let link = linked-of (S .args .u) (S .args .v) (c .before .before .before .before .before .number .ensures) (c .before .before .before .before .number2 .ensures) (c .before .before .before .relink .ensures) in
-    contract-both (S .pre) (c .before .before .before .before .before .before .before .before .before .before .before .before .before .before .before .before .before .before .index .ensures) (c .before .before .before .before .before .before .before .before .before .before .before .before .before .set-pin .ensures) link (omega arith) (linked-le (c .before .before .before .relink .ensures)) (sym (c .before .before .before .before .before .before .before .is-pin .ensures ∙ both (S .pre)) ∙ c .if1 .taken)
+    contract-both (S .pre) (c .before .before .before .before .before .before .before .before .before .before .before .before .before .before .before .before .before .before .index .ensures) (c .before .before .before .before .before .before .before .before .before .before .before .before .before .set-pin .ensures) link (omega arith) (linked-le (c .before .before .before .relink .ensures)) (was-pin (S .args .u) link (c .if1 .taken))
 
 set-pin-requires-2 : tie.Need-set-pin-requires-2
 set-pin-requires-2 c κs =
     let S = c .before .before .before .before .before .before .before .before .before .before .before .before .before .before .before .before .before .before .before .before .before .before .before .before .before .before .before .before .before .before in
     let link = linked-of (S .args .u) (S .args .v) (c .before .before .before .before .before .before .before .before .before .number .ensures) (c .before .before .before .before .before .before .before .before .number2 .ensures) (c .before .before .before .before .before .before .before .relink .ensures) in
-    contract-sets-2 (S .pre) (c .before .before .before .before .before .before .before .before .before .before .before .before .before .before .before .before .before .before .before .before .before .before .index .ensures) (c .before .before .before .before .before .before .before .before .before .before .before .before .before .before .before .before .before .set-pin .ensures) link (omega arith) (linked-le (c .before .before .before .before .before .before .before .relink .ensures)) (sym (c .before .before .before .before .before .before .before .before .before .before .before .is-pin .ensures ∙ both (S .pre)) ∙ c .before .before .before .before .if1 .left)
+    contract-sets-2 (S .pre) (c .before .before .before .before .before .before .before .before .before .before .before .before .before .before .before .before .before .before .before .before .before .before .index .ensures) (c .before .before .before .before .before .before .before .before .before .before .before .before .before .before .before .before .before .set-pin .ensures) link (omega arith) (linked-le (c .before .before .before .before .before .before .before .relink .ensures)) (was-none (S .args .u) link (c .before .before .before .before .if1 .left))
 
 same-length-5 : tie.Need-same-length-5
 same-length-5 c = search needs
@@ -85,7 +85,7 @@ returns-2 : tie.Need-returns-2
 returns-2 c =
     let S = c .before .before .before .before .before .before .before .before .before .before .before .before .before .before .before .before .before .before .before .before .before .before .before .before .before .before .before .before .before .before .before .before .before .before .before .before in
     let link = linked-of (S .args .u) (S .args .v) (c .before .before .before .before .before .before .before .before .before .before .before .before .before .before .before .number .ensures) (c .before .before .before .before .before .before .before .before .before .before .before .before .before .before .number2 .ensures) (c .before .before .before .before .before .before .before .before .before .before .before .before .before .relink .ensures) in
-    contract-new (S .pre) (c .before .before .before .before .before .before .before .before .before .before .before .before .before .before .before .before .before .before .before .before .before .before .before .before .before .before .before .before .index .ensures) (c .before .before .before .before .before .before .before .before .before .before .before .before .before .before .before .before .before .before .before .before .before .before .before .set-pin .ensures) link (omega arith) (linked-le (c .before .before .before .before .before .before .before .before .before .before .before .before .before .relink .ensures)) (sym (c .before .before .before .before .before .before .before .before .before .before .before .before .before .before .before .before .before .is-pin .ensures ∙ both (S .pre)) ∙ c .before .before .before .before .before .before .before .before .before .before .if1 .left) (c .before .before .before .before .before .set-pin2 .ensures)
+    contract-new (S .pre) (c .before .before .before .before .before .before .before .before .before .before .before .before .before .before .before .before .before .before .before .before .before .before .before .before .before .before .before .before .index .ensures) (c .before .before .before .before .before .before .before .before .before .before .before .before .before .before .before .before .before .before .before .before .before .before .before .set-pin .ensures) link (omega arith) (linked-le (c .before .before .before .before .before .before .before .before .before .before .before .before .before .relink .ensures)) (was-none (S .args .u) link (c .before .before .before .before .before .before .before .before .before .before .if1 .left)) (c .before .before .before .before .before .set-pin2 .ensures)
 
 pub contract-net-spec : {M : Type 1} → statement M
 contract-net-spec =
