@@ -1,5 +1,7 @@
 // The best open pair: the search over the candidates, in increasing order, and over the blocks. Ties go to the lowest vertex, then to the
 // lowest block.
+use crate::numbers::wide;
+use crate::numbers::wide32;
 use incidence::next_net;
 ghost use mathlib.Core.Path.{_≡_};
 ghost use mathlib.Core.Bool.{not, _&&_};
@@ -13,18 +15,6 @@ ghost use Rattle.choice.specs.Open.{bestOf, gainIn, roomFor, mayGo, open
 pub enum Pick {
     Move { vertex: u16, block: u16 },
     Nothing,
-}
-
-fn wide(x: u16) -> usize
-    ensures { λ r. ⌜ r ≡ x ⌝ }
-{
-    x as usize
-}
-
-fn wide32(x: u32) -> u64
-    ensures { λ r. ⌜ r ≡ x ⌝ }
-{
-    x as u64
 }
 
 fn less(a: i32, b: i32) -> bool

@@ -8,7 +8,7 @@ use Rattle.choice.proofs.open.beats.Tie as tie
 use Rattle.choice.proofs.open.beats.Reads as reads
 use Rattle.choice.proofs.open.beats.Lts as lts
 use Rattle.choice.proofs.open.less.Reads as less-reads
-use Rattle.choice.proofs.open.wide.Reads as wide-reads
+use Rattle.choice.proofs.numbers.wide.Reads as wide-reads
 
 enum-told : tie.Need-enum-told
 enum-told c = search needs

@@ -11,7 +11,7 @@ use Rattle.choice.proofs.open.best_with.Tie as tie
 use Rattle.choice.proofs.open.best_with.Reads as reads
 use Rattle.choice.proofs.open.best_with.Lts as lts
 use Rattle.choice.proofs.open.best_in_row.Reads as best-in-row-reads
-use Rattle.choice.proofs.open.wide32.Reads as wide32-reads
+use Rattle.choice.proofs.numbers.wide32.Reads as wide32-reads
 
 mul-best-in-row : tie.Need-mul-best-in-row
 mul-best-in-row c = search needs
