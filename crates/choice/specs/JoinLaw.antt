@@ -2,18 +2,17 @@
 -- Rests on RatingLaw and PartnerLaw. Assumes nothing.
 use mathlib.Core.Path.{_≡_, refl, sym, ap, ap₂, _∙_, subst}
 use mathlib.Core.Bool.{Bool, true, false, _&&_, and-false, cond}
-use mathlib.Core.Logic.{_⊎_, inl, inr}
+use mathlib.Core.Logic.{inl}
 use mathlib.Core.List.{List}
 use Prim.Native.Nat.{ℕ, zero, suc, _+_, _-_, _≤_, _<_}
 use native.Mathlib.Decide.{ℕ-discrete, decLt}
 use native.Mathlib.Omega.{arith}
 use native.Mathlib.Numerals.{add-one}
 use borrow.Author.Tests.{ne-eqb, lt-ltb, le-ltb, ltb-true, ltb-false}
-use lib.Dec.{eqb, ltb, leb}
+use lib.Dec.{ltb, leb}
 use lib.ListN.{length, getD}
-use Rattle.incidence.specs.On.{on}
 use Rattle.laws.specs.Choice.{cond-le}
-use Rattle.laws.specs.Occurrence.{at, occ, occ-none}
+use Rattle.laws.specs.Occurrence.{at, occ-none}
 use Rattle.choice.specs.Rating.{near, rowOf, metOf, ownSum, scoreIn, scoreOf, TablesOk, SelectOk, Blank, Raised, Swept}
 use Rattle.choice.specs.RatingLaw.{spread-dead, spread-off, over-off, over-nil, row-own}
 use Rattle.choice.specs.PartnerLaw.{Ahead, Leading, FirstMax, Weighed, nobody, cond-none}

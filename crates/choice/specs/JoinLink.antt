@@ -1,6 +1,6 @@
 -- The best pair to contract by the tables is the pair that model contracts, where the tables hold its state. Rests on RatingLaw, JoinLaw,
 -- JoinPair and guarantees' Tops. Assumes nothing.
-use mathlib.Core.Path.{_≡_, refl, sym, ap, ap₂, _∙_, subst}
+use mathlib.Core.Path.{_≡_, refl, sym, ap, ap₂, _∙_}
 use mathlib.Core.Bool.{Bool, true, false, _&&_, and-false, cond}
 use mathlib.Core.List.{List, []}
 use Prim.Native.Nat.{ℕ, _+_, _-_, _*_, _/_, _≤_, _<_}
@@ -8,7 +8,7 @@ use native.Mathlib.Nat.{mul-one, mul-zero, one-mul, le-div-iff-mul-le}
 use native.Mathlib.Omega.{arith}
 use borrow.Author.Tests.{ne-eqb, lt-ltb, le-ltb, ltb-true}
 use lib.Dec.{eqb, ltb, leb}
-use lib.IntN.{ℤ, pos}
+use lib.IntN.{pos}
 use lib.ListN.{length, getD}
 use Rattle.laws.specs.Choice.{one, one-eqb, eqb-sym, and-left, and-right}
 use Rattle.laws.specs.Fold.{any-at, any-not}
@@ -16,7 +16,7 @@ use Rattle.laws.specs.Occurrence.{occ}
 use Rattle.laws.specs.Sum.{sum, sum-ext, sum-nil, sum-list, term-le, sumTo-two, countTo-le}
 use Rattle.model.specs.Catalogue.{Net, Hypergraph, vertices, averageWeight}
 use Rattle.model.specs.Measure.{Contraction, onBoard, pin, size, weight, adjacent}
-use Rattle.model.specs.Search.{Best, bestPair, rating, canJoin, joinBest}
+use Rattle.model.specs.Search.{bestPair, rating, canJoin, joinBest}
 use Rattle.guarantees.specs.Tops.{bestPair-ext}
 use Rattle.incidence.specs.On.{on}
 use Rattle.choice.specs.Rating.{near, spread, termOf, over, rowOf, scoreOf, TablesOk}

@@ -4,11 +4,10 @@ use crate::numbers::wide;
 use crate::numbers::wide32;
 use incidence::next_net;
 ghost use mathlib.Core.Path.{_≡_};
-ghost use mathlib.Core.Bool.{not, _&&_};
-ghost use Prim.Native.Nat.{ℕ, _+_, _-_, _*_, _<_, _≤_};
+ghost use Prim.Native.Nat.{_+_, _-_, _*_, _<_, _≤_};
 ghost use lib.ListN.{length, getD};
 ghost use lib.Signed.{ltZ};
-ghost use Rattle.incidence.specs.On.{on, Next};
+ghost use Rattle.incidence.specs.On.{Next};
 ghost use Rattle.model.specs.Search.{bestPair};
 ghost use Rattle.choice.specs.Open.{bestOf, gainIn, roomFor, mayGo, openIn, exceeds, considered, bestInRow, Chosen, PairOk, RowOk, VertexOk, SearchOk};
 

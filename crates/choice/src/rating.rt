@@ -2,8 +2,8 @@
 use crate::numbers::wide;
 use incidence::next_net;
 ghost use mathlib.Core.Path.{_≡_};
-ghost use Prim.Native.Nat.{ℕ, _+_, _-_, _*_, _/_, _<_, _≤_};
-ghost use lib.ListN.{length, getD};
+ghost use Prim.Native.Nat.{_+_, _-_, _*_, _/_, _<_, _≤_};
+ghost use lib.ListN.{length};
 ghost use Rattle.choice.specs.Rating.{near, hit, spread, termOf, rowOf, ownSum, OwnOk, Raised, PinOk, StretchOk, TablesOk, Blank};
 
 // What a net of weight `w` with `n` pins adds to the rating of two of them.

@@ -1,11 +1,10 @@
-use Prim.Native.Nat.{ℕ, _≤_, _-_}
+use Prim.Native.Nat.{_≤_, _-_}
 use Rattle.choice.specs.Rating.{Blank, scoreOf}
 use Rattle.choice.specs.JoinLaw.{joinTo, join-none, join-more}
 use native.Mathlib.Omega.{arith}
 use Rattle.choice.specs.JoinPair.{best-join}
-use mathlib.Core.Path.{_≡_, sym, _∙_, ap, subst}
+use mathlib.Core.Path.{_≡_, _∙_, ap}
 use denote.Ref.{now}
-use borrow.Author.Needs.{needs}
 use Rattle.choice.proofs.join.best_join.Statement.{statement}
 use Rattle.choice.proofs.join.best_join.Tie as tie
 use Rattle.choice.proofs.join.best_join.Reads as reads

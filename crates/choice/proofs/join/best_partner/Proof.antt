@@ -1,8 +1,5 @@
 use Rattle.choice.specs.JoinLaw.{select-ok, partner-law}
-use native.Mathlib.Omega.{arith}
-use mathlib.Core.Path.{_≡_, sym, _∙_, ap, subst}
 use denote.Ref.{now}
-use borrow.Author.Needs.{needs}
 use Rattle.choice.proofs.join.best_partner.Statement.{statement}
 use Rattle.choice.proofs.join.best_partner.Tie as tie
 use Rattle.choice.proofs.join.best_partner.Reads as reads

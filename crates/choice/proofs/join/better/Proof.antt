@@ -1,8 +1,5 @@
 use Rattle.choice.specs.JoinLaw.{joined-new, joined-old}
 use native.Mathlib.Omega.{arith}
-use mathlib.Core.Path.{_≡_, sym, _∙_, ap, subst}
-use denote.Ref.{now}
-use borrow.Author.Needs.{needs}
 use Rattle.choice.proofs.join.better.Statement.{statement}
 use Rattle.choice.proofs.join.better.Tie as tie
 use Rattle.choice.proofs.join.better.Reads as reads

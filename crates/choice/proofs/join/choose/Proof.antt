@@ -1,7 +1,5 @@
 use Rattle.choice.specs.PartnerLaw.{chose-new, chose-old, chose-tie}
 use native.Mathlib.Omega.{arith}
-use mathlib.Core.Path.{_≡_, sym, _∙_, ap}
-use denote.Ref.{now}
 use borrow.Author.Needs.{needs}
 use Rattle.choice.proofs.join.choose.Statement.{statement}
 use Rattle.choice.proofs.join.choose.Tie as tie

@@ -1,9 +1,6 @@
 use Prim.Native.Nat.{_+_}
 use borrow.Author.Tests.{lt-leb, le-leb}
 use native.Mathlib.Omega.{arith}
-use mathlib.Core.Path.{_≡_, sym, _∙_, ap}
-use denote.Ref.{now}
-use borrow.Author.Needs.{needs}
 use Rattle.choice.proofs.join.scored.Statement.{statement}
 use Rattle.choice.proofs.join.scored.Tie as tie
 use Rattle.choice.proofs.join.scored.Reads as reads

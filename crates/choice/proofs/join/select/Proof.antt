@@ -1,10 +1,9 @@
 use Prim.Native.Nat.{ℕ, _≤_, _<_, _-_}
-use lib.ListN.{getD}
 use Rattle.incidence.specs.On.{on}
 use Rattle.choice.specs.Rating.{Swept, metOf}
 use Rattle.choice.specs.PartnerLaw.{Weighed, met-none, met-stretch, met-more, nobody}
 use native.Mathlib.Omega.{arith}
-use mathlib.Core.Path.{_≡_, sym, _∙_, ap, subst}
+use mathlib.Core.Path.{_≡_, subst}
 use denote.Ref.{now}
 use borrow.Author.Needs.{needs}
 use Rattle.choice.proofs.join.select.Statement.{statement}

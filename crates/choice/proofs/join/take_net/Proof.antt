@@ -3,7 +3,7 @@ use Rattle.laws.specs.Occurrence.{occ}
 use Rattle.choice.specs.Rating.{Swept}
 use Rattle.choice.specs.PartnerLaw.{Weighed, sweep-none, sweep-more}
 use native.Mathlib.Omega.{arith}
-use mathlib.Core.Path.{_≡_, sym, _∙_, ap, subst}
+use mathlib.Core.Path.{_≡_, subst}
 use denote.Ref.{now}
 use borrow.Author.Needs.{needs}
 use Rattle.choice.proofs.join.take_net.Statement.{statement}

@@ -1,6 +1,4 @@
 use Rattle.choice.specs.PartnerLaw.{swept-set, weighed-pin}
-use native.Mathlib.Omega.{arith}
-use mathlib.Core.Path.{_≡_, sym, _∙_, ap}
 use denote.Ref.{now}
 use borrow.Author.Needs.{needs}
 use Rattle.choice.proofs.join.take_pin.Statement.{statement}

@@ -3,7 +3,7 @@ use Rattle.incidence.specs.On.{on}
 use Rattle.choice.specs.Rating.{Raised, rowOf}
 use Rattle.choice.specs.RatingLaw.{row-none, row-stretch, row-more}
 use native.Mathlib.Omega.{arith}
-use mathlib.Core.Path.{_≡_, sym, _∙_, ap, subst}
+use mathlib.Core.Path.{_≡_, subst}
 use denote.Ref.{now}
 use borrow.Author.Needs.{needs}
 use Rattle.choice.proofs.rating.accumulate.Statement.{statement}

@@ -2,7 +2,7 @@ use Prim.Native.Nat.{ℕ, _≤_, _-_}
 use Rattle.choice.specs.Rating.{Raised, spread, near}
 use Rattle.choice.specs.RatingLaw.{net-none, net-pin, net-more}
 use native.Mathlib.Omega.{arith}
-use mathlib.Core.Path.{_≡_, sym, _∙_, ap, subst}
+use mathlib.Core.Path.{_≡_, subst}
 use denote.Ref.{now}
 use borrow.Author.Needs.{needs}
 use Rattle.choice.proofs.rating.add_net.Statement.{statement}

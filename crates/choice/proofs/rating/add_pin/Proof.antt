@@ -1,7 +1,4 @@
 use Rattle.choice.specs.RatingLaw.{pin-early, pin-apart, pin-near}
-use native.Mathlib.Omega.{arith}
-use mathlib.Core.Path.{_≡_, sym, _∙_, ap}
-use denote.Ref.{now}
 use borrow.Author.Needs.{needs}
 use Rattle.choice.proofs.rating.add_pin.Statement.{statement}
 use Rattle.choice.proofs.rating.add_pin.Tie as tie

@@ -1,7 +1,5 @@
 use Rattle.choice.specs.RatingLaw.{term-none, term-some}
 use native.Mathlib.Omega.{arith}
-use mathlib.Core.Path.{_≡_, sym, _∙_, ap}
-use denote.Ref.{now}
 use borrow.Author.Needs.{needs}
 use Rattle.choice.proofs.rating.term.Statement.{statement}
 use Rattle.choice.proofs.rating.term.Tie as tie
