@@ -22,7 +22,8 @@ use Rattle.incidence.specs.On.{on}
 use Rattle.choice.specs.Rating.{near, spread, termOf, over, rowOf, scoreOf, TablesOk}
 use Rattle.choice.specs.RatingLaw.{over-nil, spread-in, spread-out}
 use Rattle.choice.specs.JoinLaw.{idle}
-use Rattle.choice.specs.JoinPair.{joinable, scored}
+use Rattle.choice.specs.JoinPair.{BestJoin, joinable, scored, join-open}
+use Rattle.choice.specs.declared.join.Join.{Join}
 
 -- the net of place e
 abbrev pub net : Hypergraph → ℕ → Net
@@ -196,3 +197,8 @@ module _ (h : Hypergraph) (cs : List Contraction) (block : ℕ → ℕ) (bits pi
   join-is =
       bestPair-ext (joinable (scoreOf bits pins firsts sizes netWeights blocks weights m limit)) (canJoin h cs block) (scored (scoreOf bits pins firsts sizes netWeights blocks weights m limit)) (λ u v. pos (rating h cs u v)) n n may-is worth-is
       ∙ ap (λ (z : ℕ). bestPair z z (canJoin h cs block) (λ u v. pos (rating h cs u v))) (k .n-is)
+
+  pub join-may : (r : Join) → BestJoin (scoreOf bits pins firsts sizes netWeights blocks weights m limit) n r → 1 ≤ r .rating → canJoin h cs block (r .into) (r .gone) ≡ true
+  join-may r b l =
+      let i = b .within l in
+      sym (may-is (r .into) (r .gone) (i .0) (i .1) (i .2) (i .3)) ∙ join-open (scoreOf bits pins firsts sizes netWeights blocks weights m limit) n r b l

@@ -23,6 +23,16 @@ rated (suc r) a b = best a b (pos (suc r))
 abbrev pub joinOf : Join → Best
 joinOf j = rated (j .rating) (j .into) (j .gone)
 
+pub joinOf-none : (r : Join) → r .rating ≡ 0 → joinOf r ≡ none
+joinOf-none r e = ap (λ (s : ℕ). rated s (r .into) (r .gone)) e
+
+pub joinOf-some : (r : Join) → 1 ≤ r .rating → joinOf r ≡ best (r .into) (r .gone) (pos (r .rating))
+joinOf-some r l = go (r .rating) l
+  where
+    go : (s : ℕ) → 1 ≤ s → rated s (r .into) (r .gone) ≡ best (r .into) (r .gone) (pos s)
+    go zero l = absurd (omega arith)
+    go (suc s) l = refl
+
 -- a pair whose score is not 0 may be contracted
 abbrev pub joinable : (ℕ → ℕ → ℕ) → ℕ → ℕ → Bool
 joinable score u v = ltb 0 (score u v)
@@ -125,3 +135,7 @@ module _ (score : ℕ → ℕ → ℕ) where
       range : (s : ℕ) → r .rating ≡ s → Top (joinable score) (scored score) In (rated s (r .into) (r .gone)) → 1 ≤ r .rating → In (r .into) (r .gone)
       range zero e t l = absurd (omega arith)
       range (suc s) e t l = t .there
+
+  -- the pair that is answered may be contracted
+  pub join-open : (n : ℕ) (r : Join) → BestJoin score n r → 1 ≤ r .rating → joinable score (r .into) (r .gone) ≡ true
+  join-open n r b l = subst (Top (joinable score) (scored score) (λ a c. (1 ≤ a) × (a ≤ n) × (1 ≤ c) × (c ≤ n))) (sym (b .same) ∙ joinOf-some r l) (best-top (joinable score) (scored score) n n) .open-pair

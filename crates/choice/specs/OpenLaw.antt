@@ -155,3 +155,8 @@ module _ (candidates blocks weights loads : List ℕ) (capacity : ℕ) (worth : 
       range : (r : Pick) → Top may worth In (bestOf worth r) → PickIn n k r
       range Nothing t = tt
       range (Move v b) t = t .there
+
+-- the pair that is answered is open
+pub pick-open : (may : ℕ → ℕ → Bool) (worth : ℕ → ℕ → ℤ) (n k v b : ℕ) (r : Pick) → r ≡ Move v b → Chosen worth n k r (bestPair n k may worth) → may v b ≡ true
+pick-open may worth n k v b r e c =
+    subst (Top may worth (λ a d. (1 ≤ a) × (a ≤ n) × (1 ≤ d) × (d ≤ k))) (sym (c .same) ∙ ap (bestOf worth) e) (best-top may worth k n) .open-pair

@@ -11,11 +11,13 @@ ghost use Rattle.incidence.specs.On.{Next};
 ghost use Rattle.model.specs.Search.{bestPair};
 ghost use Rattle.choice.specs.Open.{bestOf, gainIn, roomFor, mayGo, openIn, exceeds, considered, bestInRow, Chosen, PairOk, RowOk, VertexOk, SearchOk};
 
+// The open pair to take, or that no pair is open.
 pub enum Pick {
     Move { vertex: u16, block: u16 },
     Nothing,
 }
 
+// Whether one gain is below another.
 fn less(a: i32, b: i32) -> bool
     ensures { λ r. ⌜ r ≡ ltZ a b ⌝ }
 {
@@ -133,7 +135,8 @@ fn next_candidate(candidates: &[u64], from: usize, n: usize) -> usize
     next_net(candidates, 0, from, n)
 }
 
-// The open pair of highest gain, then lowest vertex, then lowest block.
+// The open pair of highest gain, then lowest vertex, then lowest block: vertices and blocks count from 1. `loads` are the blocks' weights,
+// `candidates` a row of bits in which vertex v is bit v - 1.
 pub fn best_open(
     gains: &[i32],
     blocks: &[u16],
