@@ -1,24 +1,24 @@
--- The fast change of a pin. Assumes nothing.
+-- The steps of `set_pin`: the row of the changed pin, the counts, the other pins, that row again. Rests on Set and Touch.
 use Prim.Native.Nat.{ℕ, zero, suc, _+_, _*_, _-_, _<_, _≤_}
-use mathlib.Core.Path.{_≡_, refl, sym, ap, _∙_, subst}
-use mathlib.Core.Bool.{Bool, true, false, cond}
+use mathlib.Core.Path.{_≡_, refl, sym, ap, _∙_}
+use mathlib.Core.Bool.{Bool, true, false}
 use mathlib.Core.List.{List}
 use native.Mathlib.Omega.{arith}
 use native.Mathlib.Decide.{ℕ-discrete}
 use lib.ListN.{length, getD}
-use lib.IntN.{ℤ, pos, natAbs, _+ℤ_, _-ℤ_, negℤ, +ℤ-idr}
-use Rattle.laws.specs.Place.{place, place-at, place-off, place-ext}
-use Rattle.laws.specs.Integer.{eq-by, add-is, sub-is, neg-is, natAbs-add}
+use lib.IntN.{ℤ, natAbs, _+ℤ_, _-ℤ_, +ℤ-idr}
+use Rattle.laws.specs.Place.{place, place-at, place-off}
+use Rattle.laws.specs.Integer.{eq-by, add-is, sub-is, natAbs-add}
 use Rattle.laws.specs.IntegerSum.{sumZ, sumZ-change}
 use Rattle.connectivity.specs.Share.{share}
 use Rattle.connectivity.specs.Raised.{Raised, Ready, at}
-use Rattle.connectivity.specs.Matrix.{cnt, shareOf, shr, upd, Tally, Stands, Kept}
-use Rattle.connectivity.specs.Row.{read, row, upd-here, upd-there, share-is, shareOf-le, shareOf-none}
-use Rattle.connectivity.specs.Law.{Step, count-of, given-is, small-of, tally-ext, stands-ext, upd-none}
-use Rattle.connectivity.specs.Set.{Frame, Seen, Sets, Set, come, kept-tally-trans, kept-gains-trans, kept-step, kept-laid, past-none, signed-le}
+use Rattle.connectivity.specs.Matrix.{rowCount, shareOf, rowShare, setPin, Tally, Stands}
+use Rattle.connectivity.specs.Row.{read, row, setPin-here, setPin-there, share-is, shareOf-le, shareOf-none}
+use Rattle.connectivity.specs.Law.{Step, count-of, given-is, small-of, stands-ext, setPin-none}
+use Rattle.connectivity.specs.Set.{Sets, Set, come, kept-tally-trans, kept-gains-trans, kept-step, kept-laid, past-none}
 use Rattle.connectivity.specs.Change.{delta, delta-none, share-change}
 use Rattle.connectivity.specs.Touch.{Others, Delta}
-use Rattle.connectivity.specs.Laid.{Laid, Net, given, given-none, signed, laid-none, laid-more, laid-next}
+use Rattle.connectivity.specs.Laid.{Laid, given, given-none, signed, signed-le, laid-none, laid-more, laid-next}
 
 -- the count of a block, and `none` where there is no block
 pub record CountAt (counts : List ℕ) (e a none r : ℕ) : Type 0 where
@@ -64,15 +64,15 @@ moved-by s f d = eq-by _ _ (omega (arith, sub-is s f, add-is f d, add-is (s -ℤ
 
 module _ {Q : ℕ → ℕ → ℕ} {n m k : ℕ} {weights cs vs cs′ vs′ : List ℕ} {g g₁ g₂ g₃ : List ℤ} (R : ℕ → ℕ) (e x a b w fa fb : ℕ) (he : e < m) (hx : x < n) (few : k ≤ 16) (ha : a ≤ k) (hb : b ≤ k) (ew : w ≡ getD weights e 0) (ne : a ≡ b → ⊥)
     (s : Stands Q n m k weights cs vs g) (seen : (y : ℕ) → y < n → Q e y ≡ place R x a y) (ca : CountAt cs e a 3 fa) (cb : CountAt cs e b 2 fb)
-    (t : Tally (upd Q e x b) n m k cs′ vs′)
+    (t : Tally (setPin Q e x b) n m k cs′ vs′)
     (l₁ : Laid (given true cs e w) (place (λ _. 0) x a) k g g₁) (l₂ : Laid (Delta a b fa fb w) (place R x 0) k g₁ g₂) (l₃ : Laid (given false cs′ e w) (place (λ _. 0) x b) k g₂ g₃) where
   own : Q e x ≡ a
   own = seen x hx ∙ place-at R x a
 
-  own-now : upd Q e x b e x ≡ b
-  own-now = rw upd-here (place-at (Q e) x b)
+  own-now : setPin Q e x b e x ≡ b
+  own-now = rw setPin-here (place-at (Q e) x b)
 
-  at-x : (j : ℕ) → j < k → at g₃ (16 * x + j) ≡ (at g (16 * x + j) -ℤ shr n (getD weights e 0) (Q e) x (j + 1)) +ℤ shr n (getD weights e 0) (upd Q e x b e) x (j + 1)
+  at-x : (j : ℕ) → j < k → at g₃ (16 * x + j) ≡ (at g (16 * x + j) -ℤ rowShare n (getD weights e 0) (Q e) x (j + 1)) +ℤ rowShare n (getD weights e 0) (setPin Q e x b e) x (j + 1)
   unfolding signed
   at-x j hj =
       l₃ .inside x j hj
@@ -90,10 +90,10 @@ module _ {Q : ℕ → ℕ → ℕ} {n m k : ℕ} {weights cs vs cs′ vs′ : Li
       )
 
   -- at any other vertex
-  share-now : (y c : ℕ) → y < n → (y ≡ x → ⊥) → 1 ≤ c → shr n w (upd Q e x b e) y c ≡ shr n w (Q e) y c +ℤ delta a b fa fb w (Q e y) c
-  share-now y c hy ny hc = rw (upd-here, place-off (Q e) x b y ny) (by (Q e y) refl)
+  share-now : (y c : ℕ) → y < n → (y ≡ x → ⊥) → 1 ≤ c → rowShare n w (setPin Q e x b e) y c ≡ rowShare n w (Q e) y c +ℤ delta a b fa fb w (Q e y) c
+  share-now y c hy ny hc = rw (setPin-here, place-off (Q e) x b y ny) (by (Q e y) refl)
     where
-      by : (o : ℕ) → Q e y ≡ o → shareOf (cnt n (place (Q e) x b)) w o c ≡ shareOf (cnt n (Q e)) w o c +ℤ delta a b fa fb w o c
+      by : (o : ℕ) → Q e y ≡ o → shareOf (rowCount n (place (Q e) x b)) w o c ≡ shareOf (rowCount n (Q e)) w o c +ℤ delta a b fa fb w o c
       by zero q = rw (shareOf-none, shareOf-none, delta-none) refl
       by (suc o) q = share-change n (Q e) x a b w hx own ne fa fb
           (λ h. ca .yes h ∙ count-of (s .tally) e x he hx few a h ha) (λ h. cb .yes h ∙ count-of (s .tally) e x he hx few b h hb)
@@ -105,23 +105,23 @@ module _ {Q : ℕ → ℕ → ℕ} {n m k : ℕ} {weights cs vs cs′ vs′ : Li
       ∙ l₂ .inside y j hj
       ∙ cc (place-off R x 0 y ny, place-off R x a y ny, seen y hy, laid-next (given-none true cs e w) l₁ y (place-off (λ _. 0) x a y ny) j hj)
 
-  pub stands-fast : Stands (upd Q e x b) n m k weights cs′ vs′ g₃
+  pub stands-fast : Stands (setPin Q e x b) n m k weights cs′ vs′ g₃
   stands-fast = record { tally = t; gained = λ y j hy hj. by y j hy hj (ℕ-discrete y x) }
     where
-      change : (y j : ℕ) → (sumZ (λ d. shr n (getD weights d 0) (Q d) y (j + 1)) m -ℤ shr n (getD weights e 0) (Q e) y (j + 1)) +ℤ shr n (getD weights e 0) (upd Q e x b e) y (j + 1)
-          ≡ sumZ (λ d. shr n (getD weights d 0) (upd Q e x b d) y (j + 1)) m
-      change y j = sumZ-change (λ d. shr n (getD weights d 0) (Q d) y (j + 1)) (λ d. shr n (getD weights d 0) (upd Q e x b d) y (j + 1)) m e he
-          (λ d u nd. ap (λ (r : ℕ → ℕ). shr n (getD weights d 0) r y (j + 1)) (sym (upd-there Q e x b d nd)))
+      change : (y j : ℕ) → (sumZ (λ d. rowShare n (getD weights d 0) (Q d) y (j + 1)) m -ℤ rowShare n (getD weights e 0) (Q e) y (j + 1)) +ℤ rowShare n (getD weights e 0) (setPin Q e x b e) y (j + 1)
+          ≡ sumZ (λ d. rowShare n (getD weights d 0) (setPin Q e x b d) y (j + 1)) m
+      change y j = sumZ-change (λ d. rowShare n (getD weights d 0) (Q d) y (j + 1)) (λ d. rowShare n (getD weights d 0) (setPin Q e x b d) y (j + 1)) m e he
+          (λ d u nd. ap (λ (r : ℕ → ℕ). rowShare n (getD weights d 0) r y (j + 1)) (sym (setPin-there Q e x b d nd)))
 
-      by : (y j : ℕ) → y < n → j < k → Dec (y ≡ x) → at g₃ (16 * y + j) ≡ sumZ (λ d. shr n (getD weights d 0) (upd Q e x b d) y (j + 1)) m
+      by : (y j : ℕ) → y < n → j < k → Dec (y ≡ x) → at g₃ (16 * y + j) ≡ sumZ (λ d. rowShare n (getD weights d 0) (setPin Q e x b d) y (j + 1)) m
       by y j hy hj (yes q) = rw q (at-x j hj
-          ∙ ap (λ (z : ℤ). (z -ℤ shr n (getD weights e 0) (Q e) x (j + 1)) +ℤ shr n (getD weights e 0) (upd Q e x b e) x (j + 1)) (s .gained x j hx hj) ∙ change x j)
+          ∙ ap (λ (z : ℤ). (z -ℤ rowShare n (getD weights e 0) (Q e) x (j + 1)) +ℤ rowShare n (getD weights e 0) (setPin Q e x b e) x (j + 1)) (s .gained x j hx hj) ∙ change x j)
       by y j hy hj (no q) =
           at-y y j hy hj q
           ∙ ap (λ (z : ℤ). z +ℤ delta a b fa fb w (Q e y) (j + 1)) (s .gained y j hy hj)
-          ∙ sym (moved-by (sumZ (λ d. shr n (getD weights d 0) (Q d) y (j + 1)) m) (shr n (getD weights e 0) (Q e) y (j + 1)) (delta a b fa fb w (Q e y) (j + 1)))
-          ∙ ap (λ (z : ℤ). (sumZ (λ d. shr n (getD weights d 0) (Q d) y (j + 1)) m -ℤ shr n (getD weights e 0) (Q e) y (j + 1)) +ℤ z)
-          (sym (ap (λ (v : ℕ). shr n v (upd Q e x b e) y (j + 1)) (sym ew) ∙ share-now y (j + 1) hy q (omega arith) ∙ ap (λ (v : ℕ). shr n v (Q e) y (j + 1) +ℤ delta a b fa fb w (Q e y) (j + 1)) ew))
+          ∙ sym (moved-by (sumZ (λ d. rowShare n (getD weights d 0) (Q d) y (j + 1)) m) (rowShare n (getD weights e 0) (Q e) y (j + 1)) (delta a b fa fb w (Q e y) (j + 1)))
+          ∙ ap (λ (z : ℤ). (sumZ (λ d. rowShare n (getD weights d 0) (Q d) y (j + 1)) m -ℤ rowShare n (getD weights e 0) (Q e) y (j + 1)) +ℤ z)
+          (sym (ap (λ (v : ℕ). rowShare n v (setPin Q e x b e) y (j + 1)) (sym ew) ∙ share-now y (j + 1) hy q (omega arith) ∙ ap (λ (v : ℕ). rowShare n v (Q e) y (j + 1) +ℤ delta a b fa fb w (Q e y) (j + 1)) ew))
           ∙ change y j
 
 -- ---- the steps of the fast `set_pin`
@@ -129,7 +129,7 @@ module _ {weights cs vs pins blocks : List ℕ} {g : List ℤ} {n m k first p e 
   -- the block stays: nothing is done
   pub fast-same : a ≡ b → Set weights pins blocks n m k first p e x a b cs cs vs vs g g
   fast-same q = record {
-    stands = λ Q s f. stands-ext (λ d y l u. upd-none Q e x b d y (f x (o .x-in) ∙ place-at (row pins blocks first p) x a ∙ q)) s;
+    stands = λ Q s f. stands-ext (λ d y l u. setPin-none Q e x b d y (f x (o .x-in) ∙ place-at (row pins blocks first p) x a ∙ q)) s;
     kept = record {
       of-tally = record { counts-len = refl; masks-len = refl; counts-past = λ d j l u. refl; counts-over = λ i l. refl; masks-past = λ d j l. refl; masks-over = λ d l. refl };
       of-gains = record { gains-len = refl; gains-past = λ y j l u. refl; gains-over = λ y j l u. refl };
@@ -141,7 +141,7 @@ module _ {weights cs vs pins blocks : List ℕ} {g : List ℤ} {n m k first p e 
     light = omega (arith, ew, o .frame .weight e (o .e-in))
 
     small : (y j : ℕ) → y < n → j < k → natAbs (at g (16 * y + j)) ≤ 1024000
-    small = small-of (o .stands) (o .frame .nets) (o .frame .weight)
+    small = small-of (o .stands) (o .frame .few-nets) (o .frame .weight)
 
     pub fast-own : OwnRow g cs x e a k w
     fast-own = record {
@@ -200,7 +200,7 @@ module _ {weights cs vs pins blocks : List ℕ} {g : List ℤ} {n m k first p e 
 
         pub fast-done : {g₃ : List ℤ} → Laid (given false cs₂ e w) (place (λ _. 0) x b) k g₂ g₃ → Set weights pins blocks n m k first p e x a b cs cs₂ vs vs₂ g g₃
         fast-done l₃ = record {
-          stands = λ Q s f. stands-fast (row pins blocks first p) e x a b w fa fb (o .e-in) (o .x-in) (o .frame .few) (o .a-in) (o .b-in) ew ne s f ca cb (come o ew d u Q (s .tally) f) l₁ l₂ l₃;
+          stands = λ Q s f. stands-fast (row pins blocks first p) e x a b w fa fb (o .e-in) (o .x-in) (o .frame .few) (o .a-in) (o .b-in) ew ne s f ca cb (come o d u Q (s .tally) f) l₁ l₂ l₃;
           kept = record {
             of-tally = kept-tally-trans (kept-step (o .e-in) (o .a-in) (o .frame .few) d) (kept-step (o .e-in) (o .b-in) (o .frame .few) u);
             of-gains = kept-gains-trans (kept-laid (given-none true cs e w) (λ y h. place-off (λ _. 0) x a y (λ q. omega (arith, o .x-in))) l₁)

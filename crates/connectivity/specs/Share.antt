@@ -1,4 +1,4 @@
--- What one buyer adds to the gain of a move. Assumes nothing.
+-- What one net adds to the gain of a move, by the table of counts. Blocks count from 0 here. Assumes nothing.
 use Prim.Native.Nat.{ℕ, _+_, _≤_}
 use mathlib.Core.Path.{_≡_, refl}
 use native.Mathlib.Omega.{arith}
@@ -28,7 +28,7 @@ pub share-off : (counts : List ℕ) (crow own w x f d : ℕ) (a b r : ℤ) → (
 unfolding share
 share-off counts crow own w x f d a b r ne ef ed ea eb er = rw (ne-eqb x own ne) (rw (er, ea, eb, ef, ed) refl)
 
-when-le : (n want w : ℕ) → when n want w ≤ w
+pub when-le : (n want w : ℕ) → when n want w ≤ w
 unfolding when
 when-le n want w = by (eqb n want)
   where

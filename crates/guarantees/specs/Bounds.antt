@@ -1,19 +1,20 @@
--- How large totals and gains of a loaded catalogue get: they fit 32 bits. Assumes nothing.
-use Prim.Native.Nat.{ℕ, zero, suc, _+_, _-_, _*_, _≤_, _<_}
-use native.Mathlib.Nat.{mul-le-mul-left}
+-- How large the numbers of a loaded catalogue get: a gain's size is at most 1,024,000 and the metric at most 15,360,000, which fit 32 bits
+-- (gain-le, metric-le), and a rating is at most 5,160,960,000, which fits 64 (rating-le). Rests on Loads. Assumes nothing.
+use Prim.Native.Nat.{ℕ, _-_, _*_, _/_, _≤_}
+use native.Mathlib.Nat.{mul-le-mul-left, div-le-self}
 use native.Mathlib.Omega.{arith}
-use mathlib.Core.Path.{_≡_, refl, sym, ap, _∙_, subst}
 use mathlib.Core.Bool.{Bool, true, false, _&&_, cond}
-use mathlib.Core.List.{List, [], _∷_}
+use mathlib.Core.List.{List}
 use lib.Dec.{eqb, ltb}
-use lib.IntN.{ℤ, pos, natAbs, _-ℤ_}
+use lib.IntN.{pos, natAbs, _-ℤ_}
 use lib.ListN.{length}
 use Rattle.laws.specs.Choice.{cond-le}
 use Rattle.laws.specs.Integer.{natAbs-diff}
-use Rattle.laws.specs.Fold.{sumOver, All, sumOver-le}
+use Rattle.laws.specs.Fold.{sumOver-le}
 use Rattle.laws.specs.Sum.{countTo-le}
 use Rattle.model.specs.Catalogue.{Limits, Net, Hypergraph}
-use Rattle.model.specs.Measure.{Contraction, pin, pinCount, connectivity, metric, freed, drawn, gain}
+use Rattle.model.specs.Measure.{Contraction, pin, size, pinCount, connectivity, metric, freed, drawn, gain}
+use Rattle.model.specs.Search.{rating}
 use Rattle.guarantees.specs.Loads.{Loaded}
 
 module _ (limits : Limits) (narrow : limits .blockLimit ≤ 16) (h : Hypergraph) (g : Loaded limits h) (few : length (h .nets) ≤ 1024) (cs : List Contraction) (p : ℕ → ℕ) where
@@ -33,7 +34,7 @@ module _ (limits : Limits) (narrow : limits .blockLimit ≤ 16) (h : Hypergraph)
       go true = omega arith
       go false = natAbs-diff (freed h cs p v) (drawn h cs p v t) 1024000 (freed-le v) (drawn-le v t)
 
-  connectivity-le : (e : Net) → connectivity h cs p e ≤ h .blocks
+  pub connectivity-le : (e : Net) → connectivity h cs p e ≤ h .blocks
   unfolding connectivity
   connectivity-le e = countTo-le (h .blocks) (λ b. ltb 0 (pinCount h cs p e b))
 
@@ -45,3 +46,10 @@ module _ (limits : Limits) (narrow : limits .blockLimit ≤ 16) (h : Hypergraph)
       each e l =
           let c : connectivity h cs p e - 1 ≤ 15 = omega (arith, connectivity-le e, g .blocks-high) in
           omega (arith, mul-le-mul-left (e .weight) c)
+
+pub rating-le : (limits : Limits) (h : Hypergraph) → Loaded limits h → length (h .nets) ≤ 1024 → (cs : List Contraction) (u v : ℕ) → rating h cs u v ≤ 5160960000
+unfolding rating
+rating-le limits h g few cs u v = omega (arith, sumOver-le (h .nets) _ (λ e. cond (pin cs e u && pin cs e v) (5040 * e .weight / (size h cs e - 1)) 0) 5040000 (g .net-weights) (λ e r. each e (r .1)))
+  where
+    each : (e : Net) → e .weight ≤ 1000 → cond (pin cs e u && pin cs e v) (5040 * e .weight / (size h cs e - 1)) 0 ≤ 5040000
+    each e l = cond-le (pin cs e u && pin cs e v) (5040 * e .weight / (size h cs e - 1)) 5040000 (omega (arith, div-le-self (5040 * e .weight) (size h cs e - 1)))

@@ -1,39 +1,33 @@
--- The states that calls reach: the stack is one that J makes, every board lot has a session, and so on; and what A promises. Assumes nothing.
-use Prim.Native.Nat.{ℕ, zero, suc, _+_, _-_, _*_, _≤_, _<_}
-use native.Mathlib.Decide.{ℕ-discrete}
+-- Every call leaves a legal state legal: the stack is one that J makes, every vertex on the board has a block, the journal's moves are of such
+-- vertices (legal-call, legal-after). An accepted A ends with no contraction, on no higher metric, where no move with room lowers it (solves); its
+-- contractions end by their own rule (coarsen-ends). Rests on Splits, Ends and Walks. Assumes nothing.
+use Prim.Native.Nat.{ℕ, zero, suc, _+_, _*_, _≤_}
 use native.Mathlib.Omega.{arith}
-use mathlib.Core.Path.{_≡_, refl, sym, ap, ap₂, _∙_, subst}
-use mathlib.Core.Logic.{_⊎_, inl, inr, ⊎-elim}
-use mathlib.Core.Bool.{Bool, true, false, not, _||_, _&&_, true≢false, cond}
+use mathlib.Core.Path.{_≡_, refl, sym, ap, _∙_, subst}
+use mathlib.Core.Logic.{_⊎_, inl, inr}
+use mathlib.Core.Bool.{Bool, true, false, not, _&&_, cond}
 use mathlib.Core.List.{List, [], _∷_}
-use borrow.Author.Tests.{eq-eqb, ne-eqb, eqb-true, eqb-false, leb-true, ltb-true, ltb-false, le-ltb, not-true, not-false}
-use lib.Dec.{eqb, leb, ltb}
-use lib.IntN.{ℤ, pos}
-use lib.Signed.{_≤ℤ_}
+use borrow.Author.Tests.{eq-eqb, ne-eqb, eqb-true, eqb-false, ltb-true, le-ltb, not-false}
+use lib.Dec.{eqb, ltb}
+use lib.IntN.{pos}
 use Rattle.laws.specs.Choice.{one, and-left, and-right, cond-zero}
-use Rattle.laws.specs.Sum.{sumTo, countTo, sumTo-change, countTo-le}
-use Rattle.laws.specs.Place.{place, place-at, place-off, place-back}
-use Rattle.model.specs.Catalogue.{Net, Hypergraph, vertices, drafted, isVertex, isBlock, averageWeight}
-use Rattle.model.specs.Measure.{Contraction, above, onBoard, weight, blockWeight, adjacent, metric, gain, hasRoom}
+use Rattle.laws.specs.Sum.{sumTo-change, countTo-le}
+use Rattle.model.specs.Catalogue.{Hypergraph, vertices, drafted, isVertex, isBlock}
+use Rattle.model.specs.Measure.{Contraction, above, onBoard, blockWeight, metric}
 use Rattle.model.specs.Machine.{Call, callJ, callS, callM, callB, callW, callP, callA, Move, State, Step, fresh, settle, refusesJ, contract, doesJ, refusesM, doesM, uncontract, doesS, doesB}
-use Rattle.model.specs.Search.{Best, none, best, bestPair, Walk, Coarse, Fine, canGo, walk, walked, polish, rating, canJoin, joinBest, joinTurn, boardSize, coarsen, refine, refusesW, doesW, doesP, refusesA, doesA, call}
+use Rattle.model.specs.Search.{Best, none, best, Coarse, Fine, rating, canJoin, joinBest, joinTurn, boardSize, coarsen, refine, refusesW, doesW, doesP, refusesA, doesA, call}
 use Rattle.model.specs.Engine.{after}
 use Rattle.guarantees.specs.Climbs.{Joins, Sound, above-gone, above-other}
 use Rattle.guarantees.specs.Joins.{metric-join}
 use Rattle.guarantees.specs.Weights.{blockWeight-join}
+pub use Rattle.guarantees.specs.Reading.{vertex-range, block-range}
 pub use Rattle.guarantees.specs.Splits.{Inside, AllInside, placed-join, into-on, placed-split, metric-split}
 use Rattle.guarantees.specs.Tops.{Top, best-top}
-use Rattle.guarantees.specs.Ends.{Placed, At, Pair, placed-move, Polished, polish-ends}
+use Rattle.guarantees.specs.Ends.{Placed, placed-move, Polished, polish-ends}
 use Rattle.guarantees.specs.Walks.{walked-metric}
 
 module _ (h : Hypergraph) where
-  pub vertex-range : (v : ℕ) → isVertex h v ≡ true → (1 ≤ v) × (v ≤ vertices h)
-  vertex-range v q = (leb-true 1 v (and-left _ _ q), leb-true v (vertices h) (and-right (leb 1 v) _ q))
-
-  pub block-range : (b : ℕ) → isBlock h b ≡ true → (1 ≤ b) × (b ≤ h .blocks)
-  block-range b q = (leb-true 1 b (and-left _ _ q), leb-true b (h .blocks) (and-right (leb 1 b) _ q))
-
-  -- the moves on the record are of board lots, from sessions
+  -- the journal's moves are of vertices on the board, from blocks
   abbrev pub Recorded : List Contraction → List Move → Type 0
   Recorded cs [] = Unit {0}
   Recorded cs (m ∷ ms) = ((above cs (m .vertex) ≡ 0) × (1 ≤ m .from) × (m .from ≤ h .blocks)) × Recorded cs ms
@@ -44,7 +38,7 @@ module _ (h : Hypergraph) where
     pub placed : Placed h (s .stack) (s .block)
     pub recorded : Recorded (s .stack) (s .journal)
 
-  -- ---- A's joins
+  -- ---- A's contractions
   pub record Coarsened (p : ℕ → ℕ) (c : Coarse) : Type 0 where
     pub sound : Sound (c .stack)
     pub inside : AllInside h (c .stack)
@@ -52,7 +46,7 @@ module _ (h : Hypergraph) where
     pub same : metric h (c .stack) (c .block) ≡ metric h [] p
     pub same-weights : (b : ℕ) → blockWeight h (c .stack) (c .block) b ≡ blockWeight h [] p b
 
-  -- what a pair that A may join is
+  -- what a pair that A may contract is
   pub can-join : (cs : List Contraction) (p : ℕ → ℕ) (u v : ℕ) → 1 ≤ u → canJoin h cs p u v ≡ true → Joins cs (record { into = u; gone = v }) × (p u ≡ p v)
   unfolding canJoin
   can-join cs p u v l q =
@@ -92,7 +86,7 @@ module _ (h : Hypergraph) where
       go ih true = join-turn p c (coarsen h n) k ih _ (best-top (canJoin h (c .stack) (c .block)) (λ u v. pos (rating h (c .stack) u v)) (vertices h) (vertices h))
       go ih false = k
 
-  -- ---- A's splits and walks
+  -- ---- A's uncontractions and walks
   pub refined : (cs : List Contraction) (f : Fine) → Sound cs → AllInside h cs → Placed h cs (f .block) → Placed h [] (refine h cs f .block) × (metric h [] (refine h cs f .block) ≤ metric h cs (f .block))
   unfolding refine
   refined [] f s r ok = (ok, omega arith)
@@ -102,7 +96,7 @@ module _ (h : Hypergraph) where
       let end = refined cs _ (s .1) (r .1) (w .0) in
       (end .0, omega (arith, end .1, w .2, metric-split h cs c s (r .0) (f .block) ok))
 
-  -- ---- A: no join stands, the total is no higher, and no single move that has space lowers it
+  -- ---- A: no contraction stands, the metric is no higher, and no single move that has room lowers it
   pub solves : (s : State) → Placed h [] (s .block) → Polished h [] (s .block) (doesA h s .state .block)
   unfolding doesA
   solves s ok =
@@ -125,8 +119,8 @@ module _ (h : Hypergraph) where
       let b = cond-zero (eqb u v) 11 _ (omega arith) (a .1) in
       let c = cond-zero (not (onBoard (s .stack) u && onBoard (s .stack) v)) 10 _ (omega arith) (b .1) in
       let r = not-false _ (a .0) in
-      let ru = vertex-range u (and-left _ _ r) in
-      let rv = vertex-range v (and-right (isVertex h u) _ r) in
+      let ru = vertex-range h u (and-left _ _ r) in
+      let rv = vertex-range h v (and-right (isVertex h u) _ r) in
       let o = not-false _ (c .0) in
       let j : Joins (s .stack) (record { into = u; gone = v }) = record {
         real = ru .0;
@@ -160,8 +154,8 @@ module _ (h : Hypergraph) where
       let a = cond-zero (not (isVertex h v && isBlock h t)) 9 _ (omega arith) q in
       let b = cond-zero (not (onBoard (s .stack) v)) 10 _ (omega arith) (a .1) in
       let r = not-false _ (a .0) in
-      let rv = vertex-range v (and-left _ _ r) in
-      let rt = block-range t (and-right (isVertex h v) _ r) in
+      let rv = vertex-range h v (and-left _ _ r) in
+      let rt = block-range h t (and-right (isVertex h v) _ r) in
       let on = eqb-true (above (s .stack) v) 0 (not-false _ (b .0)) in
       let here = ok .placed v (rv .0) (rv .1) .board on in
       record {
@@ -206,7 +200,7 @@ module _ (h : Hypergraph) where
   legal-call s callP ok = legal-P s ok
   legal-call s callA ok = settled (refusesA h s (s .stack)) s (doesA h s) ok (legal-A s (s .stack) refl ok)
 
-  -- a fresh machine is legal where the draft has each lot in a session
+  -- a fresh machine is legal where the draft has each vertex in a block
   pub legal-fresh : ((x : ℕ) → 1 ≤ x → x ≤ vertices h → (1 ≤ drafted h x) × (drafted h x ≤ h .blocks)) → Legal (fresh h)
   unfolding fresh above
   legal-fresh d = record {
@@ -216,8 +210,8 @@ module _ (h : Hypergraph) where
     recorded = tt;
   }
 
-  -- ---- A's joins end by their own rule: at most 2 × k lots are on the board, or no pair may be joined
-  board-join : (cs : List Contraction) (c : Contraction) → Joins cs c → 1 ≤ c .gone → c .gone ≤ vertices h → boardSize h (c ∷ cs) + 1 ≡ boardSize h cs
+  -- ---- A's contractions end by their own rule: at most 2 × k vertices are on the board, or no pair may be contracted
+  pub board-join : (cs : List Contraction) (c : Contraction) → Joins cs c → 1 ≤ c .gone → c .gone ≤ vertices h → boardSize h (c ∷ cs) + 1 ≡ boardSize h cs
   unfolding boardSize
   board-join cs c j l u = omega (
     arith,

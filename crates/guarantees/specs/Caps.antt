@@ -1,28 +1,30 @@
--- No session is ever above its cap. Assumes nothing.
-use Prim.Native.Nat.{ℕ, zero, suc, _+_, _-_, _*_, _≤_, _<_}
+-- Every call keeps a state in which no block is above the capacity, nor would be after any reversals of the journal's moves (held-call, held-after):
+-- moves are made where there is room, and each state that the journal leads back to was within the capacity. Rests on Calls. Assumes nothing.
+use Prim.Native.Nat.{ℕ, zero, suc, _+_, _-_, _≤_}
 use native.Mathlib.Decide.{ℕ-discrete}
 use native.Mathlib.Omega.{arith}
-use mathlib.Core.Path.{_≡_, refl, sym, ap, ap₂, _∙_, subst}
-use mathlib.Core.Bool.{Bool, true, false, not, _||_, _&&_, cond}
+use mathlib.Core.Path.{_≡_, refl, sym, ap, _∙_, subst}
+use mathlib.Core.Bool.{Bool, true, false, not, _&&_, cond}
 use mathlib.Core.List.{List, [], _∷_}
-use borrow.Author.Tests.{eq-eqb, ne-eqb, eqb-true, leb-true, not-false, not-true}
-use lib.Dec.{eqb, leb, ltb}
+use borrow.Author.Tests.{eq-eqb, ne-eqb, leb-true, not-false}
+use lib.Dec.{eqb, leb}
 use lib.IntN.{pos}
 use lib.Signed.{ltZ}
 use Rattle.laws.specs.Place.{place, place-back}
 use Rattle.laws.specs.Choice.{and-left, and-right, cond-zero}
 use Rattle.model.specs.Catalogue.{Hypergraph, vertices, isVertex, isBlock, capacity}
-use Rattle.model.specs.Measure.{Contraction, above, onBoard, weight, blockWeight, gain, metric, hasRoom}
-use Rattle.model.specs.Search.{Best, none, best, Walk, Polish, canGo, isOpen, walkBest, walkMove, walkTurn, walkOn, walk, walked, polishBest, polishTurn, polishOn, polish, reversed, Coarse, Fine, canJoin, joinBest, joinTurn, boardSize, coarsen, refine, rating, refusesW, doesW, doesP, refusesA, doesA, call}
-use Rattle.model.specs.Machine.{Call, callJ, callS, callM, callB, callW, callP, callA, Move, State, Step, fresh, settle, refusesJ, contract, doesJ, refusesM, doesM, uncontract, doesS, doesB}
+use Rattle.model.specs.Measure.{Contraction, onBoard, weight, blockWeight, gain, metric, hasRoom}
+use Rattle.model.specs.Search.{Best, none, best, Walk, Polish, canGo, isOpen, walkBest, walkMove, walkTurn, walkOn, walk, walked, polishBest, polishTurn, polishOn, polish, Fine, refine, refusesW, doesW, doesP, refusesA, doesA, call, patience}
+use Rattle.model.specs.Machine.{Call, callJ, callS, callM, callB, callW, callP, callA, Move, State, Step, settle, refusesJ, contract, doesJ, refusesM, doesM, uncontract, doesS, doesB}
 use Rattle.model.specs.Engine.{after as afterCalls}
 use Rattle.guarantees.specs.Tops.{Top, best-top}
-use Rattle.guarantees.specs.Ends.{Placed, Pair, can-on, can-away}
+use Rattle.guarantees.specs.Ends.{Placed, Pair, can-on}
 use Rattle.guarantees.specs.Walks.{moved, prefix, prefix-now, after, after-old, after-new, reversed-nil, walk-ends, walked-metric}
-use Rattle.guarantees.specs.Weights.{blockWeight-join, blockWeight-move}
+use Rattle.guarantees.specs.Weights.{blockWeight-move}
 use Rattle.guarantees.specs.Climbs.{Sound}
 use Rattle.guarantees.specs.Splits.{Inside, AllInside, placed-split, blockWeight-split}
-use Rattle.guarantees.specs.Calls.{Legal, Coarsened, coarsened, legal-J, legal-S, legal-M, legal-B, legal-W, legal-P, legal-A, legal-call, vertex-range, block-range}
+use Rattle.guarantees.specs.Contractions.{J-leaves, S-leaves}
+use Rattle.guarantees.specs.Calls.{Legal, coarsened, legal-J, legal-S, legal-M, legal-B, legal-W, legal-P, legal-A, vertex-range, block-range}
 
 module _ (h : Hypergraph) (cs : List Contraction) where
   abbrev pub Capped : (ℕ → ℕ) → Type 0
@@ -99,7 +101,7 @@ module _ (h : Hypergraph) (cs : List Contraction) where
     walk-keeps : (n : ℕ) (w : Walk) → Each w → Each (walkOn h cs n w)
     unfolding walkOn walkBest
     walk-keeps zero w ok = ok
-    walk-keeps (suc n) w ok = go (walk-keeps n) (leb (w .kept + 25) (w .tried))
+    walk-keeps (suc n) w ok = go (walk-keeps n) (leb (w .kept + patience) (w .tried))
       where
         go : ((x : Walk) → Each x → Each (walkOn h cs n x)) → (b : Bool) → Each (cond b w (walkTurn h cs w (walkOn h cs n) (walkBest h cs w)))
         go ih true = ok
@@ -110,10 +112,7 @@ module _ (h : Hypergraph) (cs : List Contraction) where
     walked-keeps p u v placed ok = walk-keeps (vertices h) _ (λ i l. subst Q (sym (reversed-nil (0 - i) p)) ok) (walk h cs p u v .kept) (walk-ends h cs p u v placed .going .kept-le)
 
 module _ (h : Hypergraph) where
-  -- ---- a join and a split
-  capped-join : (cs : List Contraction) (c : Contraction) (p : ℕ → ℕ) → Sound (c ∷ cs) → Inside h c → p (c .into) ≡ p (c .gone) → Capped h cs p → Capped h (c ∷ cs) (place p (c .gone) 0)
-  capped-join cs c p s r e ok b l u = omega (arith, blockWeight-join h cs c s p (r .0) (r .1) (r .2) (r .3) e b, ok b l u)
-
+  -- ---- an uncontraction
   capped-split : (cs : List Contraction) (c : Contraction) (p : ℕ → ℕ) → Sound (c ∷ cs) → Inside h c → Placed h (c ∷ cs) p → Capped h (c ∷ cs) p → Capped h cs (uncontract p c)
   capped-split cs c p s r placed ok b l u = omega (arith, blockWeight-split h cs c s r p placed b, ok b l u)
 
@@ -132,7 +131,7 @@ module _ (h : Hypergraph) where
       let k = coarsened h (vertices h) (s .block) (record { stack = []; block = s .block }) (record { sound = tt; inside = tt; placed = placed; same = refl; same-weights = λ b. refl }) in
       polished-keeps h [] (Capped h []) (capped-move h []) _ (capped-refine _ _ (k .sound) (k .inside) (k .placed) (λ b l u. omega (arith, k .same-weights b, ok b l u)))
 
-  -- ---- the states that calls reach: no session above its cap, and none after any reversals either
+  -- ---- the states that calls reach: no block above the capacity, and none after any reversals either
   abbrev pub Back : List Contraction → (ℕ → ℕ) → List Move → Type 0
   Back cs p [] = Unit {0}
   Back cs p (m ∷ ms) = Capped h cs (place p (m .vertex) (m .from)) × Back cs (place p (m .vertex) (m .from)) ms
@@ -148,26 +147,19 @@ module _ (h : Hypergraph) where
   held-settled (suc q) s done ok f = ok
 
   held-J : (s : State) (u v : ℕ) → Held s → refusesJ h s u v ≡ 0 → Held (doesJ h s u v .state)
-  unfolding doesJ contract refusesJ
-  held-J s u v ok q =
-      let l = legal-J h s u v (ok .legal) q in
-      let a = cond-zero (not (isVertex h u && isVertex h v)) 9 _ (omega arith) q in
-      let b = cond-zero (eqb u v) 11 _ (omega arith) (a .1) in
-      let c = cond-zero (not (onBoard (s .stack) u && onBoard (s .stack) v)) 10 _ (omega arith) (b .1) in
-      let d = cond-zero (not (eqb (s .block u) (s .block v))) 13 0 (omega arith) (c .1) in
-      record {
-        legal = l;
-        capped = capped-join (s .stack) (record { into = u; gone = v }) (s .block) (l .sound) (l .inside .0) (eqb-true _ _ (not-false _ (d .0))) (ok .capped);
-        back = tt;
-      }
+  unfolding doesJ contract
+  held-J s u v ok q = record {
+    legal = legal-J h s u v (ok .legal) q;
+    capped = λ b l m. omega (arith, J-leaves h s u v (ok .legal) q .same-weights b, ok .capped b l m);
+    back = tt;
+  }
 
   held-S : (s : State) (cs : List Contraction) → s .stack ≡ cs → Held s → Held (doesS s cs .state)
   unfolding doesS
   held-S s [] q ok = ok
   held-S s (c ∷ cs) q ok = record {
     legal = legal-S h s (c ∷ cs) q (ok .legal);
-    capped = capped-split cs c (s .block) (subst Sound q (ok .legal .sound)) (subst (AllInside h) q (ok .legal .inside) .0)
-        (subst (λ (l : List Contraction). Placed h l (s .block)) q (ok .legal .placed)) (subst (λ (l : List Contraction). Capped h l (s .block)) q (ok .capped));
+    capped = λ b l u. omega (arith, S-leaves h s (c ∷ cs) q (ok .legal) .same-weights b, ok .capped b l u);
     back = tt;
   }
 

@@ -1,9 +1,11 @@
--- The representative after a contraction, and the pins after it. Assumes nothing.
-use Prim.Native.Nat.{ℕ, zero, suc, _+_, _≤_, _<_}
+-- On a stack of contractions that J makes (Sound) every climb ends on the board (representative-on). A further contraction gives the vertices
+-- that its second vertex stood for to its first (representative-join): a net's pins change accordingly (pin-join). Rests on laws' choices.
+-- Assumes nothing.
+use Prim.Native.Nat.{ℕ, zero, suc, _≤_}
 use native.Mathlib.Decide.{ℕ-discrete}
 use native.Mathlib.Omega.{arith}
-use mathlib.Core.Path.{_≡_, refl, sym, ap, ap₂, _∙_, subst}
-use mathlib.Core.Bool.{Bool, true, false, _||_, _&&_, or-false, cond}
+use mathlib.Core.Path.{_≡_, refl, sym, ap, ap₂, _∙_}
+use mathlib.Core.Bool.{Bool, true, false, _||_, or-false, cond}
 use mathlib.Core.List.{List, [], _∷_}
 use borrow.Author.Tests.{eq-eqb, ne-eqb}
 use lib.Dec.{eqb}
@@ -11,9 +13,9 @@ use lib.ListN.{length}
 use Rattle.laws.specs.Choice.{cond-yes, cond-no}
 use Rattle.laws.specs.Fold.{any, any-ext}
 use Rattle.model.specs.Catalogue.{Net}
-use Rattle.model.specs.Measure.{Contraction, above, onBoard, climb, representative, pin}
+use Rattle.model.specs.Measure.{Contraction, above, climb, representative, pin}
 
--- a join that J may make on a stack: two lots, both on the board; 0 is no lot
+-- a contraction that J may make on a stack: of two vertices, both on the board; 0 is no vertex
 pub record Joins (cs : List Contraction) (c : Contraction) : Type 0 where
   pub real : 1 ≤ c .into
   pub into-on : above cs (c .into) ≡ 0
@@ -52,7 +54,7 @@ module _ (cs : List Contraction) (c : Contraction) where
   Joined f x = climb (suc f) (c ∷ cs) x ≡ cond (eqb (climb f cs x) (c .gone)) (c .into) (climb f cs x)
 
   module _ (j : Joins cs c) where
-    -- the lot that goes is one step below a lot on the board
+    -- the vertex that goes is one step below a vertex on the board
     join-gone : (f x : ℕ) → c .gone ≡ x → Joined f x
     join-gone f x q =
         climb-off f (c ∷ cs) x (λ r. omega (arith, j .real, above-gone x q))
@@ -60,7 +62,7 @@ module _ (cs : List Contraction) (c : Contraction) where
         ∙ climb-on f (c ∷ cs) (c .into) (above-other (c .into) (λ r. j .two (sym r)) ∙ j .into-on)
         ∙ sym (cond-yes (climb f cs x) (c .gone) (c .into) (climb f cs x) (climb-on f cs x (ap (above cs) (sym q) ∙ j .gone-on) ∙ sym q))
 
-    -- another lot on the board stays there
+    -- another vertex on the board stays there
     join-on : (f x : ℕ) → (c .gone ≡ x → ⊥) → above cs x ≡ 0 → Joined f x
     join-on f x n q =
         climb-on (suc f) (c ∷ cs) x (above-other x n ∙ q)
@@ -100,12 +102,12 @@ unfolding representative above
 representative-on [] s x = refl
 representative-on (c ∷ cs) s x = on-join cs c (s .0) (length cs) x (representative-on cs (s .1) x)
 
--- (2) the representative after a join
+-- the representative after a contraction
 pub representative-join : (cs : List Contraction) (c : Contraction) → Sound (c ∷ cs) → (x : ℕ) → representative (c ∷ cs) x ≡ cond (eqb (representative cs x) (c .gone)) (c .into) (representative cs x)
 unfolding representative
 representative-join cs c s x = climb-join cs c (s .0) (length cs) x (representative-on cs (s .1) x)
 
--- a lot on the board stands for itself
+-- a vertex on the board represents itself
 pub representative-self : (cs : List Contraction) (x : ℕ) → above cs x ≡ 0 → representative cs x ≡ x
 unfolding representative
 representative-self cs x q = climb-on (length cs) cs x q
@@ -127,7 +129,7 @@ any-or [] f g = refl
 any-or (x ∷ l) f g = ap (λ (b : Bool). (f x || g x) || b) (any-or l f g) ∙ or-cross (f x) (g x) (any l f) (any l g)
 
 module _ (cs : List Contraction) (c : Contraction) (s : Sound (c ∷ cs)) where
-  -- a lot's new representative is v, u, or another, by its old one
+  -- a vertex's new representative is v, u, or another, by its old one
   pub stands-gone : (y : ℕ) → eqb (representative (c ∷ cs) y) (c .gone) ≡ false
   stands-gone y = go (ℕ-discrete (representative cs y) (c .gone))
     where
@@ -155,7 +157,7 @@ module _ (cs : List Contraction) (c : Contraction) (s : Sound (c ∷ cs)) where
           ∙ sym (ne-eqb _ _ (λ r. ng (sym r ∙ q)))
       go (no n) = ap (λ (r : ℕ). eqb r x) (representative-join cs c s y ∙ cond-no _ _ _ _ n)
 
-  -- (3) the pins of a net after a join
+  -- the pins of a net after a contraction
   pub pin-gone : (e : Net) → pin (c ∷ cs) e (c .gone) ≡ false
   unfolding pin
   pin-gone e = any-none (e .pins) _ stands-gone

@@ -1,10 +1,10 @@
 -- What a clump's gain means: after every list of calls from a fresh machine, the gain of a vertex on the board to another block is
 -- the metric of the uncontracted hypergraph, each vertex in its representative's block, less that metric once all vertices that it
 -- stands for are in the target (clump-gain). Rests on Clumps and Reached. Assumes nothing.
-use Prim.Native.Nat.{ℕ, zero, suc, _+_, _≤_}
+use Prim.Native.Nat.{ℕ, _≤_}
 use native.Mathlib.Omega.{arith}
-use mathlib.Core.Path.{_≡_, refl, sym, ap, _∙_}
-use mathlib.Core.Bool.{Bool, true, cond}
+use mathlib.Core.Path.{_≡_, ap}
+use mathlib.Core.Bool.{true, cond}
 use mathlib.Core.List.{List, []}
 use borrow.Author.Tests.{eqb-true}
 use lib.Dec.{eqb}
@@ -17,8 +17,6 @@ use Rattle.model.specs.Machine.{Call, State, fresh}
 use Rattle.model.specs.Engine.{after}
 use Rattle.model.specs.Demand.{Accepted}
 use Rattle.guarantees.specs.Clumps.{spreadOut, gain-out}
-use Rattle.guarantees.specs.Loads.{Loaded}
-use Rattle.guarantees.specs.Caps.{Held}
 use Rattle.guarantees.specs.Reached.{accepted-loaded, reached}
 
 -- each vertex in its representative's block, and those that v stands for in t

@@ -1,29 +1,29 @@
--- The total with joins is the total of the unjoined catalogue with each lot in its representative's session. Assumes nothing.
-use Prim.Native.Nat.{ℕ, zero, suc, _+_, _-_, _*_, _≤_, _<_}
+-- The metric with contractions is that of the uncontracted hypergraph with each vertex in its representative's block (metric-out), and the gain of a
+-- vertex is the effect on it of moving all vertices that it stands for (gain-out). Rests on Moves and Climbs. Assumes nothing.
+use Prim.Native.Nat.{ℕ, _-_, _*_, _≤_}
 use native.Mathlib.Decide.{ℕ-discrete}
 use native.Mathlib.Omega.{arith}
-use mathlib.Core.Path.{_≡_, refl, sym, ap, ap₂, _∙_, subst}
-use mathlib.Core.Bool.{Bool, true, false, not, _||_, _&&_, and-false, cond}
+use mathlib.Core.Path.{_≡_, refl, sym, ap, ap₂, _∙_}
+use mathlib.Core.Bool.{Bool, true, false, _||_, _&&_, and-false}
 use mathlib.Core.List.{List, [], _∷_}
 use borrow.Author.Tests.{eq-eqb, ne-eqb, lt-ltb, le-ltb}
 use lib.Dec.{eqb, ltb}
-use lib.IntN.{ℤ, pos, _-ℤ_}
-use lib.ListN.{length}
+use lib.IntN.{pos, _-ℤ_}
 use Rattle.laws.specs.Choice.{one, cond-yes, cond-no}
 use Rattle.laws.specs.Sum.{sumTo, countTo, sumTo-ext, sumTo-term, sumTo-nil}
-use Rattle.laws.specs.Fold.{sumOver, any, any-ext, All, sumOver-all, all-map}
+use Rattle.laws.specs.Fold.{any, any-ext, All, sumOver-all, all-map}
 use Rattle.laws.specs.Place.{place}
 use Rattle.model.specs.Catalogue.{Net, Hypergraph, vertices}
 use Rattle.model.specs.Measure.{Contraction, climb, representative, pin, pinCount, connectivity, metric, gain}
 use Rattle.guarantees.specs.Moves.{metric-gain}
-use Rattle.guarantees.specs.Climbs.{Joins, Sound, representative-join}
+use Rattle.guarantees.specs.Climbs.{Sound, representative-join}
 use Rattle.guarantees.specs.Splits.{AllInside}
 
--- every mark is a lot
+-- every pin is a vertex
 abbrev pub Within : ℕ → Net → Type 0
 Within n e = All (e .pins) (λ x. (1 ≤ x) × (x ≤ n))
 
--- a representative is a lot
+-- a representative is a vertex
 pub representative-in : (h : Hypergraph) (cs : List Contraction) → Sound cs → AllInside h cs → (x : ℕ) → 1 ≤ x → x ≤ vertices h → (1 ≤ representative cs x) × (representative cs x ≤ vertices h)
 unfolding representative climb
 representative-in h [] s a x l u = (l, u)
@@ -33,7 +33,7 @@ representative-in h (c ∷ cs) s a x l u = go (representative-in h cs (s .1) (a 
     go ih (yes q) = omega (arith, a .0, representative-join cs c s x ∙ cond-yes _ _ _ _ q)
     go ih (no n) = omega (arith, ih, representative-join cs c s x ∙ cond-no _ _ _ _ n)
 
--- lots x of a list that pass B, each counted at r x: some are counted where some pass
+-- vertices x of a list that pass B, each counted at r x: some are counted where some pass
 module _ (n : ℕ) (r : ℕ → ℕ) (B : ℕ → Bool) where
   abbrev hit : List ℕ → ℕ → Bool
   hit l v = any l (λ x. eqb (r x) v && B x)
@@ -64,7 +64,7 @@ any-and (x ∷ l) f k = go (f x) (any-and l f k)
     go false ih = ih
 
 module _ (h : Hypergraph) (cs : List Contraction) (p : ℕ → ℕ) (e : Net) where
-  -- a session is visited if some marked lot's representative is in it
+  -- a block is in the connectivity set if some loaded pin's representative is in it
   pub visited-any : All (e .pins) (λ x. (1 ≤ representative cs x) × (representative cs x ≤ vertices h)) → (b : ℕ) → ltb 0 (pinCount h cs p e b) ≡ any (e .pins) (λ x. eqb (p (representative cs x)) b)
   unfolding pinCount pin
   visited-any a b = ap (λ (k : ℕ). ltb 0 k) (sumTo-ext (vertices h) (λ v. one (pin cs e v && eqb (p v) b)) (λ v. one (hit (vertices h) (representative cs) B (e .pins) v)) (λ v _ _. ap one (any-and (e .pins) (λ x. eqb (representative cs x) v) (eqb (p v) b) ∙ any-ext (e .pins) _ _ (same v)))) ∙ spread (vertices h) (representative cs) B (e .pins) a
@@ -79,7 +79,7 @@ module _ (h : Hypergraph) (cs : List Contraction) (p : ℕ → ℕ) (e : Net) wh
           go (yes q) = ap (λ (y : ℕ). eqb (representative cs x) v && eqb (p y) b) (sym q)
           go (no n) = ap (λ (t : Bool). t && eqb (p v) b) (ne-eqb _ _ n) ∙ sym (ap (λ (t : Bool). t && eqb (p (representative cs x)) b) (ne-eqb _ _ n))
 
--- each lot in its representative's session
+-- each vertex in its representative's block
 abbrev pub spreadOut : List Contraction → (ℕ → ℕ) → ℕ → ℕ
 spreadOut cs p x = p (representative cs x)
 
@@ -88,13 +88,13 @@ module _ (h : Hypergraph) (cs : List Contraction) (s : Sound cs) (a : AllInside 
   unfolding connectivity representative climb
   connectivity-out e w = sumTo-ext (h .blocks) _ _ (λ b _ _. ap one (visited-any h cs p e (all-map (e .pins) _ _ (λ x r. representative-in h cs s a x (r .0) (r .1)) w) b ∙ sym (visited-any h [] (spreadOut cs p) e w b)))
 
-  -- the total with joins, as one without
+  -- the metric with contractions, as one without
   pub metric-out : All (h .nets) (Within (vertices h)) → metric h cs p ≡ metric h [] (spreadOut cs p)
   unfolding metric
   metric-out w = sumOver-all (h .nets) (Within (vertices h)) _ _ w (λ e r. ap (λ (y : ℕ). e .weight * (y - 1)) (connectivity-out e r))
 
 module _ (h : Hypergraph) (cs : List Contraction) (s : Sound cs) (a : AllInside h cs) (p : ℕ → ℕ) where
-  -- the gain of a board lot, as its whole clump's effect on the unjoined catalogue
+  -- the gain of a vertex on the board, as its whole clump's effect on the uncontracted hypergraph
   pub gain-out : All (h .nets) (Within (vertices h)) → (v t : ℕ) → 1 ≤ v → v ≤ vertices h → 1 ≤ p v → p v ≤ h .blocks → 1 ≤ t → t ≤ h .blocks → (p v ≡ t → ⊥) → pos (metric h [] (spreadOut cs (place p v t))) ≡ pos (metric h [] (spreadOut cs p)) -ℤ gain h cs p v t
   gain-out w v t vl vu sl su tl tu away =
       ap pos (sym (metric-out-at (place p v t)))

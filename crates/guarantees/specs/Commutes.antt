@@ -1,9 +1,8 @@
 -- Moves of different vertices commute: in either order they leave the same partition, and so the same pin counts, block weights,
 -- gains and metric; on the machine, two accepted calls M do. Rests on laws' place-swap. Assumes nothing.
 use Prim.Native.Nat.{ℕ}
-use mathlib.Core.Path.{_≡_, refl, sym, ap, _∙_}
+use mathlib.Core.Path.{_≡_, ap}
 use mathlib.Core.List.{List}
-use lib.IntN.{ℤ}
 use Rattle.laws.specs.Place.{place, place-swap}
 use Rattle.model.specs.Catalogue.{Net, Hypergraph}
 use Rattle.model.specs.Measure.{Contraction, pinCount, blockWeight, connectivity, metric, gain}

@@ -1,25 +1,26 @@
--- P ends where no open pair has a gain of 1 or more, and its fuel is enough. Assumes nothing.
-use Prim.Native.Nat.{ℕ, zero, suc, _+_, _-_, _*_, _≤_, _<_}
+-- P ends on a metric that is no higher, where no vertex that may go to another block with room has a gain above 0, and the metric is fuel enough
+-- for that (polish-ends). Rests on Moves for each move and on Tops for the pair that it takes. Assumes nothing.
+use Prim.Native.Nat.{ℕ, zero, suc, _≤_, _<_}
 use native.Mathlib.Decide.{ℕ-discrete}
 use native.Mathlib.Omega.{arith}
-use mathlib.Core.Path.{_≡_, refl, sym, ap, ap₂, _∙_, subst}
-use mathlib.Core.Bool.{Bool, true, false, not, _||_, _&&_, true≢false, cond}
-use mathlib.Core.List.{List, [], _∷_}
+use mathlib.Core.Path.{_≡_, refl, sym, ap, _∙_, subst}
+use mathlib.Core.Bool.{Bool, true, false, not, true≢false, cond}
+use mathlib.Core.List.{List}
 use borrow.Author.Tests.{eqb-true, eqb-false, not-true}
-use lib.Dec.{T, eqb}
-use lib.IntN.{ℤ, pos, _-ℤ_}
-use lib.Signed.{ltZ, _≤ℤ_, _<ℤ_, ltZ-yes, ltZ-no}
+use lib.Dec.{T}
+use lib.IntN.{pos, _-ℤ_}
+use lib.Signed.{ltZ, _≤ℤ_, ltZ-yes, ltZ-no}
 use Rattle.laws.specs.Choice.{and-left, and-right}
-use Rattle.laws.specs.Integer.{up, dn, eq-by, le-by, pos-is, sub-is, le-parts, lt-parts, ≤ℤ-trans}
+use Rattle.laws.specs.Integer.{up, dn, le-by, pos-is, sub-is, lt-parts, ≤ℤ-trans}
 use Rattle.laws.specs.Place.{place, place-at, place-off}
-use Rattle.model.specs.Catalogue.{Net, Hypergraph, vertices}
-use Rattle.model.specs.Measure.{Contraction, above, onBoard, metric, freed, drawn, gain, hasRoom}
-use Rattle.model.specs.Search.{Best, none, best, bestPair, Polish, canGo, polishBest, polishTurn, polishOn, polish}
-use Rattle.guarantees.specs.Moves.{metric-move, metric-gain, gain-away}
-use Rattle.guarantees.specs.Tops.{Top, Highest, best-top}
+use Rattle.model.specs.Catalogue.{Hypergraph, vertices}
+use Rattle.model.specs.Measure.{Contraction, above, onBoard, metric, gain}
+use Rattle.model.specs.Search.{Best, none, best, Polish, canGo, polishBest, polishTurn, polishOn, polish}
+use Rattle.guarantees.specs.Moves.{metric-gain}
+use Rattle.guarantees.specs.Tops.{Top, best-top}
 
 module _ (h : Hypergraph) (cs : List Contraction) where
-  -- every board lot has a session, and every other lot has 0
+  -- every vertex on the board has a block, and every other vertex has 0
   pub record At (p : ℕ → ℕ) (x : ℕ) : Type 0 where
     pub board : above cs x ≡ 0 → (1 ≤ p x) × (p x ≤ h .blocks)
     pub off : (above cs x ≡ 0 → ⊥) → p x ≡ 0
@@ -52,13 +53,13 @@ module _ (h : Hypergraph) (cs : List Contraction) where
   unfolding canGo
   can-away p v t q = eqb-false (p v) t (not-true _ (and-right (onBoard cs v) _ (and-left _ _ q)))
 
-  -- the total after an open pair's move
+  -- the metric after an open pair's move
   pub metric-open : (p : ℕ → ℕ) (v t : ℕ) → Placed p → Pair v t → canGo h cs p v t ≡ true → pos (metric h cs (place p v t)) ≡ pos (metric h cs p) -ℤ gain h cs p v t
   metric-open p v t ok r q =
       let s = ok v (r .0) (r .1) .board (can-on p v t q) in
       metric-gain h cs p v t (r .0) (r .1) (s .0) (s .1) (r .2) (r .3) (can-away p v t q)
 
-  -- no gain is above the total
+  -- no gain is above the metric
   gain-le : (p : ℕ → ℕ) (v t : ℕ) → Placed p → Pair v t → canGo h cs p v t ≡ true → gain h cs p v t ≤ℤ pos (metric h cs p)
   gain-le p v t ok r q = le-by _ _ (omega (
     arith,
@@ -86,9 +87,6 @@ module _ (h : Hypergraph) (cs : List Contraction) where
   }
   turn-end n q ok l ih (best v t g) top = go (ltZ (pos 0) g) refl
     where
-      p′ : ℕ → ℕ
-      p′ = place (q .block) v t
-
       next : Polish
       next = record { block = place (q .block) v t; made = suc (q .made) }
 
@@ -117,7 +115,7 @@ module _ (h : Hypergraph) (cs : List Contraction) where
         stuck = λ x y r o. ≤ℤ-trans (top .highest x y r o) (ltZ-no (subst (λ (z : Bool). T (not z)) (sym e) tt));
       }
 
-  -- with the total for fuel, polishing ends by itself
+  -- with the metric for fuel, polishing ends by itself
   polish-end : (n : ℕ) (q : Polish) → Placed (q .block) → metric h cs (q .block) ≤ n → Polished (q .block) (polishOn h cs n q .block)
   unfolding polishOn polishBest
   polish-end zero q ok l = record {

@@ -1,10 +1,10 @@
 -- No definition stops for want of fuel. Where a walk, a polish, A's contractions or a climb has ended, no number of further turns
 -- changes anything (walk-rests, polish-rests, coarsen-rests, climb-rests); and a number's digits are the same with any fuel that is
 -- not less than the number (digits-fuel). Rests on Walks, Ends, Calls and Climbs, where each ends by its own rule. Assumes nothing.
-use Prim.Native.Nat.{ℕ, zero, suc, _+_, _*_, _/_, _%_, _≤_, _<_}
+use Prim.Native.Nat.{ℕ, zero, suc, _+_, _*_, _/_, _%_, _≤_}
 use native.Mathlib.Omega.{arith}
 use mathlib.Core.Path.{_≡_, refl, sym, ap, _∙_, subst}
-use mathlib.Core.Logic.{_⊎_, inl, inr}
+use mathlib.Core.Logic.{inl, inr}
 use mathlib.Core.Bool.{Bool, true, false, cond}
 use mathlib.Core.List.{List, [], _∷_, _++_}
 use borrow.Author.Tests.{lt-ltb}
@@ -16,11 +16,11 @@ use Rattle.laws.specs.Place.{place}
 use Rattle.model.specs.Catalogue.{Hypergraph, vertices}
 use Rattle.model.specs.Measure.{Contraction, climb, representative, gain}
 use Rattle.model.specs.Machine.{State}
-use Rattle.model.specs.Search.{Best, none, best, Walk, Polish, Coarse, canGo, walkBest, walkTurn, walkOn, walk, polishBest, polishTurn, polishOn, polish, joinBest, joinTurn, boardSize, coarsen}
+use Rattle.model.specs.Search.{Best, none, best, Walk, Polish, Coarse, canGo, walkBest, walkTurn, walkOn, walk, polishBest, polishTurn, polishOn, polish, joinBest, joinTurn, boardSize, coarsen, patience}
 use Rattle.model.specs.Report.{digitsOf, digits}
 use Rattle.guarantees.specs.Climbs.{Sound, climb-on, representative-on}
 use Rattle.guarantees.specs.Tops.{Top, best-top}
-use Rattle.guarantees.specs.Ends.{Placed, Pair, Polished, polish-ends}
+use Rattle.guarantees.specs.Ends.{Placed, Pair, polish-ends}
 use Rattle.guarantees.specs.Walks.{Over, walk-ends}
 use Rattle.guarantees.specs.Calls.{Coarsest, A-joins-end}
 
@@ -34,8 +34,8 @@ module _ (h : Hypergraph) (cs : List Contraction) where
   over-rests w o zero = refl
   over-rests w (inl e) (suc n) = ap (λ (b : Bool). cond b w (walkTurn h cs w (walkOn h cs n) (walkBest h cs w))) e
   over-rests w (inr e) (suc n) =
-      ap (λ (b : Best). cond (leb (w .kept + 25) (w .tried)) w (walkTurn h cs w (walkOn h cs n) b)) e
-      ∙ cond-same (leb (w .kept + 25) (w .tried)) w
+      ap (λ (b : Best). cond (leb (w .kept + patience) (w .tried)) w (walkTurn h cs w (walkOn h cs n) b)) e
+      ∙ cond-same (leb (w .kept + patience) (w .tried)) w
 
   pub walk-rests : (p : ℕ → ℕ) (u v : ℕ) → Placed h cs p → (n : ℕ) → walkOn h cs n (walk h cs p u v) ≡ walk h cs p u v
   walk-rests p u v ok = over-rests (walk h cs p u v) (walk-ends h cs p u v ok .over)

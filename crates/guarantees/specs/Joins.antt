@@ -1,24 +1,25 @@
--- A join of two lots of one session leaves every visited session and the total as they were. Assumes nothing.
-use Prim.Native.Nat.{ℕ, zero, suc, _+_, _-_, _*_, _≤_, _<_}
+-- A contraction of two vertices of one block leaves each net's connectivity set (visited-join), its connectivity (connectivity-join) and the
+-- metric (metric-join) as they were. Rests on Climbs. Assumes nothing.
+use Prim.Native.Nat.{ℕ, zero, suc, _+_, _-_, _*_, _≤_}
 use native.Mathlib.Omega.{arith}
-use mathlib.Core.Path.{_≡_, refl, sym, ap, ap₂, _∙_, subst}
-use mathlib.Core.Bool.{Bool, true, false, _||_, _&&_, and-false, cond}
-use mathlib.Core.List.{List, [], _∷_}
-use borrow.Author.Tests.{eq-eqb, ne-eqb, lt-ltb, le-ltb}
+use mathlib.Core.Path.{_≡_, sym, ap, ap₂, _∙_}
+use mathlib.Core.Bool.{Bool, true, false, _||_, _&&_, and-false}
+use mathlib.Core.List.{List, _∷_}
+use borrow.Author.Tests.{lt-ltb, le-ltb}
 use lib.Dec.{eqb, ltb}
 use Rattle.laws.specs.Choice.{one}
-use Rattle.laws.specs.Sum.{sumTo, sumTo-ext, sumTo-change2, sumTo-term}
-use Rattle.laws.specs.Fold.{sumOver, sumOver-ext}
-use Rattle.laws.specs.Place.{place, place-at, place-off}
+use Rattle.laws.specs.Sum.{sumTo-ext, sumTo-change2, sumTo-term}
+use Rattle.laws.specs.Fold.{sumOver-ext}
+use Rattle.laws.specs.Place.{place, place-off}
 use Rattle.model.specs.Catalogue.{Net, Hypergraph, vertices}
 use Rattle.model.specs.Measure.{Contraction, pin, pinCount, connectivity, metric}
-use Rattle.guarantees.specs.Climbs.{Sound, Joins, pin-gone, pin-into, pin-other}
+use Rattle.guarantees.specs.Climbs.{Sound, pin-gone, pin-into, pin-other}
 
 seen-same : (x y : ℕ) → x ≤ y → y ≤ x + x → ltb 0 x ≡ ltb 0 y
 seen-same zero y l u = sym (le-ltb 0 y (omega arith))
 seen-same (suc x) y l u = lt-ltb 0 (suc x) (omega arith) ∙ sym (lt-ltb 0 y (omega arith))
 
--- two marks that become one: x and y are the counts after and before, a and d say whether u and v are pins, b whether their block is meant
+-- two pins that become one: x and y are the counts after and before, a and d say whether u and v are pins, b whether their block is meant
 merged : (x y : ℕ) (a d b : Bool) → y + one ((a || d) && b) + 0 ≡ x + one (a && b) + one (d && b) → one ((a || d) && b) ≤ x → (x ≤ y) × (y ≤ x + x)
 merged x y a d false q l = omega (arith, ap one (and-false (a || d)), ap one (and-false a), ap one (and-false d))
 merged x y true true true q l = omega arith
@@ -26,7 +27,7 @@ merged x y true false true q l = omega arith
 merged x y false true true q l = omega arith
 merged x y false false true q l = omega arith
 
--- u and v, two lots of one session, and v is joined into u
+-- two vertices of one block, and one is contracted into the other
 module _ (h : Hypergraph) (cs : List Contraction) (c : Contraction) (s : Sound (c ∷ cs)) (p : ℕ → ℕ)
     (ul : 1 ≤ c .into) (uu : c .into ≤ vertices h) (vl : 1 ≤ c .gone) (vu : c .gone ≤ vertices h) (one-block : p (c .into) ≡ p (c .gone)) where
   in-block : Net → ℕ → ℕ → ℕ
@@ -60,7 +61,7 @@ module _ (h : Hypergraph) (cs : List Contraction) (c : Contraction) (s : Sound (
   unfolding connectivity
   connectivity-join e = sumTo-ext (h .blocks) _ _ (λ b _ _. ap one (visited-join e b))
 
-  -- (4) the total after a join
+  -- the metric after a contraction
   pub metric-join : metric h (c ∷ cs) (place p (c .gone) 0) ≡ metric h cs p
   unfolding metric
   metric-join = sumOver-ext (h .nets) _ _ (λ e. ap (λ (y : ℕ). e .weight * (y - 1)) (connectivity-join e))

@@ -1,21 +1,49 @@
+-- The machine's own theorems, over `model` alone: no code, nothing assumed.
+-- 1. A move changes the metric by minus its gain, and the move back has the negated gain: Moves (metric-gain, gain-back).
+--    Moves of different vertices commute in blocks, pin counts, weights, gains and metric: Commutes (moves-commute, calls-commute).
+-- 2. Contraction and uncontraction of two vertices of one block leave the metric and every block's weight: Joins (metric-join),
+--    Weights (blockWeight-join), Splits (metric-split, blockWeight-split), so J and S do: Contractions (J-leaves, S-leaves). With no
+--    contraction pins and weights are the loaded ones: Splits (pin-none, weight-none). A clump's gain is the effect on the
+--    uncontracted hypergraph: ClumpGain (clump-gain).
+-- 3. From an accepted catalogue, after every list of calls, no block is above the capacity: Reached (within-capacity).
+-- 4. No W, P or A ends on a higher metric: NeverHigher (never-higher). A walk keeps the first prefix of lowest metric: Walks (first-lowest).
+--    No definition stops for want of fuel: Fuel (walk-rests, polish-rests, coarsen-rests, climb-rests, digits-fuel).
+-- 5. When an accepted A ends, no single move with room lowers the metric: Optimum (A-best; P-best for P).
+-- 6. An accepted file is within every range of document 01: Ranges (accepted-ranges, accepted-book).
+-- 7. Bounds for the code: ReachedBounds (reached-bounds), SearchBounds (walk-counts, refine-counts, polish-count), AnswerBounds (bounded-call),
+--    Stretches (size-le, stretch-le, marks-le). The report fits into the lent output: ReportFits (report-fits), whatever the file:
+--    Refusals (engine-fits).
+-- 8. Demand 3's machine half, one theorem about the whole list: MachineHalf (machine-half).
+-- Beneath them: Climbs, Tops, Ends, Calls, Clumps, Caps, Reading, Loads, Numbers, Bounds, WeightBounds, StateBounds.
 pub mod Moves
 pub mod Commutes
 pub mod Climbs
 pub mod Joins
+pub mod Weights
+pub mod Splits
 pub mod Tops
 pub mod Ends
 pub mod Walks
-pub mod Weights
-pub mod Splits
+pub mod Reading
 pub mod Calls
+pub mod Contractions
 pub mod Clumps
 pub mod Caps
 pub mod Loads
+pub mod Reached
+pub mod ClumpGain
+pub mod NeverHigher
+pub mod Fuel
+pub mod Optimum
+pub mod Ranges
 pub mod Numbers
 pub mod Bounds
-pub mod Reached
-pub mod NeverHigher
-pub mod Optimum
+pub mod WeightBounds
+pub mod SearchBounds
+pub mod StateBounds
+pub mod AnswerBounds
+pub mod ReachedBounds
+pub mod Stretches
+pub mod ReportFits
+pub mod Refusals
 pub mod MachineHalf
-pub mod ClumpGain
-pub mod Fuel

@@ -1,7 +1,6 @@
 -- Demand 3's machine half, one theorem about the whole list: from an accepted catalogue, for every list of calls, no block ends above
 -- the capacity, no accepted W, P or A in it ends on a higher metric than it began with, and after each accepted A no single move with
 -- room lowers the metric (machine-half). Rests on Reached, NeverHigher and Optimum. Assumes nothing.
-use mathlib.Core.Path.{_≡_}
 use mathlib.Core.List.{List}
 use Rattle.model.specs.Catalogue.{Limits, Hypergraph}
 use Rattle.model.specs.Machine.{Call, fresh}

@@ -1,19 +1,18 @@
--- A move changes the connectivity metric by minus its gain, the total after being the total before less the gain (metric-gain),
+-- A move changes the connectivity metric by minus its gain: the metric after it is the one before it less the gain (metric-gain),
 -- and the move back has the negated gain (gain-back). Net by net: pin counts (count-move) and connectivity (connectivity-move).
 -- Rests on laws' sums and integers. Assumes nothing.
-use Prim.Native.Nat.{ℕ, zero, suc, _+_, _-_, _*_, _≤_, _<_}
-use native.Mathlib.Decide.{ℕ-discrete}
+use Prim.Native.Nat.{ℕ, zero, suc, _+_, _-_, _*_, _≤_}
 use native.Mathlib.Omega.{arith}
-use mathlib.Core.Path.{_≡_, refl, sym, ap, ap₂, _∙_, subst}
-use mathlib.Core.Bool.{Bool, true, false, _||_, _&&_, cond}
-use mathlib.Core.List.{List, [], _∷_}
-use borrow.Author.Tests.{eq-eqb, ne-eqb, lt-ltb, le-ltb}
+use mathlib.Core.Path.{_≡_, refl, sym, ap, _∙_, subst}
+use mathlib.Core.Bool.{Bool, true, false, _&&_, cond}
+use mathlib.Core.List.{List}
+use borrow.Author.Tests.{eq-eqb, ne-eqb, lt-ltb}
 use lib.Dec.{eqb, ltb}
-use lib.IntN.{ℤ, pos, negℤ, _-ℤ_}
+use lib.IntN.{pos, negℤ, _-ℤ_}
 use Rattle.laws.specs.Integer.{up, dn, eq-by, pos-is, sub-is, neg-is}
 use Rattle.laws.specs.Choice.{one}
-use Rattle.laws.specs.Sum.{sumTo, sumTo-ext, sumTo-change, sumTo-change2, sumTo-term}
-use Rattle.laws.specs.Fold.{sumOver, sumOver-both}
+use Rattle.laws.specs.Sum.{sumTo-ext, sumTo-change, sumTo-change2, sumTo-term}
+use Rattle.laws.specs.Fold.{sumOver-both}
 use Rattle.laws.specs.Place.{place, place-at, place-off, place-back}
 use Rattle.model.specs.Catalogue.{Net, Hypergraph, vertices}
 use Rattle.model.specs.Measure.{Contraction, pin, pinCount, connectivity, metric, freed, drawn, gain}
@@ -99,7 +98,7 @@ module _ (h : Hypergraph) (cs : List Contraction) (p : ℕ → ℕ) (v t : ℕ) 
     cost-move true q = costs (e .weight) (connectivity h cs p e - 1) (connectivity h cs (place p v t) e - 1) (eqb (pinCount h cs p e (p v)) 1) (eqb (pinCount h cs p e t) 0) (omega (arith, connectivity-move q, spans q, spans′ q))
     cost-move false q = ap (λ (c : ℕ). e .weight * (c - 1) + 0) (sym (connectivity-same q))
 
-  -- the total after moving v to t
+  -- the metric after moving v to t
   pub metric-move : 1 ≤ p v → p v ≤ h .blocks → 1 ≤ t → t ≤ h .blocks → (p v ≡ t → ⊥) → metric h cs (place p v t) + freed h cs p v ≡ metric h cs p + drawn h cs p v t
   unfolding metric freed drawn
   metric-move sl su tl tu away = sumOver-both (h .nets) _ _ _ _ (λ e. cost-move sl su tl tu away e (pin cs e v) refl)
@@ -108,7 +107,7 @@ module _ (h : Hypergraph) (cs : List Contraction) (p : ℕ → ℕ) (v t : ℕ) 
   unfolding gain
   gain-away ne = ap (λ (b : Bool). cond b (pos 0) (pos (freed h cs p v) -ℤ pos (drawn h cs p v t))) (ne-eqb (p v) t ne)
 
-  -- the same with the gain: the total after is the total before less the gain
+  -- the same with the gain: the metric after is the metric before less the gain
   pub metric-gain : 1 ≤ p v → p v ≤ h .blocks → 1 ≤ t → t ≤ h .blocks → (p v ≡ t → ⊥) → pos (metric h cs (place p v t)) ≡ pos (metric h cs p) -ℤ gain h cs p v t
   metric-gain sl su tl tu away = eq-by _ _ (omega (
     arith,

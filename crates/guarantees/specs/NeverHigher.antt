@@ -2,8 +2,8 @@
 -- Rests on Walks and Ends for W and P, and on Calls for A. Assumes nothing.
 use Prim.Native.Nat.{ℕ, zero, suc, _≤_}
 use native.Mathlib.Omega.{arith}
-use mathlib.Core.Path.{_≡_, refl, sym, ap, _∙_, subst}
-use mathlib.Core.Bool.{Bool, true, false, true≢false}
+use mathlib.Core.Path.{_≡_, refl, sym, ap, subst}
+use mathlib.Core.Bool.{true, true≢false}
 use mathlib.Core.List.{List, [], _∷_}
 use Rattle.model.specs.Catalogue.{Hypergraph}
 use Rattle.model.specs.Measure.{Contraction, metric}

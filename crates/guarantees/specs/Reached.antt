@@ -1,10 +1,9 @@
 -- From an accepted catalogue, after every list of calls, accepted or refused, reversals included, no block is above the capacity
 -- (within-capacity); every state that the calls reach is one that the laws of calls want (reached). Rests on Caps and Loads. Assumes nothing.
-use Prim.Native.Nat.{ℕ, _≤_}
-use mathlib.Core.Path.{_≡_, subst}
+use mathlib.Core.Path.{subst}
 use mathlib.Core.List.{List}
 use Rattle.model.specs.Catalogue.{Limits, Hypergraph}
-use Rattle.model.specs.Machine.{Call, State, fresh}
+use Rattle.model.specs.Machine.{Call, fresh}
 use Rattle.model.specs.Engine.{after}
 use Rattle.model.specs.Demand.{Accepted, WithinCapacity}
 use Rattle.guarantees.specs.Caps.{Held, held-after}

@@ -1,16 +1,16 @@
 -- Uncontraction leaves what contraction leaves (Joins, Weights): the metric (metric-split) and every block's weight
 -- (blockWeight-split); each undoes the other (split-join, join-split). With no contraction standing a net's pins are its loaded
 -- ones (pin-none) and a vertex has its loaded weight (weight-none). Rests on Joins and Weights. Assumes nothing.
-use Prim.Native.Nat.{ℕ, zero, suc, _+_, _-_, _≤_, _<_}
+use Prim.Native.Nat.{ℕ, _≤_}
 use native.Mathlib.Decide.{ℕ-discrete}
 use native.Mathlib.Omega.{arith}
-use mathlib.Core.Path.{_≡_, refl, sym, ap, ap₂, _∙_}
+use mathlib.Core.Path.{_≡_, refl, sym, ap, _∙_}
 use mathlib.Core.Bool.{Bool, cond}
 use mathlib.Core.List.{List, [], _∷_}
 use borrow.Author.Tests.{eq-eqb, ne-eqb}
 use lib.Dec.{eqb}
 use Rattle.laws.specs.Fold.{any, any-ext}
-use Rattle.laws.specs.Sum.{sumTo, sumTo-change, sumTo-nil}
+use Rattle.laws.specs.Sum.{sumTo-change, sumTo-nil}
 use Rattle.laws.specs.Place.{place, place-at, place-off, place-back, place-twice, place-same}
 use Rattle.model.specs.Catalogue.{Net, Hypergraph, vertices, loaded}
 use Rattle.model.specs.Measure.{Contraction, above, climb, representative, pin, weight, blockWeight, metric}
@@ -50,9 +50,6 @@ module _ (h : Hypergraph) where
   unfolding uncontract
   placed-split cs c p j r ok x xl xu = go (ℕ-discrete x (c .gone))
     where
-      to : ℕ
-      to = p (c .into)
-
       go : Dec (x ≡ c .gone) → At h cs (place p (c .gone) (p (c .into))) x
       go (yes q) = record {
         board = λ o. omega (arith, ap (place p (c .gone) (p (c .into))) q, place-at p (c .gone) (p (c .into)), ok (c .into) (r .0) (r .1) .board (into-on cs c j));

@@ -1,5 +1,5 @@
--- What the best pair is: open, of the highest worth, and the first of those; and that it rests on tests and worths in range alone.
--- Assumes nothing.
+-- The best pair is open, of the highest worth, and the first of those: lowest first number, then lowest second one; there is none exactly where
+-- no pair is open (best-top). It rests on tests and worths in range alone (bestPair-ext). Rests on laws' integers. Assumes nothing.
 use Prim.Native.Nat.{ℕ, zero, suc, _+_, _≤_, _<_}
 use native.Mathlib.Decide.{ℕ-discrete}
 use native.Mathlib.Omega.{arith}
@@ -7,9 +7,9 @@ use mathlib.Core.Path.{_≡_, refl, sym, ap, _∙_, subst}
 use mathlib.Core.Logic.{_⊎_, inl, inr, ⊎-elim}
 use mathlib.Core.Bool.{Bool, true, false, not, true≢false, cond}
 use lib.Dec.{T}
-use lib.IntN.{ℤ, pos}
+use lib.IntN.{ℤ}
 use lib.Signed.{ltZ, _≤ℤ_, _<ℤ_, ≤ℤ-refl, ltZ-yes, ltZ-no}
-use Rattle.laws.specs.Integer.{≤ℤ-trans, ≤ℤ-<ℤ-trans, <ℤ-≤}
+use Rattle.laws.specs.Integer.{≤ℤ-<ℤ-trans, <ℤ-≤}
 use Rattle.laws.specs.Sum.{foldTo, foldTo-ext}
 use Rattle.model.specs.Search.{Best, none, best, better, consider, bestPair}
 

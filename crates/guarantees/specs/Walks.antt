@@ -1,22 +1,23 @@
--- A walk ends by its own rule, and keeps the first prefix of lowest total. Assumes nothing.
-use Prim.Native.Nat.{ℕ, zero, suc, _+_, _-_, _*_, _≤_, _<_}
+-- A walk ends by its own rule: so many moves were made since the kept prefix, or no pair is open (walk-ends). What it keeps is the first prefix of
+-- lowest metric, the empty one included (first-lowest), so W ends on no higher metric (walked-metric). Rests on Tops and Ends. Assumes nothing.
+use Prim.Native.Nat.{ℕ, zero, suc, _+_, _-_, _≤_, _<_}
 use native.Mathlib.Decide.{ℕ-discrete}
 use native.Mathlib.Omega.{arith}
-use mathlib.Core.Path.{_≡_, refl, sym, ap, ap₂, _∙_, subst}
-use mathlib.Core.Logic.{_⊎_, inl, inr, ⊎-elim}
+use mathlib.Core.Path.{_≡_, refl, sym, ap, _∙_, subst}
+use mathlib.Core.Logic.{_⊎_, inl, inr}
 use mathlib.Core.Bool.{Bool, true, false, not, _||_, _&&_, true≢false, cond}
 use mathlib.Core.List.{List, [], _∷_}
 use borrow.Author.Tests.{eq-eqb, ne-eqb, not-true, ltb-true, ltb-false}
-use lib.Dec.{T, eqb, leb, ltb}
-use Rattle.laws.specs.Choice.{one, and-left, and-right, one-le, one-full}
-use Rattle.laws.specs.Sum.{sumTo, countTo, sumTo-change, countTo-le, countTo-full}
+use lib.Dec.{eqb, leb, ltb}
+use Rattle.laws.specs.Choice.{one, and-left, and-right}
+use Rattle.laws.specs.Sum.{countTo, sumTo-change, countTo-full}
 use Rattle.laws.specs.Fold.{any}
-use Rattle.laws.specs.Place.{place, place-at, place-off, place-back, place-swap}
-use Rattle.model.specs.Catalogue.{Net, Hypergraph, vertices}
+use Rattle.laws.specs.Place.{place, place-back}
+use Rattle.model.specs.Catalogue.{Hypergraph, vertices}
 use Rattle.model.specs.Measure.{Contraction, above, metric, gain}
 use Rattle.model.specs.Machine.{Move}
-use Rattle.model.specs.Search.{Best, none, best, bestPair, Walk, canGo, isOpen, walkBest, walkMove, walkTurn, walkOn, walk, walked, reversed}
-use Rattle.guarantees.specs.Tops.{Top, Highest, best-top}
+use Rattle.model.specs.Search.{Best, none, best, Walk, isOpen, walkBest, walkMove, walkTurn, walkOn, walk, walked, reversed, patience}
+use Rattle.guarantees.specs.Tops.{Top, best-top}
 use Rattle.guarantees.specs.Ends.{Placed, Pair, placed-move, can-on}
 
 reversed-none : (ms : List Move) (p : ℕ → ℕ) → reversed 0 ms p ≡ p
@@ -72,7 +73,7 @@ module _ (h : Hypergraph) (cs : List Contraction) where
     abbrev now : ℕ
     now = metric h cs (place (w .block) v t)
 
-    -- the next walk, by whether its total is a new lowest
+    -- the next walk, by whether its metric is a new lowest
     abbrev by : Bool → Walk
     by b = record {
       block = place (w .block) v t;
@@ -126,9 +127,9 @@ module _ (h : Hypergraph) (cs : List Contraction) where
   moved w x = any (w .journal) (λ m. eqb (m .vertex) x)
 
   abbrev pub Over : Walk → Type 0
-  Over w = (leb (w .kept + 25) (w .tried) ≡ true) ⊎ (walkBest h cs w ≡ none)
+  Over w = (leb (w .kept + patience) (w .tried) ≡ true) ⊎ (walkBest h cs w ≡ none)
 
-  still : (w : Walk) (v t : ℕ) → isOpen h cs w v t ≡ true → moved w v ≡ false
+  pub still : (w : Walk) (v t : ℕ) → isOpen h cs w v t ≡ true → moved w v ≡ false
   unfolding isOpen
   still w v t o = not-true _ (and-right (w .candidate v) _ (and-left _ _ o))
 
@@ -136,7 +137,7 @@ module _ (h : Hypergraph) (cs : List Contraction) where
   unfolding isOpen
   open-on w v t o = can-on h cs (w .block) v t (and-right (w .candidate v && not (moved w v)) _ o)
 
-  -- every lot has moved: no pair is open
+  -- every vertex has moved: no pair is open
   none-left : (w : Walk) → vertices h ≤ countTo (vertices h) (moved w) → walkBest h cs w ≡ none
   unfolding walkBest
   none-left w l = go (walkBest h cs w) (best-top (isOpen h cs w) (gain h cs (w .block)) (h .blocks) (vertices h))
@@ -145,8 +146,8 @@ module _ (h : Hypergraph) (cs : List Contraction) where
       go none top = refl
       go (best v t g) top = absurd (true≢false (sym (countTo-full (vertices h) (moved w) l v (top .there .0) (top .there .1)) ∙ still w v t (top .open-pair)))
 
-  -- a move of a lot that has not moved yet
-  moved-more : (w : Walk) (v t n : ℕ) → 1 ≤ v → v ≤ vertices h → moved w v ≡ false → countTo (vertices h) (moved (walkMove h cs w v t n)) ≡ countTo (vertices h) (moved w) + 1
+  -- a move of a vertex that has not moved yet
+  pub moved-more : (w : Walk) (v t n : ℕ) → 1 ≤ v → v ≤ vertices h → moved w v ≡ false → countTo (vertices h) (moved (walkMove h cs w v t n)) ≡ countTo (vertices h) (moved w) + 1
   unfolding walkMove any
   moved-more w v t n l u q = omega (
     arith,
@@ -168,18 +169,18 @@ module _ (h : Hypergraph) (cs : List Contraction) where
       (going-move w v t p g (open-on w v t (top .open-pair)) (top .there .2) (top .there .3))
       (omega (arith, moved-more w v t (metric h cs (place (w .block) v t)) (top .there .0) (top .there .1) (still w v t (top .open-pair))))
 
-  -- with as many turns as there are lots left to move, a walk ends by its own rule
+  -- with as many turns as there are vertices left to move, a walk ends by its own rule
   walk-end : (n : ℕ) (p : ℕ → ℕ) (w : Walk) → Going p w → vertices h ≤ countTo (vertices h) (moved w) + n → Ended p (walkOn h cs n w)
   unfolding walkOn walkBest
   walk-end zero p w g l = record { going = g; over = inr (none-left w (omega arith)) }
-  walk-end (suc n) p w g l = go (walk-end n p) (leb (w .kept + 25) (w .tried)) refl
+  walk-end (suc n) p w g l = go (walk-end n p) (leb (w .kept + patience) (w .tried)) refl
     where
       go : ((w′ : Walk) → Going p w′ → vertices h ≤ countTo (vertices h) (moved w′) + n → Ended p (walkOn h cs n w′))
-          → (b : Bool) → leb (w .kept + 25) (w .tried) ≡ b → Ended p (cond b w (walkTurn h cs w (walkOn h cs n) (walkBest h cs w)))
+          → (b : Bool) → leb (w .kept + patience) (w .tried) ≡ b → Ended p (cond b w (walkTurn h cs w (walkOn h cs n) (walkBest h cs w)))
       go ih true e = record { going = g; over = inl e }
       go ih false e = turn-end n p w g l ih (walkBest h cs w) refl (best-top (isOpen h cs w) (gain h cs (w .block)) (h .blocks) (vertices h))
 
-  -- W ends by its rule, having kept the first prefix of lowest total
+  -- W ends by its rule, having kept the first prefix of lowest metric
   pub walk-ends : (p : ℕ → ℕ) (u v : ℕ) → Placed h cs p → Ended p (walk h cs p u v)
   unfolding walk reversed
   walk-ends p u v ok = walk-end (vertices h) p _ (record {
@@ -191,9 +192,18 @@ module _ (h : Hypergraph) (cs : List Contraction) where
     first = λ i l. absurd (omega arith);
   }) (omega arith)
 
-  -- what W leaves has every board lot in a session, and a total that is the walk's lowest, at most the one before
+  -- what W leaves has every vertex on the board in a block, and a metric that is the walk's lowest, at most the one before
   pub walked-metric : (p : ℕ → ℕ) (u v : ℕ) → Placed h cs p → Placed h cs (walked h cs (walk h cs p u v)) × (metric h cs (walked h cs (walk h cs p u v)) ≡ walk h cs p u v .lowest) × (metric h cs (walked h cs (walk h cs p u v)) ≤ metric h cs p)
   unfolding walked
   walked-metric p u v ok =
       let g = walk-ends p u v ok .going in
       (g .placed _ (g .kept-le), g .lowest-is, omega (arith, g .lowest-is, g .lowest-le 0 (omega arith), ap (metric h cs) (g .starts)))
+
+  -- no prefix of the walk has a lower metric than what W leaves, and every shorter one has a higher
+  pub first-lowest : (p : ℕ → ℕ) (u v : ℕ) → Placed h cs p
+      → ((i : ℕ) → i ≤ walk h cs p u v .tried → metric h cs (walked h cs (walk h cs p u v)) ≤ metric h cs (prefix (walk h cs p u v) i))
+      × ((i : ℕ) → i < walk h cs p u v .kept → metric h cs (walked h cs (walk h cs p u v)) < metric h cs (prefix (walk h cs p u v) i))
+  first-lowest p u v ok =
+      let g = walk-ends p u v ok .going in
+      let low = walked-metric p u v ok .1 in
+      (λ i l. omega (arith, low, g .lowest-le i l), λ i l. omega (arith, low, g .first i l))

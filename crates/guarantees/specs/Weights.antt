@@ -1,21 +1,21 @@
--- Bales after a join, a split and a move. Assumes nothing.
-use Prim.Native.Nat.{ℕ, zero, suc, _+_, _-_, _*_, _≤_, _<_}
-use native.Mathlib.Decide.{ℕ-discrete}
+-- A contraction adds the weight of the vertex that goes to the one that stays (weight-into) and leaves every block's weight (blockWeight-join);
+-- a move takes the vertex's weight from one block to another (blockWeight-move). Rests on Climbs. Assumes nothing.
+use Prim.Native.Nat.{ℕ, _+_, _≤_}
 use native.Mathlib.Omega.{arith}
-use mathlib.Core.Path.{_≡_, refl, sym, ap, ap₂, _∙_, subst}
-use mathlib.Core.Bool.{Bool, true, false, not, _||_, _&&_, true≢false, cond}
-use mathlib.Core.List.{List, [], _∷_}
+use mathlib.Core.Path.{_≡_, refl, sym, ap, ap₂, _∙_}
+use mathlib.Core.Bool.{Bool, true, false, _&&_, true≢false, cond}
+use mathlib.Core.List.{List, _∷_}
 use borrow.Author.Tests.{eq-eqb, ne-eqb, eqb-true}
-use lib.Dec.{eqb, ltb}
-use Rattle.laws.specs.Sum.{sumTo, sumTo-ext, sumTo-change, sumTo-change2, sumTo-add}
+use lib.Dec.{eqb}
+use Rattle.laws.specs.Sum.{sumTo-ext, sumTo-change, sumTo-change2, sumTo-add}
 use Rattle.laws.specs.Place.{place, place-at, place-off}
-use Rattle.laws.specs.Choice.{cond-yes, cond-no, cond-or}
-use Rattle.model.specs.Catalogue.{Net, Hypergraph, vertices, loaded}
+use Rattle.laws.specs.Choice.{cond-or}
+use Rattle.model.specs.Catalogue.{Hypergraph, vertices, loaded}
 use Rattle.model.specs.Measure.{Contraction, above, onBoard, representative, weight, blockWeight}
-use Rattle.guarantees.specs.Climbs.{Joins, Sound, above-gone, above-other, stands-into, stands-other}
+use Rattle.guarantees.specs.Climbs.{Sound, above-gone, above-other, stands-into, stands-other}
 
 module _ (h : Hypergraph) (cs : List Contraction) (c : Contraction) (s : Sound (c ∷ cs)) where
-  -- bales of the lot that stands for both
+  -- the weight of the vertex that represents both
   pub weight-into : weight h (c ∷ cs) (c .into) ≡ weight h cs (c .into) + weight h cs (c .gone)
   unfolding weight
   weight-into = sumTo-ext (vertices h) _ _ (λ x _ _. each x) ∙ sumTo-add (vertices h) _ _
@@ -30,7 +30,7 @@ module _ (h : Hypergraph) (cs : List Contraction) (c : Contraction) (s : Sound (
   unfolding weight
   weight-other u ng ni = sumTo-ext (vertices h) _ _ (λ x _ _. ap (λ (b : Bool). cond b (loaded h x) 0) (stands-other cs c s u ng ni x))
 
-  -- a session's bales after a join of two of its lots
+  -- a block's weight after a contraction of two of its vertices
   module _ (p : ℕ → ℕ) (ul : 1 ≤ c .into) (uu : c .into ≤ vertices h) (vl : 1 ≤ c .gone) (vu : c .gone ≤ vertices h) (one-block : p (c .into) ≡ p (c .gone)) (b : ℕ) where
     abbrev before : ℕ → ℕ
     before x = cond (onBoard cs x && eqb (p x) b) (weight h cs x) 0
@@ -71,7 +71,7 @@ module _ (h : Hypergraph) (cs : List Contraction) (c : Contraction) (s : Sound (
       ap (λ (y : ℕ). cond (eqb y b) (weight h cs (c .gone)) 0) one-block,
     )
 
--- a session's bales after a move of a board lot
+-- a block's weight after a move of a vertex on the board
 module _ (h : Hypergraph) (cs : List Contraction) (p : ℕ → ℕ) (v t : ℕ) (vl : 1 ≤ v) (vu : v ≤ vertices h) (on : above cs v ≡ 0) where
   on-board : (q : Bool) (w : ℕ) → cond (onBoard cs v && q) w 0 ≡ cond q w 0
   on-board q w = ap (λ (x : Bool). cond (x && q) w 0) (eq-eqb _ 0 on)

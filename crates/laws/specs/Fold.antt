@@ -1,5 +1,5 @@
 -- Sums and tests over a list, and what holds of every element. Assumes nothing.
--- sumOver: sumOver-ext, sumOver-all, sumOver-both, sumOver-le · any: any-ext, any-at, any-not · All: all-map, all-more, all-get
+-- sumOver: sumOver-ext, sumOver-all, sumOver-more, sumOver-both, sumOver-le · any: any-ext, any-at, any-not · All: all-map, all-more, all-get
 use Prim.Native.Nat.{ℕ, zero, suc, _+_, _*_, _≤_, _<_}
 use native.Mathlib.Omega.{arith}
 use mathlib.Core.Path.{_≡_, refl, sym, ap₂}
@@ -50,6 +50,12 @@ pub sumOver-ext : {A : Type 0} (l : List A) (f g : A → ℕ) → ((x : A) → f
 unfolding sumOver
 sumOver-ext [] f g e = refl
 sumOver-ext (x ∷ l) f g e = ap₂ (λ (a b : ℕ). a + b) (e x) (sumOver-ext l f g e)
+
+-- one more element
+pub sumOver-more : {A : Type 0} (l : List A) (x : A) (f : A → ℕ) → sumOver (l ++ (x ∷ [])) f ≡ sumOver l f + f x
+unfolding sumOver
+sumOver-more [] x f = omega arith
+sumOver-more (y ∷ l) x f = omega (arith, sumOver-more l x f)
 
 -- an equation of two sums for each element, summed
 pub sumOver-both : {A : Type 0} (l : List A) (f g f′ g′ : A → ℕ) → ((x : A) → f x + g x ≡ f′ x + g′ x) → sumOver l f + sumOver l g ≡ sumOver l f′ + sumOver l g′

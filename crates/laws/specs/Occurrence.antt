@@ -1,16 +1,18 @@
 -- How often x stands in the stretch of n places of l that begins at f. Assumes nothing.
 use mathlib.Core.Path.{_≡_, refl, sym, ap, _∙_}
-use mathlib.Core.List.{List}
+use mathlib.Core.Bool.{Bool, true, false, _||_, true≢false}
+use mathlib.Core.List.{List, [], _∷_, _++_}
 use Prim.Native.Nat.{ℕ, zero, suc, _+_, _-_, _≤_, _<_}
-use native.Mathlib.Nat.{add-zero, add-suc, add-assoc}
+use native.Mathlib.Nat.{zero-add, add-zero, add-suc, add-assoc}
 use native.Mathlib.Decide.{ℕ-discrete, decLt}
 use native.Mathlib.Omega.{arith}
 use borrow.Author.Tests.{eq-eqb, ne-eqb}
 use lib.Dec.{eqb}
-use lib.ListN.{length, getD, set}
+use lib.ListN.{length, getD, set, length-append, List·getD-append}
 use lib.Seq.{getD-set-same, getD-set-other}
 use Rattle.laws.specs.Choice.{one}
-use Rattle.laws.specs.Sum.{sum, countBelow, sum-zero, sum-suc, sum-step, sum-ext, sum-change, sum-nil, sum-split, term-le}
+use Rattle.laws.specs.Fold.{any}
+use Rattle.laws.specs.Sum.{sum, sum-zero, sum-suc, sum-step, sum-ext, sum-change, sum-nil, sum-split, term-le}
 
 -- what stands at place i of the stretch that begins at f
 abbrev pub at : List ℕ → ℕ → ℕ → ℕ
@@ -126,3 +128,42 @@ module _ (l : List ℕ) (f : ℕ) where
 pub occ-ext : (l l′ : List ℕ) (f n x : ℕ) → ((i : ℕ) → i < n → at l′ f i ≡ at l f i) → occ l′ f n x ≡ occ l f n x
 unfolding occ
 occ-ext l l′ f n x h = sum-ext n (λ i. same (at l′ f i) x) (λ i. same (at l f i) x) (λ i k. ap (λ (z : ℕ). same z x) (h i k))
+
+-- ---- a whole list: one more element that does not stand in it
+pub any-getD : (l : List ℕ) (x : ℕ) → any l (λ y. eqb y x) ≡ false → (i : ℕ) → i < length l → getD l i 0 ≡ x → ⊥
+unfolding any
+any-getD [] x q i h e = omega arith
+any-getD (y ∷ l) x q zero h e = true≢false (sym (ap (λ (b : Bool). b || any l (λ y. eqb y x)) (eq-eqb y x e)) ∙ q)
+any-getD (y ∷ l) x q (suc i) h e = any-getD l x (rest (eqb y x) q) i (omega arith) e
+  where
+    rest : (b : Bool) → (b || any l (λ y. eqb y x)) ≡ false → any l (λ y. eqb y x) ≡ false
+    rest true r = absurd (true≢false r)
+    rest false r = r
+
+getD-last : (l : List ℕ) (x : ℕ) → getD (l ++ (x ∷ [])) (length l) 0 ≡ x
+getD-last [] x = refl
+getD-last (y ∷ l) x = getD-last l x
+
+pub distinct-more : (l : List ℕ) (x : ℕ) → Distinct l 0 (length l) → any l (λ y. eqb y x) ≡ false → Distinct (l ++ (x ∷ [])) 0 (length (l ++ (x ∷ [])))
+distinct-more l x d q i j hi hj e = go (ℕ-discrete i (length l)) (ℕ-discrete j (length l))
+  where
+    longer : length (l ++ (x ∷ [])) ≡ length l + 1
+    longer = length-append l (x ∷ [])
+
+    old : (k : ℕ) → k < length l → at (l ++ (x ∷ [])) 0 k ≡ getD l k 0
+    old k h = ap (λ (m : ℕ). getD (l ++ (x ∷ [])) m 0) (zero-add k) ∙ List·getD-append l (x ∷ []) 0 k h
+
+    new : (k : ℕ) → k ≡ length l → at (l ++ (x ∷ [])) 0 k ≡ x
+    new k r = ap (λ (m : ℕ). getD (l ++ (x ∷ [])) m 0) (zero-add k ∙ r) ∙ getD-last l x
+
+    here : (k : ℕ) → k < length l → at l 0 k ≡ getD l k 0
+    here k h = ap (λ (m : ℕ). getD l m 0) (zero-add k)
+
+    go : Dec (i ≡ length l) → Dec (j ≡ length l) → i ≡ j
+    go (yes a) (yes b) = a ∙ sym b
+    go (yes a) (no b) = absurd (any-getD l x q j (omega (arith, longer)) (sym (old j (omega (arith, longer))) ∙ sym e ∙ new i a))
+    go (no a) (yes b) = absurd (any-getD l x q i (omega (arith, longer)) (sym (old i (omega (arith, longer))) ∙ e ∙ new j b))
+    go (no a) (no b) =
+        let li : i < length l = omega (arith, longer) in
+        let lj : j < length l = omega (arith, longer) in
+        d i j li lj (here i li ∙ sym (old i li) ∙ e ∙ old j lj ∙ sym (here j lj))

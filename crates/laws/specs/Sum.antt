@@ -1,18 +1,20 @@
 -- Sums of f over the numbers below n and over 1..n, and how many of them pass a test. Assumes nothing.
 -- Below n: sum-zero, sum-suc, sum-step, sum-front, sum-ext, sum-change, sum-add, sum-split, sum-mono, sum-mul, sum-const, sum-nil, sum-skip, term-le, sum-swap;
 --   count-le, count-change
--- Over 1..n: sumTo-ext, sumTo-change, sumTo-change2, sumTo-add, sumTo-nil, sumTo-term, sumTo-two, countTo-le, countTo-full; foldTo-zero, foldTo-step, foldTo-ext, foldTo-skip
--- Both: sum-sumTo · over a list's places: sum-list
+-- Over 1..n: sumTo-ext, sumTo-change, sumTo-change2, sumTo-add, sumTo-nil, sumTo-term, sumTo-two, sumTo-mono, sumTo-const, sumTo-swap, sumTo-once,
+--   sumTo-suc, sumTo-prefix, countTo-le, countTo-full; foldTo-zero, foldTo-step, foldTo-ext, foldTo-skip
+-- Both: sum-sumTo · over a list's places: sum-list, sumTo-list
 use mathlib.Core.Path.{_≡_, refl, sym, ap, ap₂, _∙_}
-use mathlib.Core.Bool.{Bool, true, false}
+use mathlib.Core.Bool.{Bool, true, cond}
 use Prim.Native.Nat.{ℕ, zero, suc, _+_, _-_, _*_, _≤_, _<_}
 use native.Mathlib.Nat.{add-zero, add-suc, suc-mul, mul-add, zero-mul, mul-zero}
 use native.Mathlib.Numerals.{add-one}
 use native.Mathlib.Decide.{ℕ-discrete}
 use native.Mathlib.Omega.{arith}
 use mathlib.Core.List.{List, [], _∷_}
+use lib.Dec.{eqb}
 use lib.ListN.{length, getD}
-use Rattle.laws.specs.Choice.{one, one-le, one-full}
+use Rattle.laws.specs.Choice.{one, one-le, one-full, cond-yes, cond-no}
 use Rattle.laws.specs.Fold.{sumOver}
 use Rattle.laws.specs.Place.{place, place-at, place-off}
 
@@ -218,6 +220,44 @@ countTo-full (suc n) f l i a b = go (λ k. countTo-full n f (omega (arith, one-l
     go : (i ≤ n → f i ≡ true) → Dec (i ≡ suc n) → f i ≡ true
     go ih (yes q) = ap f q ∙ one-full (f (suc n)) (omega (arith, countTo-le n f))
     go ih (no m) = ih (omega arith)
+
+pub sumTo-mono : (n : ℕ) (f g : ℕ → ℕ) → ((i : ℕ) → 1 ≤ i → i ≤ n → f i ≤ g i) → sumTo n f ≤ sumTo n g
+unfolding sumTo
+sumTo-mono n f g h = sum-mono n (λ i. f (suc i)) (λ i. g (suc i)) (λ i l. h (suc i) (omega arith) (omega arith))
+
+pub sumTo-const : (n k : ℕ) → sumTo n (λ i. k) ≡ n * k
+unfolding sumTo
+sumTo-const n k = sum-const n k
+
+pub sumTo-swap : (n m : ℕ) (f : ℕ → ℕ → ℕ) → sumTo n (λ i. sumTo m (λ j. f i j)) ≡ sumTo m (λ j. sumTo n (λ i. f i j))
+unfolding sumTo
+sumTo-swap n m f = sum-swap n m (λ i j. f (suc i) (suc j))
+
+-- a term that stands at one number at most
+pub sumTo-once : (n r w : ℕ) → sumTo n (λ i. cond (eqb r i) w 0) ≤ w
+unfolding sumTo sum
+sumTo-once zero r w = omega arith
+sumTo-once (suc n) r w = go (sumTo-once n r w) (ℕ-discrete r (suc n))
+  where
+    go : sumTo n (λ i. cond (eqb r i) w 0) ≤ w → Dec (r ≡ suc n) → sumTo n (λ i. cond (eqb r i) w 0) + cond (eqb r (suc n)) w 0 ≤ w
+    go ih (yes q) = omega (arith, cond-yes r (suc n) w 0 q, sumTo-nil n (λ i. cond (eqb r i) w 0) (λ i l u. cond-no r i w 0 (λ e. omega arith)))
+    go ih (no m) = omega (arith, cond-no r (suc n) w 0 m)
+
+pub sumTo-suc : (n : ℕ) (f : ℕ → ℕ) → sumTo (suc n) f ≡ sumTo n f + f (suc n)
+unfolding sumTo
+sumTo-suc n f = sum-suc n (λ i. f (suc i))
+
+-- the first of them sum up to no more
+pub sumTo-prefix : (m k : ℕ) (f : ℕ → ℕ) → sumTo m f ≤ sumTo (m + k) f
+unfolding sumTo
+sumTo-prefix m k f = omega (arith, sum-split m k (λ i. f (suc i)))
+
+-- over a list's numbers, from 1 on
+pub sumTo-list : {A : Type 0} (l : List A) (d : A) (f : A → ℕ) → sumTo (length l) (λ i. f (getD l (i - 1) d)) ≡ sumOver l f
+sumTo-list l d f = sym (sum-sumTo (length l) (λ i. f (getD l i d)) (λ i. f (getD l (i - 1) d)) (λ i _. ap (λ (j : ℕ). f (getD l j d)) (down i))) ∙ sum-list l d f
+  where
+    down : (i : ℕ) → i ≡ suc i - 1
+    down i = omega arith
 
 pub foldTo-zero : {B : Type 0} (f : B → ℕ → B) (b : B) → foldTo 0 f b ≡ b
 unfolding foldTo

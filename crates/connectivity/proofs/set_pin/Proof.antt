@@ -39,14 +39,14 @@ own-row-requires c κs =
 depart-requires : tie.Need-depart-requires
 depart-requires c κs =
     let S = c .before .before .before .before .before .before .before .before .before .before .before .before .before .before .before .before .before in
-    (omega (arith, S .pre .frame, S .pre .e-in), (omega (arith, S .pre .frame, S .pre .e-in), (omega (arith, S .pre .frame, S .pre .a-in), set-depart (S .pre) refl)))
+    (omega (arith, S .pre .frame, S .pre .e-in), (omega (arith, S .pre .frame, S .pre .e-in), (omega (arith, S .pre .frame, S .pre .a-in), set-depart (S .pre))))
 
 arrive-requires : tie.Need-arrive-requires
 arrive-requires c κs =
     let D = c .before .before .before .before .before .before in
     let S = D .before .before .before .before .before .before .before .before .before .before .before .before .before .before .before .before .before .before in (
       omega (arith, S .pre .frame, S .pre .e-in, D .depart .ensures .counts-len),
-      (omega (arith, S .pre .frame, S .pre .e-in, D .depart .ensures .masks-len), (omega (arith, S .pre .frame, S .pre .b-in), set-arrive (S .pre) refl (D .depart .ensures))),
+      (omega (arith, S .pre .frame, S .pre .e-in, D .depart .ensures .masks-len), (omega (arith, S .pre .frame, S .pre .b-in), set-arrive (S .pre) (D .depart .ensures))),
     )
 
 touch-others-requires : tie.Need-touch-others-requires

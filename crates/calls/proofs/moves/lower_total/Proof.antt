@@ -1,0 +1,36 @@
+use native.Mathlib.Omega.{arith}
+use mathlib.Core.Path.{_≡_, sym, _∙_, ap}
+use denote.Ref.{now}
+use borrow.Author.Needs.{needs}
+use Rattle.calls.specs.Total.{plus-side, minus-side}
+use Rattle.calls.proofs.moves.lower_total.Statement.{statement}
+use Rattle.calls.proofs.moves.lower_total.Tie as tie
+use Rattle.calls.proofs.moves.lower_total.Reads as reads
+use Rattle.calls.proofs.moves.lower_total.Lts as lts
+use Rattle.text.proofs.side.Reads as side-reads
+
+side-requires : tie.Need-side-requires
+side-requires c κs = search needs
+
+enum-known-g : tie.Need-enum-known-g
+enum-known-g c = search needs
+
+sub-result : tie.Need-sub-result
+sub-result c = (plus-side (c .before .before .before .before .args .total) (c .before .before .before .before .args .gain) (c .before .g .given .0 .0) (c .before .before .before .before .pre) (c .before .before .before .before .fits .gain) (c .before .before .before .side .ensures) (c .before .g .given .1)) .0
+
+enum-known-g-2 : tie.Need-enum-known-g-2
+enum-known-g-2 c = search needs
+
+add-result : tie.Need-add-result
+add-result c = record { fits = (minus-side (c .before .before .before .before .args .total) (c .before .before .before .before .args .gain) (c .before .g2 .given .0 .0) (c .before .before .before .before .pre) (c .before .before .before .before .fits .gain) (c .before .before .before .side .ensures) (c .before .g2 .given .1)) .0 }
+
+returns : tie.Need-returns
+returns c = (plus-side (c .before .before .before .before .args .total) (c .before .before .before .before .args .gain) (c .before .g .given .0 .0) (c .before .before .before .before .pre) (c .before .before .before .before .fits .gain) (c .before .before .before .side .ensures) (c .before .g .given .1)) .1
+
+returns-2 : tie.Need-returns-2
+returns-2 c = (minus-side (c .before .before .before .before .args .total) (c .before .before .before .before .args .gain) (c .before .g2 .given .0 .0) (c .before .before .before .before .pre) (c .before .before .before .before .fits .gain) (c .before .before .before .side .ensures) (c .before .g2 .given .1)) .1
+
+pub lower-total-spec : {M : Type 1} → statement M
+lower-total-spec =
+    tie.close
+    (tie.spec side-requires enum-known-g sub-result enum-known-g-2 add-result returns returns-2)

@@ -1,0 +1,3 @@
+// The calls J, S, M and B on the tables of a running sale, and the operations that they and the searches share.
+pub mod moves;
+pub mod pairs;

@@ -1,0 +1,88 @@
+// A vertex moved to another block in all tables, with the blocks' weights and the metric.
+ghost use Prim.Native.Nat.{ℕ, _+_, _-_, _*_, _<_, _≤_};
+ghost use mathlib.Core.Path.{_≡_};
+ghost use mathlib.Core.List.{List};
+ghost use lib.ListN.{length, getD};
+ghost use lib.IntN.{pos, _-ℤ_};
+ghost use Rattle.calls.specs.Tables.{tables};
+ghost use Rattle.calls.specs.Total.{Lowers};
+ghost use Rattle.calls.specs.Move.{shifted, Shifts, CanGo, Went};
+use levels::move_vertex;
+
+fn index(x: u16) -> usize
+    ensures { λ r. ⌜ r ≡ x ⌝ }
+{
+    x as usize
+}
+
+fn wide(x: u32) -> u64
+    ensures { λ r. ⌜ r ≡ x ⌝ }
+{
+    x as u64
+}
+
+// The metric after a move of that gain.
+pub fn lower_total(total: u32, gain: i32) -> u32
+    requires { ⌜ Lowers total gain ⌝ }
+    ensures { λ r. ⌜ pos r ≡ pos total -ℤ gain ⌝ }
+{
+    match text::side(gain) {
+        text::Sign::Plus(g) => total - g,
+        text::Sign::Minus(g) => total + g,
+    }
+}
+
+// Moves the weight `w` from the block `s` to the block `t`.
+fn shift_load(loads: &mut [u64; 16], s: usize, t: usize, w: u64)
+    requires { ⌜ Shifts (now loads) s t w ⌝ }
+    ensures { λ _. ⌜ now (loads .exit) ≡ shifted (now (loads .entry)) s t w ⌝ }
+{
+    loads[s - 1] = loads[s - 1] - w;
+    loads[t - 1] = loads[t - 1] + w;
+}
+
+// Moves the vertex `u` to the block `t`, and returns the metric after it.
+pub fn go(
+    counts: &mut [u16],
+    visited: &mut [u16],
+    gains: &mut [i32],
+    blocks: &mut [u16],
+    loads: &mut [u64; 16],
+    pins: &[u16],
+    sizes: &[u16],
+    bits: &[u64],
+    weights: &[u32],
+    netweights: &[u16],
+    firsts: &[u16],
+    n: usize,
+    m: usize,
+    k: usize,
+    total: u32,
+    u: usize,
+    t: u16,
+) -> u32
+    requires { ⌜ CanGo (λ aboves loaded. tables (now counts) (now visited) (now gains) (now pins) (now sizes) (now bits) (now blocks) (now weights) aboves (now loads) (now netweights) (now firsts) loaded n m k total) u t ⌝ }
+    ensures { λ r. ⌜ ((aboves loaded : List ℕ) → Went (tables (now (counts .entry)) (now (visited .entry)) (now (gains .entry)) (now (pins .entry)) (now (sizes .entry)) (now (bits .entry)) (now (blocks .entry)) (now (weights .entry)) aboves (now (loads .entry)) (now (netweights .entry)) (now (firsts .entry)) loaded n m k total)
+        (tables (now (counts .exit)) (now (visited .exit)) (now (gains .exit)) (now (pins .exit)) (now (sizes .exit)) (now (bits .exit)) (now (blocks .exit)) (now (weights .exit)) aboves (now (loads .exit)) (now (netweights .exit)) (now (firsts .exit)) loaded n m k r) u t) ⌝ }
+{
+    let s = index(blocks[u]);
+    let b = index(t);
+    let after = lower_total(total, gains[16 * u + (b - 1)]);
+    shift_load(loads, s, b, wide(weights[u]));
+    move_vertex(
+        counts,
+        visited,
+        gains,
+        blocks,
+        netweights,
+        pins,
+        firsts,
+        sizes,
+        n,
+        m,
+        k,
+        u,
+        t,
+    );
+    after
+}

@@ -1,0 +1,54 @@
+-- What the code may count on, in every state that a list of calls reaches from an accepted catalogue (reached-bounds): the stack at most one
+-- less than the vertices, the journal no longer than the list, gains and metric in 32 bits, weights and the capacity in 27, ratings in 64, and
+-- the numbers of the next answer within their bounds. Rests on the files of bounds. Assumes nothing.
+use Prim.Native.Nat.{ℕ, _+_, _-_, _*_, _^_, _≤_, _<_}
+use native.Mathlib.Omega.{arith}
+use mathlib.Core.List.{List}
+use lib.IntN.{natAbs}
+use lib.ListN.{length}
+use Rattle.model.specs.Catalogue.{Limits, Hypergraph, vertices, averageWeight, capacity}
+use Rattle.model.specs.Measure.{weight, blockWeight, metric, gain}
+use Rattle.model.specs.Machine.{Call, State, fresh}
+use Rattle.model.specs.Search.{rating, call}
+use Rattle.model.specs.Engine.{after}
+use Rattle.model.specs.Demand.{Accepted}
+use Rattle.guarantees.specs.Bounds.{gain-le, rating-le}
+use Rattle.guarantees.specs.WeightBounds.{weight-le, blockWeight-le, total-le, average-le, product-le, capacity-le}
+use Rattle.guarantees.specs.StateBounds.{stack-le, journal-le, Listed, journal-in}
+use Rattle.guarantees.specs.AnswerBounds.{Bounded, bounded-call, metric-in}
+use Rattle.guarantees.specs.Ranges.{Ranges, accepted-ranges}
+use Rattle.guarantees.specs.Reached.{reached}
+
+pub record Small (h : Hypergraph) (calls : List Call) (s : State) : Type 0 where
+  pub stack-short : length (s .stack) ≤ vertices h - 1
+  pub journal-short : length (s .journal) ≤ length calls
+  pub journal-real : Listed h (s .journal)
+  pub gains : (v t : ℕ) → natAbs (gain h (s .stack) (s .block) v t) < 2 ^ 31
+  pub metrics : (p : ℕ → ℕ) → metric h (s .stack) p < 2 ^ 31
+  pub weights : (v : ℕ) → weight h (s .stack) v < 2 ^ 27
+  pub block-weights : (b : ℕ) → blockWeight h (s .stack) (s .block) b < 2 ^ 27
+  pub averages : averageWeight h < 2 ^ 27
+  pub capacities : capacity h < 2 ^ 27
+  pub products : (1000 + h .imbalance) * averageWeight h < 2 ^ 64
+  pub ratings : (u v : ℕ) → rating h (s .stack) u v < 2 ^ 64
+  pub answers : (c : Call) → Bounded (call h s c .answer)
+
+pub reached-bounds : (limits : Limits) → limits .vertexLimit ≤ 1024 → limits .blockLimit ≤ 16 → (h : Hypergraph) → Accepted limits h → (calls : List Call) → Small h calls (after h (fresh h) calls)
+reached-bounds limits small narrow h a calls =
+    let s : State = after h (fresh h) calls in
+    let r : Ranges limits h = accepted-ranges limits h a in
+    let k = reached limits h a calls .legal in
+    record {
+      stack-short = stack-le h (s .stack) (k .sound) (k .inside);
+      journal-short = journal-le h calls;
+      journal-real = journal-in h calls;
+      gains = λ v t. omega (arith, gain-le limits narrow h (r .loaded) (r .nets-high) (s .stack) (s .block) v t);
+      metrics = λ p. omega (arith, metric-in limits small narrow h r (s .stack) p);
+      weights = λ v. omega (arith, weight-le h (s .stack) v, total-le limits small h r);
+      block-weights = λ b. omega (arith, blockWeight-le h (s .stack) (s .block) b, total-le limits small h r);
+      averages = omega (arith, average-le limits small h r);
+      capacities = omega (arith, capacity-le limits small h r);
+      products = omega (arith, product-le limits small h r);
+      ratings = λ u v. omega (arith, rating-le limits h (r .loaded) (r .nets-high) (s .stack) u v);
+      answers = λ c. bounded-call limits small narrow h r s c k (journal-in h calls);
+    }

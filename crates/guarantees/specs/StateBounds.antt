@@ -1,0 +1,94 @@
+-- How large the machine's state gets: the stack is at most one less than the vertices (stack-le), the journal no longer than the list of
+-- calls (journal-le), and its moves are of vertices that there are (journal-in). Rests on Calls. Assumes nothing.
+use Prim.Native.Nat.{ℕ, zero, suc, _+_, _-_, _≤_}
+use native.Mathlib.Omega.{arith}
+use mathlib.Core.Path.{_≡_, refl, ap, subst}
+use mathlib.Core.Bool.{not, _&&_}
+use mathlib.Core.List.{List, [], _∷_}
+use borrow.Author.Tests.{eq-eqb, not-false}
+use lib.ListN.{length}
+use Rattle.laws.specs.Choice.{one, and-left, cond-zero}
+use Rattle.laws.specs.Fold.{All}
+use Rattle.laws.specs.Sum.{sumTo-term, sumTo-const}
+use Rattle.model.specs.Catalogue.{Hypergraph, vertices, isVertex, isBlock}
+use Rattle.model.specs.Measure.{Contraction, above, onBoard}
+use Rattle.model.specs.Machine.{Call, callJ, callS, callM, callB, callW, callP, callA, Move, State, Step, fresh, settle, refusesJ, contract, doesJ, refusesM, doesM, doesS, doesB}
+use Rattle.model.specs.Search.{boardSize, refusesW, doesW, doesP, refusesA, doesA, call}
+use Rattle.model.specs.Engine.{after}
+use Rattle.guarantees.specs.Climbs.{Sound}
+use Rattle.guarantees.specs.Calls.{Inside, AllInside, into-on, board-join, vertex-range}
+
+module _ (h : Hypergraph) where
+  -- every contraction takes one vertex off the board
+  pub board-stack : (cs : List Contraction) → Sound cs → AllInside h cs → boardSize h cs + length cs ≡ vertices h
+  unfolding boardSize above
+  board-stack [] s a = omega (arith, sumTo-const (vertices h) 1)
+  board-stack (c ∷ cs) s a = omega (arith, board-stack cs (s .1) (a .1), board-join h cs c (s .0) (a .0 .2) (a .0 .3))
+
+  -- and leaves one there
+  board-some : (cs : List Contraction) (c : Contraction) → Sound (c ∷ cs) → Inside h c → 1 ≤ boardSize h (c ∷ cs)
+  unfolding boardSize
+  board-some cs c s r = omega (arith, sumTo-term (vertices h) (c .into) (λ x. one (onBoard (c ∷ cs) x)) (r .0) (r .1), ap one (eq-eqb (above (c ∷ cs) (c .into)) 0 (into-on h cs c (s .0))))
+
+  pub stack-le : (cs : List Contraction) → Sound cs → AllInside h cs → length cs ≤ vertices h - 1
+  stack-le [] s a = omega arith
+  stack-le (c ∷ cs) s a = omega (arith, board-stack (c ∷ cs) s a, board-some cs c s (a .0))
+
+  -- ---- the journal: what holds of an empty one, is kept by an accepted M and by dropping the last move, holds after each call
+  module _ (Q : ℕ → List Move → Type 0) (empty : (n : ℕ) → Q n []) (later : (n : ℕ) (ms : List Move) → Q n ms → Q (suc n) ms)
+      (more : (n : ℕ) (s : State) (v t : ℕ) → refusesM h s v t ≡ 0 → Q n (s .journal) → Q (suc n) (record { vertex = v; from = s .block v } ∷ s .journal))
+      (fewer : (n : ℕ) (m : Move) (ms : List Move) → Q n (m ∷ ms) → Q n ms) where
+    settled : (n q : ℕ) (s : State) (done : Step) → Q n (s .journal) → (q ≡ 0 → Q (suc n) (done .state .journal)) → Q (suc n) (settle q s done .state .journal)
+    unfolding settle
+    settled n zero s done k f = f refl
+    settled n (suc q) s done k f = later n (s .journal) k
+
+    after-S : (n : ℕ) (s : State) (cs : List Contraction) → Q n (s .journal) → Q (suc n) (doesS s cs .state .journal)
+    unfolding doesS
+    after-S n s [] k = later n (s .journal) k
+    after-S n s (c ∷ cs) k = empty (suc n)
+
+    after-B : (n : ℕ) (s : State) (ms : List Move) → s .journal ≡ ms → Q n (s .journal) → Q (suc n) (doesB h s ms .state .journal)
+    unfolding doesB
+    after-B n s [] q k = later n (s .journal) k
+    after-B n s (m ∷ ms) q k = later n ms (fewer n m ms (subst (Q n) q k))
+
+    after-call : (n : ℕ) (s : State) (c : Call) → Q n (s .journal) → Q (suc n) (call h s c .state .journal)
+    unfolding call doesJ contract doesM doesW doesP doesA
+    after-call n s (callJ u v) k = settled n (refusesJ h s u v) s (doesJ h s u v) k (λ _. empty (suc n))
+    after-call n s callS k = after-S n s (s .stack) k
+    after-call n s (callM v t) k = settled n (refusesM h s v t) s (doesM h s v t) k (λ q. more n s v t q k)
+    after-call n s callB k = after-B n s (s .journal) refl k
+    after-call n s (callW u v) k = settled n (refusesW h s u v) s (doesW h s u v) k (λ _. empty (suc n))
+    after-call n s callP k = empty (suc n)
+    after-call n s callA k = settled n (refusesA h s (s .stack)) s (doesA h s) k (λ _. empty (suc n))
+
+    after-all : (n : ℕ) (s : State) (calls : List Call) → Q n (s .journal) → Q (n + length calls) (after h s calls .journal)
+    unfolding after
+    after-all n s [] k = subst (λ (m : ℕ). Q m (s .journal)) (zero-more n) k
+      where
+        zero-more : (n : ℕ) → n ≡ n + 0
+        zero-more n = omega arith
+    after-all n s (c ∷ cs) k = subst (λ (m : ℕ). Q m (after h (call h s c .state) cs .journal)) (one-more n (length cs)) (after-all (suc n) (call h s c .state) cs (after-call n s c k))
+      where
+        one-more : (n m : ℕ) → suc n + m ≡ n + suc m
+        one-more n m = omega arith
+
+  pub journal-le : (calls : List Call) → length (after h (fresh h) calls .journal) ≤ length calls
+  unfolding fresh
+  journal-le calls = omega (arith, after-all (λ n ms. length ms ≤ n) (λ n. omega arith) (λ n ms l. omega arith) (λ n s v t _ l. omega arith) (λ n m ms l. omega arith) 0 (fresh h) calls (omega arith))
+
+  -- the moves of a journal are of vertices that there are
+  abbrev pub Listed : List Move → Type 0
+  Listed ms = All ms (λ m. (1 ≤ m .vertex) × (m .vertex ≤ vertices h))
+
+  listed-more : (s : State) (v t : ℕ) → refusesM h s v t ≡ 0 → Listed (s .journal) → Listed (record { vertex = v; from = s .block v } ∷ s .journal)
+  unfolding refusesM
+  listed-more s v t q k = (vertex-range h v (and-left _ _ (not-false _ (cond-zero (not (isVertex h v && isBlock h t)) 9 _ (omega arith) q .0))), k)
+
+  pub listed-call : (s : State) (c : Call) → Listed (s .journal) → Listed (call h s c .state .journal)
+  listed-call s c k = after-call (λ n ms. Listed ms) (λ n. tt) (λ n ms k. k) (λ n. listed-more) (λ n m ms k. k .1) 0 s c k
+
+  pub journal-in : (calls : List Call) → Listed (after h (fresh h) calls .journal)
+  unfolding fresh
+  journal-in calls = after-all (λ n ms. Listed ms) (λ n. tt) (λ n ms k. k) (λ n. listed-more) (λ n m ms k. k .1) 0 (fresh h) calls tt

@@ -1,0 +1,132 @@
+use Prim.Native.Nat.{_≤_, _<_, _-_}
+use native.Mathlib.Omega.{arith}
+use mathlib.Core.Path.{_≡_, sym, _∙_, ap}
+use denote.Ref.{now}
+use borrow.Author.Needs.{needs}
+use Rattle.incidence.specs.On.{on}
+use Rattle.levels.specs.Move.{Moving, moving-none, moving-sets, moving-more, moving-done}
+use Rattle.levels.specs.Operations.{move-needs, move-does}
+use Rattle.levels.proofs.move_vertex.Statement.{statement}
+use Rattle.levels.proofs.move_vertex.Tie as tie
+use Rattle.levels.proofs.move_vertex.Reads as reads
+use Rattle.levels.proofs.move_vertex.Lts as lts
+use Rattle.connectivity.proofs.set_pin.Reads as set-pin-reads
+use Rattle.incidence.proofs.next_net.Reads as next-net-reads
+use Rattle.levels.proofs.numbers.index.Reads as index-reads
+
+abbrev Inv-loop : tie.InvT-loop
+Inv-loop counts₀ visited₀ gains₀ blocks weights pins firsts sizes bits n m k u t s b e₀ counts visited gains e =
+    (e ≤ m) × (e < m → on bits u e ≡ 1) × Moving weights pins blocks firsts sizes n m k u t e counts₀ counts visited₀ visited gains₀ gains
+
+abbrev μ-loop : tie.MeasureT-loop
+μ-loop counts₀ visited₀ gains₀ blocks weights pins firsts sizes bits n m k u t s b e₀ counts visited gains e =
+    m - e
+
+mul-index : tie.Need-mul-index Inv-loop μ-loop
+mul-index c = omega arith
+
+slice-read-index : tie.Need-slice-read-index Inv-loop μ-loop
+slice-read-index c = let S = c .before .before .before .before .before .before .before .before .before in omega (arith, S .pre .u-in, S .pre .follows .world .lists .blocks-fit)
+
+index-requires : tie.Need-index-requires Inv-loop μ-loop
+index-requires c κs = search needs
+
+index-requires-2 : tie.Need-index-requires-2 Inv-loop μ-loop
+index-requires-2 c κs = search needs
+
+next-net-requires : tie.Need-next-net-requires Inv-loop μ-loop
+next-net-requires c κs = let S = c .before .before .before .before .before .before .before .before .before .before .before in omega (arith, move-needs (S .pre) .bits-fit, S .pre .follows .room .few-nets)
+
+loop-holds : tie.Need-loop-holds Inv-loop μ-loop
+loop-holds c = (c .next-net .ensures .high, c .next-net .ensures .found, moving-none (move-needs (c .before .before .before .before .before .before .before .before .before .before .before .before .pre)) (c .next-net .ensures))
+
+mul-index-2 : tie.Need-mul-index-2 Inv-loop μ-loop
+mul-index-2 c = omega arith
+
+shared-slice-read-index : tie.Need-shared-slice-read-index Inv-loop μ-loop
+shared-slice-read-index c = let S = c .before .before .before .before .before .before .before .before .before .before .before .before .before .before .before in omega (arith, S .pre .follows .world .lists .firsts-fit)
+
+index-requires-3 : tie.Need-index-requires-3 Inv-loop μ-loop
+index-requires-3 c κs = search needs
+
+mul-index-3 : tie.Need-mul-index-3 Inv-loop μ-loop
+mul-index-3 c = omega arith
+
+shared-slice-read-index-2 : tie.Need-shared-slice-read-index-2 Inv-loop μ-loop
+shared-slice-read-index-2 c = let S = c .before .before .before .before .before .before .before .before .before .before .before .before .before .before .before .before .before in omega (arith, S .pre .follows .world .lists .sizes-fit)
+
+index-requires-4 : tie.Need-index-requires-4 Inv-loop μ-loop
+index-requires-4 c κs = search needs
+
+set-pin-requires : tie.Need-set-pin-requires Inv-loop μ-loop
+set-pin-requires c κs =
+    let I = c .before .before .before .before .before .before .before .before .before .loop .inv in
+    let test = c .before .before .before .before .before .before .before .before .loop-test .taken in
+    moving-sets (move-needs (c .before .before .before .before .before .before .before .before .before .before .before .before .before .before .before .before .before .before .before .before .before .before .pre)) test (I .1 test) (I .2) (c .before .before .before .before .before .before .index3 .ensures) (c .before .before .before .before .index4 .ensures) (c .before .before .before .before .before .before .before .before .before .before .before .before .index .ensures) (c .before .before .before .before .before .before .before .before .before .before .before .index2 .ensures)
+
+add-next-net : tie.Need-add-next-net Inv-loop μ-loop
+add-next-net c = omega (arith, c .before .before .before .before .before .before .before .before .before .before .before .before .before .before .loop-test .taken, c .before .before .before .before .before .before .before .before .before .before .before .before .before .before .before .before .before .before .before .before .before .before .before .before .before .before .before .before .pre .follows .room .few-nets)
+
+next-net-requires-2 : tie.Need-next-net-requires-2 Inv-loop μ-loop
+next-net-requires-2 c κs = let S = c .before .before .before .before .before .before .before .before .before .before .before .before .before .before .before .before .before .before .before .before .before .before .before .before .before .before .before .before in omega (arith, move-needs (S .pre) .bits-fit, S .pre .follows .room .few-nets, c .before .before .before .before .before .before .before .before .before .before .before .before .before .before .loop-test .taken)
+
+loop-less : tie.Need-loop-less Inv-loop μ-loop
+loop-less c = omega (arith, c .next-net2 .ensures .low, c .next-net2 .ensures .high)
+
+loop-again : tie.Need-loop-again Inv-loop μ-loop
+loop-again c =
+    let I = c .before .before .before .before .before .before .before .before .before .before .before .before .before .before .before .before .loop .inv in
+    let test = c .before .before .before .before .before .before .before .before .before .before .before .before .before .before .before .loop-test .taken in
+    (c .next-net2 .ensures .high, c .next-net2 .ensures .found, moving-more (move-needs (c .before .before .before .before .before .before .before .before .before .before .before .before .before .before .before .before .before .before .before .before .before .before .before .before .before .before .before .before .before .pre)) test (I .1 test) (I .2) (c .before .before .before .before .before .before .before .before .before .before .before .before .before .index3 .ensures) (c .before .before .before .before .before .before .before .before .before .before .before .index4 .ensures) (c .before .before .before .before .before .before .before .before .before .before .before .before .before .before .before .before .before .before .before .index .ensures) (c .before .before .before .before .before .before .before .before .before .before .before .before .before .before .before .before .before .before .index2 .ensures) (c .before .before .before .before .before .before .set-pin .ensures) (c .next-net2 .ensures))
+
+mul-blocks : tie.Need-mul-blocks Inv-loop μ-loop
+mul-blocks c = omega arith
+
+slice-write-blocks : tie.Need-slice-write-blocks Inv-loop μ-loop
+slice-write-blocks c = let S = c .before .before .before .before .before .before .before .before .before .before .before .before .before .before in omega (arith, S .pre .u-in, S .pre .follows .world .lists .blocks-fit)
+
+same-length : tie.Need-same-length Inv-loop μ-loop
+same-length c = c .before .loop .inv .2 .kept .of-tally .counts-len
+
+same-length-2 : tie.Need-same-length-2 Inv-loop μ-loop
+same-length-2 c = c .before .loop .inv .2 .kept .of-tally .masks-len
+
+same-length-3 : tie.Need-same-length-3 Inv-loop μ-loop
+same-length-3 c = c .before .loop .inv .2 .kept .of-gains .gains-len
+
+same-length-4 : tie.Need-same-length-4 Inv-loop μ-loop
+same-length-4 c = search needs
+
+returns : tie.Need-returns Inv-loop μ-loop
+returns c = move-does (c .before .before .before .before .before .before .before .before .before .before .before .before .before .before .pre) (moving-done (move-needs (c .before .before .before .before .before .before .before .before .before .before .before .before .before .before .pre)) (omega arith) (c .before .loop .inv .2))
+
+pub move-vertex-spec : {M : Type 1} → statement M
+move-vertex-spec =
+    tie.close
+    (tie.spec
+    Inv-loop
+    μ-loop
+    mul-index
+    slice-read-index
+    index-requires
+    index-requires-2
+    next-net-requires
+    loop-holds
+    mul-index-2
+    shared-slice-read-index
+    index-requires-3
+    mul-index-3
+    shared-slice-read-index-2
+    index-requires-4
+    set-pin-requires
+    add-next-net
+    next-net-requires-2
+    loop-less
+    loop-again
+    mul-blocks
+    slice-write-blocks
+    same-length
+    same-length-2
+    same-length-3
+    same-length-4
+    returns)

@@ -1,0 +1,112 @@
+use native.Mathlib.Omega.{arith}
+use mathlib.Core.Path.{_≡_, refl, sym, _∙_, ap}
+use denote.Ref.{now}
+use borrow.Author.Needs.{needs}
+use Rattle.levels.specs.ContractNet.{contract-sets, contract-sets-2, contract-both, contract-new, linked-of, linked-le, distinct, in-v, both}
+use Rattle.connectivity.specs.Listed.{has-occ}
+use Rattle.levels.proofs.nets.contract_net.Statement.{statement}
+use Rattle.levels.proofs.nets.contract_net.Tie as tie
+use Rattle.levels.proofs.nets.contract_net.Reads as reads
+use Rattle.levels.proofs.nets.contract_net.Lts as lts
+use Rattle.levels.proofs.numbers.index.Reads as index-reads
+use Rattle.levels.proofs.numbers.number.Reads as number-reads
+use Rattle.connectivity.proofs.set_pin.Reads as set-pin-reads
+use Rattle.incidence.proofs.is_pin.Reads as is-pin-reads
+use Rattle.pins.proofs.relink.Reads as relink-reads
+
+mul-index : tie.Need-mul-index
+mul-index c = search needs
+
+shared-slice-read-index : tie.Need-shared-slice-read-index
+shared-slice-read-index c = search needs
+
+index-requires : tie.Need-index-requires
+index-requires c κs = search needs
+
+set-pin-requires : tie.Need-set-pin-requires
+set-pin-requires c κs = contract-sets (c .before .before .before .before .before .before .before .before .before .before .before .before .pre) (c .before .before .before .before .index .ensures)
+
+is-pin-requires : tie.Need-is-pin-requires
+is-pin-requires c κs = search needs
+
+number-requires : tie.Need-number-requires
+number-requires c κs = search needs
+
+number-requires-2 : tie.Need-number-requires-2
+number-requires-2 c κs = search needs
+
+relink-requires : tie.Need-relink-requires
+relink-requires c κs =
+    let S = c .before .before .before .before .before .before .before .before .before .before .before .before .before .before .before .before .before .before .before .before .before .before in (
+      S .pre .net .pins-fit,
+      (
+        λ q. S .pre .two (omega (arith, c .before .number .ensures, c .number2 .ensures)),
+        (distinct (S .pre), (in-v (S .pre) (c .number2 .ensures), rw (c .before .number .ensures) (c .before .before .before .is-pin .ensures ∙ both (S .pre) ∙ has-occ _ _ _ (S .args .u)))),
+      ),
+    )
+
+same-length : tie.Need-same-length
+same-length c = search needs
+
+same-length-2 : tie.Need-same-length-2
+same-length-2 c = search needs
+
+same-length-3 : tie.Need-same-length-3
+same-length-3 c = search needs
+
+same-length-4 : tie.Need-same-length-4
+same-length-4 c = search needs
+
+returns : tie.Need-returns
+returns c =
+    let S = c .before .before .before .before .before .before .before .before .before .before .before .before .before .before .before .before .before .before .before .before .before .before .before .before .before .before in
+    let link = linked-of (S .args .u) (S .args .v) (c .before .before .before .before .before .number .ensures) (c .before .before .before .before .number2 .ensures) (c .before .before .before .relink .ensures) in
+    contract-both (S .pre) (c .before .before .before .before .before .before .before .before .before .before .before .before .before .before .before .before .before .before .index .ensures) (c .before .before .before .before .before .before .before .before .before .before .before .before .before .set-pin .ensures) link (omega arith) (linked-le (c .before .before .before .relink .ensures)) (sym (c .before .before .before .before .before .before .before .is-pin .ensures ∙ both (S .pre)) ∙ c .if1 .taken)
+
+set-pin-requires-2 : tie.Need-set-pin-requires-2
+set-pin-requires-2 c κs =
+    let S = c .before .before .before .before .before .before .before .before .before .before .before .before .before .before .before .before .before .before .before .before .before .before .before .before .before .before .before .before .before .before in
+    let link = linked-of (S .args .u) (S .args .v) (c .before .before .before .before .before .before .before .before .before .number .ensures) (c .before .before .before .before .before .before .before .before .number2 .ensures) (c .before .before .before .before .before .before .before .relink .ensures) in
+    contract-sets-2 (S .pre) (c .before .before .before .before .before .before .before .before .before .before .before .before .before .before .before .before .before .before .before .before .before .before .index .ensures) (c .before .before .before .before .before .before .before .before .before .before .before .before .before .before .before .before .before .set-pin .ensures) link (omega arith) (linked-le (c .before .before .before .before .before .before .before .relink .ensures)) (sym (c .before .before .before .before .before .before .before .before .before .before .before .is-pin .ensures ∙ both (S .pre)) ∙ c .before .before .before .before .if1 .left)
+
+same-length-5 : tie.Need-same-length-5
+same-length-5 c = search needs
+
+same-length-6 : tie.Need-same-length-6
+same-length-6 c = search needs
+
+same-length-7 : tie.Need-same-length-7
+same-length-7 c = search needs
+
+same-length-8 : tie.Need-same-length-8
+same-length-8 c = search needs
+
+returns-2 : tie.Need-returns-2
+returns-2 c =
+    let S = c .before .before .before .before .before .before .before .before .before .before .before .before .before .before .before .before .before .before .before .before .before .before .before .before .before .before .before .before .before .before .before .before .before .before .before .before in
+    let link = linked-of (S .args .u) (S .args .v) (c .before .before .before .before .before .before .before .before .before .before .before .before .before .before .before .number .ensures) (c .before .before .before .before .before .before .before .before .before .before .before .before .before .before .number2 .ensures) (c .before .before .before .before .before .before .before .before .before .before .before .before .before .relink .ensures) in
+    contract-new (S .pre) (c .before .before .before .before .before .before .before .before .before .before .before .before .before .before .before .before .before .before .before .before .before .before .before .before .before .before .before .before .index .ensures) (c .before .before .before .before .before .before .before .before .before .before .before .before .before .before .before .before .before .before .before .before .before .before .before .set-pin .ensures) link (omega arith) (linked-le (c .before .before .before .before .before .before .before .before .before .before .before .before .before .relink .ensures)) (sym (c .before .before .before .before .before .before .before .before .before .before .before .before .before .before .before .before .before .is-pin .ensures ∙ both (S .pre)) ∙ c .before .before .before .before .before .before .before .before .before .before .if1 .left) (c .before .before .before .before .before .set-pin2 .ensures)
+
+pub contract-net-spec : {M : Type 1} → statement M
+contract-net-spec =
+    tie.close
+    (tie.spec
+    mul-index
+    shared-slice-read-index
+    index-requires
+    set-pin-requires
+    is-pin-requires
+    number-requires
+    number-requires-2
+    relink-requires
+    same-length
+    same-length-2
+    same-length-3
+    same-length-4
+    returns
+    set-pin-requires-2
+    same-length-5
+    same-length-6
+    same-length-7
+    same-length-8
+    returns-2)

@@ -1,0 +1,241 @@
+// The operations on the tables: a vertex moved, one contracted into another, a contraction undone.
+mod nets;
+mod numbers;
+
+ghost use Prim.Native.Nat.{ℕ, _+_, _<_, _≤_};
+ghost use mathlib.Core.Path.{_≡_};
+ghost use Rattle.levels.specs.Running.{running};
+ghost use Rattle.levels.specs.Contract.{ContractsAll, ContractedAll};
+ghost use Rattle.levels.specs.Uncontract.{UncontractsAll, UncontractedAll};
+ghost use Rattle.levels.specs.Operations.{MoveNeeds, MoveDoes, ContractNeeds, ContractDoes, UncontractNeeds, UncontractDoes};
+use connectivity::set_pin;
+use incidence::copy_or;
+use incidence::next_net;
+use nets::contract_net;
+use nets::split_net;
+use numbers::index;
+use numbers::narrow;
+
+// Moves the vertex `u`, which is on the board, to the block `t`.
+pub fn move_vertex(
+    counts: &mut [u16],
+    visited: &mut [u16],
+    gains: &mut [i32],
+    blocks: &mut [u16],
+    weights: &[u16],
+    pins: &[u16],
+    firsts: &[u16],
+    sizes: &[u16],
+    bits: &[u64],
+    n: usize,
+    m: usize,
+    k: usize,
+    u: usize,
+    t: u16,
+)
+    requires { ⌜ MoveNeeds (running (now counts) (now visited) (now gains) (now pins) (now sizes) (now bits) (now blocks) (now weights) (now firsts)) n m k u t ⌝ }
+    ensures { λ _. ⌜ MoveDoes (running (now (counts .entry)) (now (visited .entry)) (now (gains .entry)) (now (pins .entry)) (now (sizes .entry)) (now (bits .entry)) (now (blocks .entry)) (now (weights .entry)) (now (firsts .entry))) (running (now (counts .exit)) (now (visited .exit)) (now (gains .exit)) (now (pins .entry)) (now (sizes .entry)) (now (bits .entry)) (now (blocks .exit)) (now (weights .entry)) (now (firsts .entry))) n m k u t ⌝ }
+{
+    let s = index(blocks[u]);
+    let b = index(t);
+    let mut e = next_net(bits, u, 0, m);
+    while e < m {
+        let first = index(firsts[e]);
+        let p = index(sizes[e]);
+        set_pin(
+            counts,
+            visited,
+            gains,
+            weights,
+            pins,
+            blocks,
+            n,
+            m,
+            k,
+            first,
+            p,
+            e,
+            u,
+            s,
+            b,
+        );
+        e = next_net(bits, u, e + 1, m);
+    }
+    blocks[u] = t;
+}
+
+// Contracts `v` into `u`, of the same block, in every net that has `v`.
+fn contract_nets(
+    counts: &mut [u16],
+    visited: &mut [u16],
+    gains: &mut [i32],
+    pins: &mut [u16],
+    sizes: &mut [u16],
+    bits: &mut [u64],
+    weights: &[u16],
+    blocks: &[u16],
+    firsts: &[u16],
+    n: usize,
+    m: usize,
+    k: usize,
+    u: usize,
+    v: usize,
+)
+    requires { ⌜ ContractsAll (now weights) (now counts) (now visited) (now pins) (now blocks) (now firsts) (now sizes) (now bits) (now gains) n m k u v ⌝ }
+    ensures { λ _. ⌜ ContractedAll (now (weights .entry)) (now (blocks .entry)) (now (firsts .entry)) n m k u v (now (pins .entry)) (now (pins .exit)) (now (sizes .entry)) (now (sizes .exit)) (now (bits .entry)) (now (bits .exit)) (now (counts .entry)) (now (counts .exit)) (now (visited .entry)) (now (visited .exit)) (now (gains .entry)) (now (gains .exit)) ⌝ }
+{
+    let mut e = next_net(bits, v, 0, m);
+    while e < m {
+        let first = index(firsts[e]);
+        let p = index(sizes[e]);
+        let r = contract_net(
+            counts,
+            visited,
+            gains,
+            pins,
+            bits,
+            weights,
+            blocks,
+            n,
+            m,
+            k,
+            first,
+            p,
+            e,
+            u,
+            v,
+        );
+        sizes[e] = narrow(r);
+        e = next_net(bits, v, e + 1, m);
+    }
+    copy_or(bits, u, v);
+}
+
+// Contracts `v` into `u`, of the same block: `v` leaves the board.
+pub fn contract(
+    counts: &mut [u16],
+    visited: &mut [u16],
+    gains: &mut [i32],
+    pins: &mut [u16],
+    sizes: &mut [u16],
+    bits: &mut [u64],
+    blocks: &mut [u16],
+    weights: &[u16],
+    firsts: &[u16],
+    n: usize,
+    m: usize,
+    k: usize,
+    u: usize,
+    v: usize,
+)
+    requires { ⌜ ContractNeeds (running (now counts) (now visited) (now gains) (now pins) (now sizes) (now bits) (now blocks) (now weights) (now firsts)) n m k u v ⌝ }
+    ensures { λ _. ⌜ ContractDoes (running (now (counts .entry)) (now (visited .entry)) (now (gains .entry)) (now (pins .entry)) (now (sizes .entry)) (now (bits .entry)) (now (blocks .entry)) (now (weights .entry)) (now (firsts .entry))) (running (now (counts .exit)) (now (visited .exit)) (now (gains .exit)) (now (pins .exit)) (now (sizes .exit)) (now (bits .exit)) (now (blocks .exit)) (now (weights .entry)) (now (firsts .entry))) n m k u v ⌝ }
+{
+    contract_nets(
+        counts,
+        visited,
+        gains,
+        pins,
+        sizes,
+        bits,
+        weights,
+        blocks,
+        firsts,
+        n,
+        m,
+        k,
+        u,
+        v,
+    );
+    blocks[v] = 0;
+}
+
+// Splits `v` from `u`, of the same block, in every net that had `v`.
+fn uncontract_nets(
+    counts: &mut [u16],
+    visited: &mut [u16],
+    gains: &mut [i32],
+    pins: &mut [u16],
+    sizes: &mut [u16],
+    bits: &mut [u64],
+    weights: &[u16],
+    blocks: &[u16],
+    firsts: &[u16],
+    loaded: &[u16],
+    n: usize,
+    m: usize,
+    k: usize,
+    u: usize,
+    v: usize,
+)
+    requires { ⌜ UncontractsAll (now weights) (now counts) (now visited) (now pins) (now blocks) (now firsts) (now sizes) (now loaded) (now bits) (now gains) n m k u v ⌝ }
+    ensures { λ _. ⌜ UncontractedAll (now (weights .entry)) (now (blocks .entry)) (now (firsts .entry)) (now (loaded .entry)) n m k u v (now (pins .entry)) (now (pins .exit)) (now (sizes .entry)) (now (sizes .exit)) (now (bits .entry)) (now (bits .exit)) (now (counts .entry)) (now (counts .exit)) (now (visited .entry)) (now (visited .exit)) (now (gains .entry)) (now (gains .exit)) ⌝ }
+{
+    let mut e = next_net(bits, v, 0, m);
+    while e < m {
+        let first = index(firsts[e]);
+        let p = index(sizes[e]);
+        let full = index(loaded[e]);
+        let r = split_net(
+            counts,
+            visited,
+            gains,
+            pins,
+            bits,
+            weights,
+            blocks,
+            n,
+            m,
+            k,
+            first,
+            p,
+            full,
+            e,
+            u,
+            v,
+        );
+        sizes[e] = narrow(r);
+        e = next_net(bits, v, e + 1, m);
+    }
+}
+
+// Undoes the latest contraction, of `v` into `u`: `v` returns in the present block of `u`.
+pub fn uncontract(
+    counts: &mut [u16],
+    visited: &mut [u16],
+    gains: &mut [i32],
+    pins: &mut [u16],
+    sizes: &mut [u16],
+    bits: &mut [u64],
+    blocks: &mut [u16],
+    weights: &[u16],
+    firsts: &[u16],
+    loaded: &[u16],
+    n: usize,
+    m: usize,
+    k: usize,
+    u: usize,
+    v: usize,
+)
+    requires { ⌜ UncontractNeeds (now loaded) (running (now counts) (now visited) (now gains) (now pins) (now sizes) (now bits) (now blocks) (now weights) (now firsts)) n m k u v ⌝ }
+    ensures { λ _. ⌜ UncontractDoes (now (loaded .entry)) (running (now (counts .entry)) (now (visited .entry)) (now (gains .entry)) (now (pins .entry)) (now (sizes .entry)) (now (bits .entry)) (now (blocks .entry)) (now (weights .entry)) (now (firsts .entry))) (running (now (counts .exit)) (now (visited .exit)) (now (gains .exit)) (now (pins .exit)) (now (sizes .exit)) (now (bits .exit)) (now (blocks .exit)) (now (weights .entry)) (now (firsts .entry))) n m k u v ⌝ }
+{
+    blocks[v] = blocks[u];
+    uncontract_nets(
+        counts,
+        visited,
+        gains,
+        pins,
+        sizes,
+        bits,
+        weights,
+        blocks,
+        firsts,
+        loaded,
+        n,
+        m,
+        k,
+        u,
+        v,
+    );
+}

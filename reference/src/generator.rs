@@ -1,0 +1,720 @@
+//! Seeded sales of many kinds, call lists and damaged files; one seed gives one file.
+//! Rests on `machine` only to steer random calls towards lots that are on the board.
+
+use crate::catalogue::{Buyer, Call, Catalogue, Lot, Sale};
+use crate::machine::Machine;
+use crate::measure;
+
+/// A small generator of pseudo-random numbers (splitmix64).
+pub struct Random {
+    state: u64,
+}
+
+impl Random {
+    pub fn new(seed: u64) -> Self {
+        Random { state: seed }
+    }
+
+    /// The next 64 bits.
+    pub fn bits(&mut self) -> u64 {
+        self.state = self.state.wrapping_add(0x9E37_79B9_7F4A_7C15);
+        let mut mixed = self.state;
+        mixed = (mixed ^ (mixed >> 30)).wrapping_mul(0xBF58_476D_1CE4_E5B9);
+        mixed = (mixed ^ (mixed >> 27)).wrapping_mul(0x94D0_49BB_1331_11EB);
+        mixed ^ (mixed >> 31)
+    }
+
+    /// A number from `lowest` to `highest`, both included.
+    pub fn between(&mut self, lowest: u64, highest: u64) -> u64 {
+        lowest + self.bits() % (highest - lowest + 1)
+    }
+
+    /// True in `chances` of 100 cases.
+    pub fn in_hundred(&mut self, chances: u64) -> bool {
+        self.bits() % 100 < chances
+    }
+
+    /// One item of a list that is not empty.
+    pub fn pick<'a, T>(&mut self, items: &'a [T]) -> &'a T {
+        &items[self.between(0, items.len() as u64 - 1) as usize]
+    }
+
+    /// `count` different lots of 1 to `lots`, in random order.
+    pub fn some_lots(&mut self, lots: usize, count: usize) -> Vec<usize> {
+        let mut numbers: Vec<usize> = (1..=lots).collect();
+        for place in 0..count {
+            let other = self.between(place as u64, lots as u64 - 1) as usize;
+            numbers.swap(place, other);
+        }
+        numbers.truncate(count);
+        numbers
+    }
+}
+
+/// The kinds of sale the generator can make.
+#[derive(Clone, Copy, Debug, PartialEq, Eq)]
+pub enum Kind {
+    /// Random sizes, mark lists and calls of every sort.
+    Mixed,
+    /// One lot alone.
+    OneLot,
+    /// No buyers at all.
+    NoBuyers,
+    /// Every buyer marks one lot.
+    SingleMarks,
+    /// Every buyer marks nearly all lots.
+    Broad,
+    /// Every buyer's list lies within the one before.
+    Nested,
+    /// All buyers have the same lots, in different orders.
+    Identical,
+    /// Neighbouring lists share some lots.
+    Overlapping,
+    /// Slack 0 and little space or none.
+    Tight,
+    /// Two sessions.
+    TwoSessions,
+    /// Sixteen sessions.
+    SixteenSessions,
+    /// Joins that make a chain, then splits.
+    Chain,
+    /// Joins into one lot, then splits.
+    Star,
+    /// Joins of equal trees, then splits.
+    Tree,
+    /// Mostly walks, moves and reversals.
+    Walks,
+    /// Mostly calls of A and P.
+    Rounds,
+    /// Many calls, up to 512.
+    ManyCalls,
+    /// Calls that are mostly refused.
+    BadCalls,
+    /// Hundreds of lots and some calls of A, P and W.
+    Large,
+}
+
+/// All kinds with the names that the program takes.
+pub const KINDS: [(&str, Kind); 19] = [
+    ("mixed", Kind::Mixed),
+    ("one-lot", Kind::OneLot),
+    ("no-buyers", Kind::NoBuyers),
+    ("single-marks", Kind::SingleMarks),
+    ("broad", Kind::Broad),
+    ("nested", Kind::Nested),
+    ("identical", Kind::Identical),
+    ("overlapping", Kind::Overlapping),
+    ("tight", Kind::Tight),
+    ("two-sessions", Kind::TwoSessions),
+    ("sixteen-sessions", Kind::SixteenSessions),
+    ("chain", Kind::Chain),
+    ("star", Kind::Star),
+    ("tree", Kind::Tree),
+    ("walks", Kind::Walks),
+    ("rounds", Kind::Rounds),
+    ("many-calls", Kind::ManyCalls),
+    ("bad-calls", Kind::BadCalls),
+    ("large", Kind::Large),
+];
+
+/// An accepted sale of a kind that the seed settles; mostly a small one.
+pub fn sale(seed: u64) -> Vec<u8> {
+    let mut random = Random::new(seed ^ 0x53_41_4C_45);
+    let kind = if random.in_hundred(40) {
+        Kind::Mixed
+    } else {
+        // The last kind is large, so only one draw in a hundred may give it.
+        let last = if random.in_hundred(1) { 1 } else { 2 };
+        KINDS[random.between(0, KINDS.len() as u64 - last) as usize].1
+    };
+    sale_of_kind(seed, kind)
+}
+
+/// An accepted sale of the given kind.
+pub fn sale_of_kind(seed: u64, kind: Kind) -> Vec<u8> {
+    let mut random = Random::new(seed);
+    let catalogue = catalogue(&mut random, kind);
+    let calls = calls_of_kind(&mut random, &catalogue, kind);
+    write_sale(&Sale { catalogue, calls })
+}
+
+/// A list of `count` random calls for a catalogue, most of them accepted.
+pub fn calls(seed: u64, catalogue: &Catalogue, count: usize) -> Vec<Call> {
+    let mut random = Random::new(seed);
+    steered_calls(
+        &mut random,
+        catalogue,
+        count,
+        &[18, 12, 22, 12, 14, 6, 6, 10],
+    )
+}
+
+/// The bytes of a sale file.
+pub fn write_sale(sale: &Sale) -> Vec<u8> {
+    let catalogue = &sale.catalogue;
+    let mut text = format!(
+        "SALE,{},{},{},{}\n",
+        catalogue.lots.len(),
+        catalogue.buyers.len(),
+        catalogue.sessions,
+        catalogue.slack
+    );
+    for lot in &catalogue.lots {
+        text.push_str(&format!("LOT,{},{}\n", lot.bales, lot.session));
+    }
+    for buyer in &catalogue.buyers {
+        text.push_str(&format!("BUY,{}", buyer.weight));
+        for mark in &buyer.marks {
+            text.push_str(&format!(",{mark}"));
+        }
+        text.push('\n');
+    }
+    for call in &sale.calls {
+        text.push_str(&match call {
+            Call::J { u, v } => format!("J,{u},{v}\n"),
+            Call::S => "S\n".to_string(),
+            Call::M { u, t } => format!("M,{u},{t}\n"),
+            Call::B => "B\n".to_string(),
+            Call::W { u, v } => format!("W,{u},{v}\n"),
+            Call::P => "P\n".to_string(),
+            Call::A => "A\n".to_string(),
+        });
+    }
+    text.into_bytes()
+}
+
+fn catalogue(random: &mut Random, kind: Kind) -> Catalogue {
+    let sessions = match kind {
+        Kind::TwoSessions => 2,
+        Kind::SixteenSessions => 16,
+        Kind::Walks => random.between(2, 3) as usize,
+        _ if random.in_hundred(60) => random.between(2, 4) as usize,
+        _ => random.between(2, 16) as usize,
+    };
+    let lot_count = match kind {
+        Kind::OneLot => 1,
+        Kind::Large => random.between(150, 400) as usize,
+        Kind::SixteenSessions | Kind::Rounds => random.between(8, 70) as usize,
+        Kind::Walks => random.between(5, 50) as usize,
+        _ if random.in_hundred(75) => random.between(1, 14) as usize,
+        _ => random.between(10, 60) as usize,
+    };
+    let buyers = mark_lists(random, kind, lot_count);
+
+    let widest = *random.pick(&[1, 1, 3, 10, 50, 65_535]);
+    let mut lots: Vec<Lot> = (0..lot_count)
+        .map(|_| Lot {
+            bales: random.between(1, widest),
+            session: random.between(1, sessions as u64) as usize,
+        })
+        .collect();
+    if kind == Kind::Tight {
+        lots.iter_mut().for_each(|lot| lot.bales = widest);
+    }
+    let mut made = Catalogue {
+        sessions,
+        slack: match kind {
+            Kind::Tight => 0,
+            Kind::Walks | Kind::Rounds => random.between(100, 1_000),
+            _ => *random.pick(&[0, 20, 100, 200, 500, 999, 1_000]),
+        },
+        lots,
+        buyers,
+    };
+    settle_draft(&mut made);
+    made
+}
+
+/// Changes sessions, and bales if need be, until no session is above the cap.
+fn settle_draft(made: &mut Catalogue) {
+    if !measure::overfull_draft(made) {
+        return;
+    }
+    // Each lot, heaviest first, into the session with fewest bales.
+    let mut order: Vec<usize> = (0..made.lots.len()).collect();
+    order.sort_by_key(|&place| std::cmp::Reverse(made.lots[place].bales));
+    let mut session_bales = vec![0; made.sessions];
+    for place in order {
+        let lightest = (0..made.sessions)
+            .min_by_key(|&session| session_bales[session])
+            .expect("there are at least two sessions");
+        session_bales[lightest] += made.lots[place].bales;
+        made.lots[place].session = lightest + 1;
+    }
+    while measure::overfull_draft(made) && made.slack < 1_000 {
+        made.slack = (made.slack + 50).min(1_000);
+    }
+    if measure::overfull_draft(made) {
+        // Lots of one bale in turn never exceed the cap, whatever the slack.
+        let sessions = made.sessions;
+        for (place, lot) in made.lots.iter_mut().enumerate() {
+            *lot = Lot {
+                bales: 1,
+                session: place % sessions + 1,
+            };
+        }
+    }
+}
+
+fn mark_lists(random: &mut Random, kind: Kind, lots: usize) -> Vec<Buyer> {
+    let buyer_count = match kind {
+        Kind::NoBuyers => 0,
+        Kind::Large => random.between(100, 400) as usize,
+        Kind::Walks | Kind::Rounds | Kind::SixteenSessions => random.between(5, 60) as usize,
+        _ if random.in_hundred(80) => random.between(0, 15) as usize,
+        _ => random.between(10, 60) as usize,
+    };
+    let heaviest = *random.pick(&[1, 3, 10, 1_000]);
+    let whole = random.some_lots(lots, lots);
+    let mut buyers = Vec::new();
+    for place in 0..buyer_count {
+        let weight = random.between(1, heaviest);
+        let marks = match kind {
+            Kind::SingleMarks => random.some_lots(lots, 1),
+            Kind::Broad => {
+                let fewest = lots.saturating_sub(2).max(1) as u64;
+                let count = random.between(fewest, lots as u64) as usize;
+                random.some_lots(lots, count)
+            }
+            Kind::Nested => whole[..lots.saturating_sub(place).max(1)].to_vec(),
+            Kind::Identical => {
+                let first = lots.div_ceil(2);
+                let order = random.some_lots(first, first);
+                order.into_iter().map(|index| whole[index - 1]).collect()
+            }
+            Kind::Overlapping => {
+                let length = lots.min(4);
+                (0..length)
+                    .map(|step| whole[(place * 2 + step) % lots])
+                    .collect()
+            }
+            _ => {
+                let most = if random.in_hundred(85) { 4 } else { 60 };
+                let count = random.between(1, most.min(lots) as u64) as usize;
+                random.some_lots(lots, count)
+            }
+        };
+        buyers.push(Buyer { weight, marks });
+    }
+    buyers
+}
+
+fn calls_of_kind(random: &mut Random, catalogue: &Catalogue, kind: Kind) -> Vec<Call> {
+    let lots = catalogue.lots.len() as u64;
+    let together =
+        |u: u64, v: u64| catalogue.lot(u as usize).session == catalogue.lot(v as usize).session;
+    let shaped = |pairs: Vec<(u64, u64)>, random: &mut Random| {
+        let mut calls: Vec<Call> = pairs
+            .into_iter()
+            .take(100)
+            .map(|(u, v)| Call::J { u, v })
+            .collect();
+        let joins = calls.len();
+        calls.push(Call::P);
+        calls.extend(steered_calls(
+            random,
+            catalogue,
+            6,
+            &[0, 0, 60, 20, 20, 0, 0, 0],
+        ));
+        for _ in 0..=joins {
+            calls.push(Call::S);
+            if random.in_hundred(30) {
+                let lot = random.between(1, lots);
+                calls.push(Call::W { u: lot, v: lot });
+            }
+        }
+        calls.push(Call::A);
+        calls
+    };
+    match kind {
+        Kind::Chain => {
+            let mut lots_of_one: Vec<u64> = (1..=lots).filter(|&lot| together(1, lot)).collect();
+            if random.in_hundred(50) {
+                lots_of_one.reverse();
+            }
+            let pairs = lots_of_one.windows(2).map(|pair| (pair[1], pair[0]));
+            shaped(pairs.collect(), random)
+        }
+        Kind::Star => {
+            let hub = random.between(1, lots);
+            let pairs = (1..=lots).filter(|&lot| lot != hub && together(hub, lot));
+            shaped(pairs.map(|lot| (hub, lot)).collect(), random)
+        }
+        Kind::Tree => {
+            let mut pairs = Vec::new();
+            for session in catalogue.session_numbers() {
+                let mut level: Vec<u64> = (1..=lots)
+                    .filter(|&lot| catalogue.lot(lot as usize).session == session)
+                    .collect();
+                while level.len() > 1 {
+                    pairs.extend(level.chunks_exact(2).map(|pair| (pair[0], pair[1])));
+                    level = level.chunks(2).map(|pair| pair[0]).collect();
+                }
+            }
+            shaped(pairs, random)
+        }
+        Kind::Walks => steered_calls(random, catalogue, 14, &[14, 10, 26, 16, 28, 2, 0, 4]),
+        Kind::Rounds => {
+            let mut calls = steered_calls(random, catalogue, 4, &[0, 0, 50, 10, 20, 20, 0, 0]);
+            calls.push(Call::A);
+            calls.extend(steered_calls(
+                random,
+                catalogue,
+                5,
+                &[20, 20, 20, 5, 5, 5, 25, 0],
+            ));
+            calls
+        }
+        Kind::ManyCalls => {
+            let count = if random.in_hundred(20) {
+                512
+            } else {
+                random.between(60, 300) as usize
+            };
+            steered_calls(random, catalogue, count, &[24, 20, 26, 14, 7, 2, 1, 6])
+        }
+        Kind::BadCalls => {
+            let count = random.between(5, 25) as usize;
+            steered_calls(random, catalogue, count, &[5, 5, 5, 5, 5, 3, 3, 69])
+        }
+        Kind::Large => {
+            let mut calls = steered_calls(random, catalogue, 8, &[30, 5, 30, 10, 20, 5, 0, 0]);
+            calls.extend([Call::S; 8]);
+            calls.push(Call::A);
+            calls
+        }
+        _ => {
+            let count = random.between(0, 22) as usize;
+            steered_calls(random, catalogue, count, &[18, 12, 22, 12, 14, 6, 6, 10])
+        }
+    }
+}
+
+/// Random calls with the given chances of J, S, M, B, W, P, A and of a call with any numbers
+/// at all. A machine runs along, so that most calls find what they need.
+fn steered_calls(
+    random: &mut Random,
+    catalogue: &Catalogue,
+    count: usize,
+    chances: &[u64; 8],
+) -> Vec<Call> {
+    let mut machine = Machine::fresh(catalogue);
+    let mut calls = Vec::new();
+    let all: u64 = chances.iter().sum();
+    for _ in 0..count {
+        let mut drawn = random.between(0, all - 1);
+        let mut choice = 0;
+        while drawn >= chances[choice] {
+            drawn -= chances[choice];
+            choice += 1;
+        }
+        let nothing_to_undo = match choice {
+            1 => machine.joins.is_empty(),
+            3 => machine.record.is_empty(),
+            _ => false,
+        };
+        if nothing_to_undo && random.in_hundred(90) {
+            // Something to undo later: a join in place of S, a move in place of B.
+            choice -= 1;
+        }
+        let call = match choice {
+            0 => steered_join(random, &machine),
+            1 => Call::S,
+            2 => steered_move(random, &machine),
+            3 => Call::B,
+            4 => {
+                let board = machine.standing().board();
+                let u = *random.pick(&board) as u64;
+                let v = *random.pick(&board) as u64;
+                let v = if random.in_hundred(30) { u } else { v };
+                Call::W { u, v }
+            }
+            5 => Call::P,
+            6 => Call::A,
+            _ => any_call(random, catalogue),
+        };
+        // An answer or a refusal serves alike: only the state after the call is used.
+        let _ = machine.call(&call);
+        calls.push(call);
+    }
+    calls
+}
+
+/// A join of two board lots, mostly of one session.
+fn steered_join(random: &mut Random, machine: &Machine) -> Call {
+    let board = machine.standing().board();
+    let u = *random.pick(&board);
+    let mates: Vec<usize> = board
+        .iter()
+        .copied()
+        .filter(|&v| v != u && machine.sessions[v] == machine.sessions[u])
+        .collect();
+    let v = if mates.is_empty() || random.in_hundred(5) {
+        *random.pick(&board)
+    } else {
+        *random.pick(&mates)
+    };
+    Call::J {
+        u: u as u64,
+        v: v as u64,
+    }
+}
+
+/// A move of a board lot, mostly to a session with space.
+fn steered_move(random: &mut Random, machine: &Machine) -> Call {
+    let standing = machine.standing();
+    let view = measure::View::of(&standing, &machine.sessions);
+    let u = *random.pick(&standing.board());
+    let open: Vec<usize> = machine
+        .catalogue
+        .session_numbers()
+        .filter(|&t| t != machine.sessions[u] && view.space(u, t))
+        .collect();
+    let t = if open.is_empty() || random.in_hundred(5) {
+        random.between(1, machine.catalogue.sessions as u64)
+    } else {
+        *random.pick(&open) as u64
+    };
+    Call::M { u: u as u64, t }
+}
+
+/// A call whose numbers may be off the board, too high, 0 or of nine digits.
+fn any_call(random: &mut Random, catalogue: &Catalogue) -> Call {
+    let lots = catalogue.lots.len() as u64;
+    let sessions = catalogue.sessions as u64;
+    let number = |random: &mut Random, highest: u64| match random.between(0, 9) {
+        0 => 0,
+        1 => highest + 1,
+        2 => *random.pick(&[999_999_999, 65_536, 1_025, 17, 4_294_967]),
+        _ => random.between(1, highest),
+    };
+    match random.between(0, 11) {
+        0..=3 => Call::J {
+            u: number(random, lots),
+            v: number(random, lots),
+        },
+        4..=6 => Call::M {
+            u: number(random, lots),
+            t: number(random, sessions),
+        },
+        7..=8 => Call::W {
+            u: number(random, lots),
+            v: number(random, lots),
+        },
+        9 => Call::S,
+        10 => Call::B,
+        _ => Call::A,
+    }
+}
+
+/// A sale file with one to three faults put in, or random bytes. It may still be accepted.
+pub fn damaged(seed: u64) -> Vec<u8> {
+    let mut random = Random::new(seed ^ 0x44_41_4D_41_47_45);
+    let kind = *random.pick(&[
+        Kind::Mixed,
+        Kind::OneLot,
+        Kind::Nested,
+        Kind::Overlapping,
+        Kind::BadCalls,
+        Kind::NoBuyers,
+    ]);
+    let mut file = sale_of_kind(random.bits(), kind);
+    for _ in 0..random.between(1, 3) {
+        file = damage(&mut random, file);
+    }
+    file
+}
+
+fn damage(random: &mut Random, mut file: Vec<u8>) -> Vec<u8> {
+    if file.is_empty() {
+        return file;
+    }
+    let length = file.len() as u64;
+    let place = random.between(0, length - 1) as usize;
+    match random.between(0, 29) {
+        0 => {
+            file[place] = random.bits() as u8;
+            file
+        }
+        1 => {
+            file[place] = *random.pick(b"0123456789,,\n\r JSMBWPALOTUYE");
+            file
+        }
+        2 => {
+            file.remove(place);
+            file
+        }
+        3 => {
+            let byte = file[place];
+            file.insert(place, byte);
+            file
+        }
+        4 => {
+            file.truncate(place);
+            file
+        }
+        5 => file[place..].to_vec(),
+        6 => {
+            file.pop();
+            file
+        }
+        7 => {
+            file.push(b'\n');
+            file
+        }
+        8 => {
+            file.insert(place, b'\n');
+            file
+        }
+        9 => file
+            .into_iter()
+            .flat_map(|byte| match byte {
+                b'\n' => vec![b'\r', b'\n'],
+                other => vec![other],
+            })
+            .collect(),
+        10 => {
+            let random_bytes = random.between(0, 200);
+            (0..random_bytes).map(|_| random.bits() as u8).collect()
+        }
+        11 => {
+            let mut twice = file.clone();
+            twice.extend(file);
+            twice
+        }
+        12 => change_lines(random, &file, |random, lines| {
+            let place = random.between(0, lines.len() as u64 - 1) as usize;
+            lines.remove(place);
+        }),
+        13 => change_lines(random, &file, |random, lines| {
+            let first = random.between(0, lines.len() as u64 - 1) as usize;
+            let second = random.between(0, lines.len() as u64 - 1) as usize;
+            lines.swap(first, second);
+        }),
+        14 => change_lines(random, &file, |random, lines| {
+            let place = random.between(0, lines.len() as u64 - 1) as usize;
+            let line = lines[place].clone();
+            lines.insert(place, line);
+        }),
+        15..=20 => change_lines(random, &file, |random, lines| {
+            let place = random.between(0, lines.len() as u64 - 1) as usize;
+            lines[place] = change_field(random, &lines[place]);
+        }),
+        21 => {
+            // More calls than a file may hold, the last one perhaps without its end.
+            let more = random.between(500, 520);
+            for _ in 0..more {
+                file.extend_from_slice(b"S\n");
+            }
+            if random.in_hundred(30) {
+                file.pop();
+            }
+            file
+        }
+        22 => {
+            file.resize(random.between(59_990, 60_010) as usize, b'\n');
+            file
+        }
+        _ => change_lines(random, &file, |random, lines| {
+            let place = random.between(0, lines.len() as u64 - 1) as usize;
+            lines[place] = change_number(random, &lines[place]);
+        }),
+    }
+}
+
+/// Applies a change to the lines of a file and puts them together again.
+fn change_lines(
+    random: &mut Random,
+    file: &[u8],
+    change: impl Fn(&mut Random, &mut Vec<Vec<u8>>),
+) -> Vec<u8> {
+    let mut lines: Vec<Vec<u8>> = file
+        .split_inclusive(|&byte| byte == b'\n')
+        .map(<[u8]>::to_vec)
+        .collect();
+    change(random, &mut lines);
+    lines.concat()
+}
+
+/// Replaces one number of a line by another well-formed one, often by one on the line.
+fn change_number(random: &mut Random, line: &[u8]) -> Vec<u8> {
+    let mut fields: Vec<Vec<u8>> = line
+        .strip_suffix(b"\n")
+        .unwrap_or(line)
+        .split(|&byte| byte == b',')
+        .map(<[u8]>::to_vec)
+        .collect();
+    if fields.len() > 1 {
+        let place = random.between(1, fields.len() as u64 - 1) as usize;
+        let texts: [&[u8]; 9] = [
+            b"0",
+            b"1",
+            b"2",
+            b"16",
+            b"17",
+            b"1001",
+            b"1025",
+            b"65536",
+            b"999999999",
+        ];
+        fields[place] = if random.in_hundred(40) {
+            random.pick(&fields[1..]).clone()
+        } else {
+            random.pick(&texts).to_vec()
+        };
+    }
+    let mut changed = fields.join(&b',');
+    if line.ends_with(b"\n") {
+        changed.push(b'\n');
+    }
+    changed
+}
+
+/// Replaces one field of a line, or adds or removes one.
+fn change_field(random: &mut Random, line: &[u8]) -> Vec<u8> {
+    let ended = line.ends_with(b"\n");
+    let text = if ended { &line[..line.len() - 1] } else { line };
+    let mut fields: Vec<Vec<u8>> = text
+        .split(|&byte| byte == b',')
+        .map(<[u8]>::to_vec)
+        .collect();
+    let place = random.between(0, fields.len() as u64 - 1) as usize;
+    let texts: [&[u8]; 18] = [
+        b"",
+        b"0",
+        b"00",
+        b"-1",
+        b"+1",
+        b" 1",
+        b"1 ",
+        b"1.5",
+        b"1e3",
+        b"17",
+        b"1001",
+        b"1025",
+        b"65536",
+        b"999999999",
+        b"1000000000",
+        b"4294967297",
+        b"18446744073709551617",
+        b"\xff",
+    ];
+    match random.between(0, 7) {
+        0 => {
+            fields.remove(place);
+        }
+        1 => {
+            let field = fields[place].clone();
+            fields.insert(place, field);
+        }
+        2 => fields[place].insert(0, b'0'),
+        3 => fields[place].make_ascii_lowercase(),
+        _ => fields[place] = random.pick(&texts).to_vec(),
+    }
+    let mut changed = fields.join(&b',');
+    if ended {
+        changed.push(b'\n');
+    }
+    changed
+}

@@ -1,0 +1,236 @@
+//! The plain machine: its state, the effect of each call and the refusals 9 to 16.
+//! Rests on `measure` for every number it answers and on `search` for W, P and A.
+
+use crate::catalogue::{Call, Catalogue};
+use crate::measure::{Standing, View};
+use crate::search;
+
+/// A call's lot or session is unknown.
+pub const NO_SUCH_NUMBER: u32 = 9;
+/// The lot is joined into another.
+pub const OFF_THE_BOARD: u32 = 10;
+/// J with u = v.
+pub const SAME_LOT: u32 = 11;
+/// M to the lot's own session.
+pub const ALREADY_THERE: u32 = 12;
+/// J across sessions.
+pub const TWO_SESSIONS: u32 = 13;
+/// M to a session whose bales and the lot's are together above the cap.
+pub const OVER_THE_CAP: u32 = 14;
+/// S without a join, B without a record.
+pub const NOTHING_TO_UNDO: u32 = 15;
+/// A while a join stands.
+pub const JOINS_STANDING: u32 = 16;
+
+/// What an accepted call answers.
+#[derive(Clone, Copy, Debug, PartialEq, Eq)]
+pub enum Answer {
+    J {
+        bales: u64,
+    },
+    S {
+        u: usize,
+        v: usize,
+    },
+    M {
+        gain: i64,
+        total: u64,
+    },
+    B {
+        u: usize,
+        session: usize,
+        total: u64,
+    },
+    W {
+        tried: u64,
+        kept: u64,
+        total: u64,
+    },
+    P {
+        moves: u64,
+        total: u64,
+    },
+    A {
+        joins: u64,
+        tried: u64,
+        kept: u64,
+        moves: u64,
+        total: u64,
+    },
+}
+
+/// The state: the catalogue, the stack of joins, a session for each board lot (0 off the
+/// board, place 0 unused) and the record of moves as lots with their old sessions.
+#[derive(Clone, Debug, PartialEq, Eq)]
+pub struct Machine<'a> {
+    pub catalogue: &'a Catalogue,
+    pub joins: Vec<(usize, usize)>,
+    pub sessions: Vec<usize>,
+    pub record: Vec<(usize, usize)>,
+}
+
+impl<'a> Machine<'a> {
+    /// The draft's sessions, no joins, an empty record.
+    pub fn fresh(catalogue: &'a Catalogue) -> Self {
+        let mut sessions = vec![0];
+        sessions.extend(catalogue.lots.iter().map(|lot| lot.session));
+        Machine {
+            catalogue,
+            joins: Vec::new(),
+            sessions,
+            record: Vec::new(),
+        }
+    }
+
+    /// The standing lots of the present state.
+    pub fn standing(&self) -> Standing<'a> {
+        Standing::of(self.catalogue, &self.joins)
+    }
+
+    /// The total of the present state.
+    pub fn total(&self) -> u64 {
+        View::of(&self.standing(), &self.sessions).total()
+    }
+
+    /// Lot v leaves the board and u stands for it.
+    pub(crate) fn join(&mut self, u: usize, v: usize) {
+        self.joins.push((u, v));
+        self.sessions[v] = 0;
+    }
+
+    /// The top join comes off and its lot returns; nothing if no join stands.
+    pub(crate) fn split(&mut self) -> Option<(usize, usize)> {
+        let (u, v) = self.joins.pop()?;
+        self.sessions[v] = self.sessions[u];
+        Some((u, v))
+    }
+
+    /// Runs one call. A refused one gives its number and changes nothing.
+    pub fn call(&mut self, call: &Call) -> Result<Answer, u32> {
+        let answer = match *call {
+            Call::J { u, v } => self.call_j(u, v)?,
+            Call::S => self.call_s()?,
+            Call::M { u, t } => self.call_m(u, t)?,
+            Call::B => self.call_b()?,
+            Call::W { u, v } => self.call_w(u, v)?,
+            Call::P => {
+                let moves = search::improve(self);
+                Answer::P {
+                    moves,
+                    total: self.total(),
+                }
+            }
+            Call::A => self.call_a()?,
+        };
+        if !matches!(call, Call::M { .. } | Call::B) {
+            self.record.clear();
+        }
+        Ok(answer)
+    }
+
+    fn known_lot(&self, number: u64) -> Result<usize, u32> {
+        known(number, self.catalogue.lots.len())
+    }
+
+    fn on_board(&self, lot: usize) -> Result<(), u32> {
+        if self.joins.iter().any(|&(_, v)| v == lot) {
+            Err(OFF_THE_BOARD)
+        } else {
+            Ok(())
+        }
+    }
+
+    fn call_j(&mut self, u: u64, v: u64) -> Result<Answer, u32> {
+        let (u, v) = (self.known_lot(u)?, self.known_lot(v)?);
+        if u == v {
+            return Err(SAME_LOT);
+        }
+        self.on_board(u)?;
+        self.on_board(v)?;
+        if self.sessions[u] != self.sessions[v] {
+            return Err(TWO_SESSIONS);
+        }
+        self.join(u, v);
+        Ok(Answer::J {
+            bales: self.standing().bales(u),
+        })
+    }
+
+    fn call_s(&mut self) -> Result<Answer, u32> {
+        let (u, v) = self.split().ok_or(NOTHING_TO_UNDO)?;
+        Ok(Answer::S { u, v })
+    }
+
+    fn call_m(&mut self, u: u64, t: u64) -> Result<Answer, u32> {
+        let u = self.known_lot(u)?;
+        let t = known(t, self.catalogue.sessions)?;
+        self.on_board(u)?;
+        if self.sessions[u] == t {
+            return Err(ALREADY_THERE);
+        }
+        let standing = self.standing();
+        let view = View::of(&standing, &self.sessions);
+        if !view.space(u, t) {
+            return Err(OVER_THE_CAP);
+        }
+        let gain = view.gain(u, t);
+        self.record.push((u, self.sessions[u]));
+        self.sessions[u] = t;
+        Ok(Answer::M {
+            gain,
+            total: self.total(),
+        })
+    }
+
+    fn call_b(&mut self) -> Result<Answer, u32> {
+        let (u, session) = self.record.pop().ok_or(NOTHING_TO_UNDO)?;
+        self.sessions[u] = session;
+        Ok(Answer::B {
+            u,
+            session,
+            total: self.total(),
+        })
+    }
+
+    fn call_w(&mut self, u: u64, v: u64) -> Result<Answer, u32> {
+        let (u, v) = (self.known_lot(u)?, self.known_lot(v)?);
+        self.on_board(u)?;
+        self.on_board(v)?;
+        let walk = search::walk(self, u, v);
+        Ok(Answer::W {
+            tried: walk.tried,
+            kept: walk.kept,
+            total: self.total(),
+        })
+    }
+
+    fn call_a(&mut self) -> Result<Answer, u32> {
+        if !self.joins.is_empty() {
+            return Err(JOINS_STANDING);
+        }
+        let joins = search::join_down(self);
+        let (mut tried, mut kept) = (0, 0);
+        while let Some((u, v)) = self.split() {
+            let walk = search::walk(self, u, v);
+            tried += walk.tried;
+            kept += walk.kept;
+        }
+        let moves = search::improve(self);
+        Ok(Answer::A {
+            joins,
+            tried,
+            kept,
+            moves,
+            total: self.total(),
+        })
+    }
+}
+
+/// A number of 1 to `highest` names something; any other is refused.
+fn known(number: u64, highest: usize) -> Result<usize, u32> {
+    if (1..=highest as u64).contains(&number) {
+        Ok(number as usize)
+    } else {
+        Err(NO_SUCH_NUMBER)
+    }
+}

@@ -1,0 +1,230 @@
+//! Cap, stand, present mark sets, bales, counts, total and gain, each worked out afresh.
+//! Rests on the loaded catalogue, the stack of joins and the session of each board lot.
+
+use crate::catalogue::Catalogue;
+
+/// All loaded bales shared out evenly over the sessions, rounded up: ⌈W/k⌉.
+pub fn fair_share(catalogue: &Catalogue) -> u64 {
+    let all: u64 = catalogue.lots.iter().map(|lot| lot.bales).sum();
+    all.div_ceil(catalogue.sessions as u64)
+}
+
+/// The cap of every session.
+pub fn cap(catalogue: &Catalogue) -> u64 {
+    (1_000 + catalogue.slack) * fair_share(catalogue) / 1_000
+}
+
+/// Whether the draft has a session above the cap.
+pub fn overfull_draft(catalogue: &Catalogue) -> bool {
+    catalogue.session_numbers().any(|session| {
+        let bales: u64 = catalogue
+            .lots
+            .iter()
+            .filter(|lot| lot.session == session)
+            .map(|lot| lot.bales)
+            .sum();
+        bales > cap(catalogue)
+    })
+}
+
+/// What follows from the catalogue and the stack of joins, whatever the sessions are.
+/// Tables by lot or by buyer number leave place 0 unused.
+pub struct Standing<'a> {
+    catalogue: &'a Catalogue,
+    above: Vec<usize>,
+    stand: Vec<usize>,
+    bales: Vec<u64>,
+    present: Vec<Vec<usize>>,
+    buyers: Vec<Vec<usize>>,
+}
+
+impl<'a> Standing<'a> {
+    /// Works everything out from the two things it rests on.
+    pub fn of(catalogue: &'a Catalogue, joins: &[(usize, usize)]) -> Self {
+        let places = catalogue.lots.len() + 1;
+
+        let mut above = vec![0; places];
+        for &(u, v) in joins {
+            above[v] = u;
+        }
+
+        let mut stand = vec![0; places];
+        let mut bales = vec![0; places];
+        for lot in catalogue.lot_numbers() {
+            let loaded = catalogue.lot(lot).bales;
+            let mut reached = lot;
+            bales[reached] += loaded;
+            while above[reached] != 0 {
+                reached = above[reached];
+                bales[reached] += loaded;
+            }
+            stand[lot] = reached;
+        }
+
+        let mut present = vec![Vec::new(); catalogue.buyers.len() + 1];
+        let mut buyers = vec![Vec::new(); places];
+        for buyer in catalogue.buyer_numbers() {
+            let marks = &catalogue.buyer(buyer).marks;
+            let mut set: Vec<usize> = marks.iter().map(|&lot| stand[lot]).collect();
+            set.sort_unstable();
+            set.dedup();
+            for &lot in &set {
+                buyers[lot].push(buyer);
+            }
+            present[buyer] = set;
+        }
+
+        Standing {
+            catalogue,
+            above,
+            stand,
+            bales,
+            present,
+            buyers,
+        }
+    }
+
+    /// The lot this one was joined into, 0 on the board.
+    pub fn above(&self, lot: usize) -> usize {
+        self.above[lot]
+    }
+
+    /// The board lot that stands for this one.
+    pub fn stand(&self, lot: usize) -> usize {
+        self.stand[lot]
+    }
+
+    /// The loaded bales of this lot and of all lots below it. Off the board these are the
+    /// bales it had when joined, as nothing below it changes until it returns.
+    pub fn bales(&self, lot: usize) -> u64 {
+        self.bales[lot]
+    }
+
+    /// A buyer's present mark set, in rising order.
+    pub fn present(&self, buyer: usize) -> &[usize] {
+        &self.present[buyer]
+    }
+
+    /// The buyers whose present mark set holds this lot: none for a lot off the board.
+    pub fn buyers(&self, lot: usize) -> &[usize] {
+        &self.buyers[lot]
+    }
+
+    /// Whether the lot is on the board.
+    pub fn on_board(&self, lot: usize) -> bool {
+        self.above[lot] == 0
+    }
+
+    /// All board lots, in rising order.
+    pub fn board(&self) -> Vec<usize> {
+        self.catalogue
+            .lot_numbers()
+            .filter(|&lot| self.on_board(lot))
+            .collect()
+    }
+}
+
+/// What follows from the standing lots together with their sessions.
+pub struct View<'a> {
+    standing: &'a Standing<'a>,
+    sessions: Vec<usize>,
+    counts: Vec<u64>,
+    session_bales: Vec<u64>,
+    cap: u64,
+}
+
+impl<'a> View<'a> {
+    /// Works everything out afresh. `sessions` has a place for each lot number.
+    pub fn of(standing: &'a Standing<'a>, sessions: &[usize]) -> Self {
+        let catalogue = standing.catalogue;
+        let width = catalogue.sessions + 1;
+
+        let mut counts = vec![0; (catalogue.buyers.len() + 1) * width];
+        for buyer in catalogue.buyer_numbers() {
+            for &lot in standing.present(buyer) {
+                counts[buyer * width + sessions[lot]] += 1;
+            }
+        }
+
+        let mut session_bales = vec![0; width];
+        for lot in standing.board() {
+            session_bales[sessions[lot]] += standing.bales(lot);
+        }
+
+        View {
+            standing,
+            sessions: sessions.to_vec(),
+            counts,
+            session_bales,
+            cap: cap(catalogue),
+        }
+    }
+
+    /// The standing lots this view was made over.
+    pub fn standing(&self) -> &'a Standing<'a> {
+        self.standing
+    }
+
+    /// The session of a board lot.
+    pub fn session(&self, lot: usize) -> usize {
+        self.sessions[lot]
+    }
+
+    /// The bales of a session's board lots together.
+    pub fn session_bales(&self, session: usize) -> u64 {
+        self.session_bales[session]
+    }
+
+    /// The number of a buyer's present marks in a session.
+    pub fn count(&self, buyer: usize, session: usize) -> u64 {
+        self.counts[buyer * (self.standing.catalogue.sessions + 1) + session]
+    }
+
+    /// The sessions a buyer visits, in rising order.
+    pub fn visited(&self, buyer: usize) -> Vec<usize> {
+        self.standing
+            .catalogue
+            .session_numbers()
+            .filter(|&session| self.count(buyer, session) > 0)
+            .collect()
+    }
+
+    /// Weight × (visited − 1), summed over all buyers.
+    pub fn total(&self) -> u64 {
+        let catalogue = self.standing.catalogue;
+        catalogue
+            .buyer_numbers()
+            .map(|buyer| {
+                let visited = catalogue
+                    .session_numbers()
+                    .filter(|&session| self.count(buyer, session) > 0)
+                    .count() as u64;
+                catalogue.buyer(buyer).weight * (visited - 1)
+            })
+            .sum()
+    }
+
+    /// By how much the total falls if board lot `u` goes to session `t`.
+    pub fn gain(&self, u: usize, t: usize) -> i64 {
+        let s = self.session(u);
+        if t == s {
+            return 0;
+        }
+        let mut gain = 0;
+        for &buyer in self.standing.buyers(u) {
+            let weight = self.standing.catalogue.buyer(buyer).weight as i64;
+            if self.count(buyer, s) == 1 {
+                gain += weight;
+            }
+            if self.count(buyer, t) == 0 {
+                gain -= weight;
+            }
+        }
+        gain
+    }
+
+    /// Whether session `t` has space for board lot `u` under the cap.
+    pub fn space(&self, u: usize, t: usize) -> bool {
+        self.session_bales(t) + self.standing.bales(u) <= self.cap
+    }
+}

@@ -1,0 +1,129 @@
+//! What the lent tables hold in a state, entry by entry, worked out afresh.
+//! Rests on `machine` for the state and on `measure` for every entry.
+
+use std::collections::BTreeSet;
+
+use crate::machine::Machine;
+use crate::measure::View;
+
+/// A lot's record. Off the board the session is 0; on the board the lot above is 0.
+#[derive(Clone, Copy, Debug, PartialEq, Eq)]
+pub struct LotRecord {
+    pub bales: u64,
+    pub session: usize,
+    pub above: usize,
+}
+
+/// A buyer's record: its first place in both mark tables (from 0) and the two lengths.
+#[derive(Clone, Copy, Debug, PartialEq, Eq)]
+pub struct BuyerRecord {
+    pub first_place: usize,
+    pub loaded_marks: usize,
+    pub present_marks: usize,
+}
+
+/// The entries in use of all lent tables. Vectors by lot or buyer start with number 1;
+/// vectors by session within them start with session 1. The order of marks in a present set
+/// is free, so these are sets.
+#[derive(Clone, Debug, PartialEq, Eq)]
+pub struct Tables {
+    pub lots: Vec<LotRecord>,
+    pub loaded_marks: Vec<usize>,
+    pub present_marks: Vec<BTreeSet<usize>>,
+    pub buyers: Vec<BuyerRecord>,
+    pub counts: Vec<Vec<u64>>,
+    pub gains: Vec<Vec<i64>>,
+    pub visited: Vec<u64>,
+}
+
+/// The place of an entry in the lent tables of counts and gains.
+pub fn entry(number: usize, session: usize) -> usize {
+    16 * (number - 1) + session - 1
+}
+
+impl Tables {
+    /// The tables of a machine's present state.
+    pub fn of(machine: &Machine) -> Self {
+        let catalogue = machine.catalogue;
+        let standing = machine.standing();
+        let view = View::of(&standing, &machine.sessions);
+
+        let lots = catalogue
+            .lot_numbers()
+            .map(|lot| LotRecord {
+                bales: standing.bales(lot),
+                session: machine.sessions[lot],
+                above: standing.above(lot),
+            })
+            .collect();
+
+        let loaded_marks = catalogue
+            .buyers
+            .iter()
+            .flat_map(|buyer| buyer.marks.iter().copied())
+            .collect();
+
+        let present_marks = catalogue
+            .buyer_numbers()
+            .map(|buyer| standing.present(buyer).iter().copied().collect())
+            .collect();
+
+        let buyers = catalogue
+            .buyer_numbers()
+            .map(|buyer| BuyerRecord {
+                first_place: catalogue.buyers[..buyer - 1]
+                    .iter()
+                    .map(|earlier| earlier.marks.len())
+                    .sum(),
+                loaded_marks: catalogue.buyer(buyer).marks.len(),
+                present_marks: standing.present(buyer).len(),
+            })
+            .collect();
+
+        let counts = catalogue
+            .buyer_numbers()
+            .map(|buyer| {
+                catalogue
+                    .session_numbers()
+                    .map(|session| view.count(buyer, session))
+                    .collect()
+            })
+            .collect();
+
+        let gains = catalogue
+            .lot_numbers()
+            .map(|lot| {
+                catalogue
+                    .session_numbers()
+                    .map(|session| {
+                        if standing.on_board(lot) {
+                            view.gain(lot, session)
+                        } else {
+                            0
+                        }
+                    })
+                    .collect()
+            })
+            .collect();
+
+        let visited = catalogue
+            .buyer_numbers()
+            .map(|buyer| {
+                view.visited(buyer)
+                    .into_iter()
+                    .map(|session| 1 << (session - 1))
+                    .sum()
+            })
+            .collect();
+
+        Tables {
+            lots,
+            loaded_marks,
+            present_marks,
+            buyers,
+            counts,
+            gains,
+            visited,
+        }
+    }
+}

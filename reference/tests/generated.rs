@@ -1,0 +1,243 @@
+//! Generated sales: the generator is settled by its seed, damaged files never stop the
+//! parser, and the calls keep the cap, the totals and the tables as document 01 has them.
+//! Rests on the library's generator and on its machine, asked after every call.
+
+use std::collections::BTreeSet;
+
+use reference::generator::{calls, damaged, sale, sale_of_kind, KINDS};
+use reference::measure::{cap, View};
+use reference::report::answer_line;
+use reference::{parse, parse_within, run, run_calls, tables_after};
+use reference::{Answer, Call, Catalogue, Limits, Machine, Tables};
+
+#[test]
+fn one_seed_gives_one_file() {
+    for seed in 0..100 {
+        assert_eq!(sale(seed), sale(seed));
+        assert_eq!(damaged(seed), damaged(seed));
+    }
+    let different: BTreeSet<Vec<u8>> = (0..100).map(sale).collect();
+    assert!(different.len() > 90);
+}
+
+#[test]
+fn every_kind_is_accepted() {
+    for (name, kind) in KINDS {
+        for seed in 0..20 {
+            let file = sale_of_kind(seed, kind);
+            assert!(parse(&file).is_ok(), "{name} {seed}");
+        }
+    }
+}
+
+#[test]
+fn damaged_files_are_refused_on_a_line_there_is_or_the_next() {
+    let mut numbers = BTreeSet::new();
+    for seed in 0..2_000 {
+        let file = damaged(seed);
+        let lines = file.split_inclusive(|&byte| byte == b'\n').count();
+        if let Err(refusal) = parse(&file) {
+            assert!((1..=7).contains(&refusal.number), "{seed}");
+            assert_eq!(refusal.line == 0, refusal.number == 1, "{seed}");
+            assert!(refusal.line <= lines + 1, "{seed}");
+            numbers.insert(refusal.number);
+        }
+        let outcome = run(&file);
+        assert!(
+            outcome.code <= 7 && outcome.report.ends_with(b"\n"),
+            "{seed}"
+        );
+        assert_eq!(tables_after(&file).is_some(), outcome.code == 0, "{seed}");
+    }
+    for number in [1, 2, 3, 4, 6, 7] {
+        assert!(numbers.contains(&number), "no damaged file gave {number}");
+    }
+}
+
+/// No session above the cap, lots off the board as the rule has it, sets and counts in step.
+fn check_state(machine: &Machine) {
+    let catalogue = machine.catalogue;
+    let standing = machine.standing();
+    let view = View::of(&standing, &machine.sessions);
+    let tables = Tables::of(machine);
+    for session in catalogue.session_numbers() {
+        assert!(view.session_bales(session) <= cap(catalogue));
+    }
+    let off_board: BTreeSet<usize> = machine.joins.iter().map(|&(_, v)| v).collect();
+    for lot in catalogue.lot_numbers() {
+        let record = tables.lots[lot - 1];
+        let joined = off_board.contains(&lot);
+        assert_eq!(record.session == 0, joined);
+        assert_eq!(record.above != 0, joined);
+        if joined {
+            assert!(tables.gains[lot - 1].iter().all(|&gain| gain == 0));
+        }
+    }
+    for buyer in catalogue.buyer_numbers() {
+        let present = &tables.present_marks[buyer - 1];
+        assert_eq!(present.len(), tables.buyers[buyer - 1].present_marks);
+        assert_eq!(present.len() as u64, tables.counts[buyer - 1].iter().sum());
+        assert!(present.is_disjoint(&off_board));
+        let bits = tables.visited[buyer - 1];
+        assert_eq!(bits.count_ones() as usize, view.visited(buyer).len());
+    }
+}
+
+/// The gain of every pair is the fall of the total when the move is made.
+fn check_gains(machine: &Machine) {
+    let standing = machine.standing();
+    let view = View::of(&standing, &machine.sessions);
+    for lot in standing.board() {
+        for session in machine.catalogue.session_numbers() {
+            let mut sessions = machine.sessions.clone();
+            sessions[lot] = session;
+            let after = View::of(&standing, &sessions).total();
+            assert_eq!(
+                view.gain(lot, session),
+                view.total() as i64 - after as i64,
+                "lot {lot} to {session}"
+            );
+        }
+    }
+}
+
+/// No single move with space lowers the total.
+fn check_no_move_left(machine: &Machine) {
+    let standing = machine.standing();
+    let view = View::of(&standing, &machine.sessions);
+    for lot in standing.board() {
+        for session in machine.catalogue.session_numbers() {
+            if session != machine.sessions[lot] && view.space(lot, session) {
+                let mut sessions = machine.sessions.clone();
+                sessions[lot] = session;
+                assert!(View::of(&standing, &sessions).total() >= view.total());
+            }
+        }
+    }
+}
+
+fn check_calls(catalogue: &Catalogue, list: &[Call]) {
+    let mut machine = Machine::fresh(catalogue);
+    check_state(&machine);
+    check_gains(&machine);
+    for call in list {
+        let before = machine.clone();
+        let total = before.total();
+        match machine.call(call) {
+            Err(number) => {
+                assert!((9..=16).contains(&number));
+                assert_eq!(machine, before, "a refused call changes nothing");
+            }
+            Ok(answer) => {
+                check_state(&machine);
+                check_answer(&before, total, &machine, answer);
+            }
+        }
+    }
+    check_gains(&machine);
+}
+
+fn check_answer(before: &Machine, old_total: u64, machine: &Machine, answer: Answer) {
+    if !matches!(answer, Answer::M { .. } | Answer::B { .. }) {
+        assert!(machine.record.is_empty());
+    }
+    match answer {
+        Answer::J { .. } => {
+            assert_eq!(machine.total(), old_total);
+            assert_eq!(machine.joins.len(), before.joins.len() + 1);
+        }
+        Answer::S { .. } => {
+            assert_eq!(machine.total(), old_total);
+            assert_eq!(machine.joins.len() + 1, before.joins.len());
+        }
+        Answer::M { gain, total } => {
+            assert_eq!(total as i64, old_total as i64 - gain);
+            let mut reversed = machine.clone();
+            assert!(reversed.call(&Call::B).is_ok());
+            assert_eq!(&reversed, before, "B takes back M");
+        }
+        Answer::B { total, .. } => assert_eq!(total, machine.total()),
+        Answer::W { tried, kept, total } => {
+            assert!(kept <= tried && tried <= kept + 25);
+            assert!(total <= old_total);
+            assert_eq!(kept == 0, total == old_total);
+            let moved = |lot: &usize| machine.sessions[*lot] != before.sessions[*lot];
+            let changed = machine.catalogue.lot_numbers().filter(moved).count();
+            assert_eq!(changed as u64, kept);
+        }
+        Answer::P { moves, total } => {
+            assert!(total + moves <= old_total);
+            check_no_move_left(machine);
+        }
+        Answer::A { total, .. } => {
+            assert!(total <= old_total);
+            assert!(machine.joins.is_empty());
+            check_no_move_left(machine);
+        }
+    }
+}
+
+#[test]
+fn generated_sales_keep_the_invariants() {
+    for seed in 0..600 {
+        let sale = parse(&sale(seed)).expect("a generated sale is accepted");
+        check_calls(&sale.catalogue, &sale.calls);
+    }
+}
+
+#[test]
+fn lists_longer_than_a_file_may_hold_run_as_well() {
+    let sale = parse(&sale(5)).expect("a generated sale is accepted");
+    let list = calls(77, &sale.catalogue, 700);
+    assert_eq!(list.len(), 700);
+    check_calls(&sale.catalogue, &list);
+    let finish = run_calls(&sale.catalogue, &list);
+    let lines = finish.report.split(|&byte| byte == b'\n').count() - 1;
+    assert_eq!(
+        lines,
+        700 + 1 + sale.catalogue.lots.len() + sale.catalogue.buyers.len()
+    );
+}
+
+#[test]
+fn splits_bring_back_the_board_of_the_joins() {
+    for seed in 0..200 {
+        let sale = parse(&sale(seed)).expect("a generated sale is accepted");
+        let mut machine = Machine::fresh(&sale.catalogue);
+        for call in &sale.calls {
+            // An answer or a refusal serves alike: only the state after the call is used.
+            let _ = machine.call(call);
+        }
+        while machine.call(&Call::S).is_ok() {}
+        assert!(machine.joins.is_empty());
+        assert!(machine.sessions[1..].iter().all(|&session| session > 0));
+        check_state(&machine);
+    }
+}
+
+#[test]
+fn all_answers_have_their_lines() {
+    let line = |answer| answer_line(&answer);
+    assert_eq!(line(Ok(Answer::J { bales: 20 })), "J,20\n");
+    assert_eq!(line(Ok(Answer::M { gain: -7, total: 9 })), "M,-7,9\n");
+    assert_eq!(line(Err(14)), "NO,14\n");
+}
+
+#[test]
+fn the_limits_move_the_ranges_of_lots_and_sessions() {
+    let file = b"SALE,3,0,3,0\nLOT,1,1\nLOT,1,2\nLOT,1,3\n";
+    let within = |lots, sessions| parse_within(file, &Limits { lots, sessions });
+    assert!(within(3, 3).is_ok());
+    assert_eq!(
+        within(2, 3)
+            .map_err(|found| (found.number, found.line))
+            .err(),
+        Some((3, 1))
+    );
+    assert_eq!(
+        within(3, 2)
+            .map_err(|found| (found.number, found.line))
+            .err(),
+        Some((3, 1))
+    );
+}

@@ -1,0 +1,104 @@
+//! The starred cases of document 01 and the tables of its worked sale, by hand.
+//! Rests on the library's measure, machine and tables.
+
+use std::collections::BTreeSet;
+
+use reference::measure::{cap, View};
+use reference::search::rating;
+use reference::tables::{entry, BuyerRecord, LotRecord};
+use reference::{parse, run_calls, tables_after, Call, Machine};
+
+const CATALOGUE: &str = "SALE,5,3,2,200\nLOT,10,1\nLOT,10,1\nLOT,10,2\nLOT,10,2\nLOT,10,1\n\
+                         BUY,3,1,3\nBUY,2,2,5\nBUY,1,3,4\n";
+
+#[test]
+fn starred_cases() {
+    let sale = parse(CATALOGUE.as_bytes()).expect("the worked catalogue is accepted");
+    let mut machine = Machine::fresh(&sale.catalogue);
+    let standing = machine.standing();
+    let view = View::of(&standing, &machine.sessions);
+    assert_eq!(view.total(), 3);
+    assert_eq!(cap(&sale.catalogue), 30);
+    assert_eq!(view.gain(1, 2), 3);
+    assert_eq!(view.gain(3, 1), 2);
+    assert_eq!(view.gain(2, 2), -2);
+    assert_eq!(rating(&machine, 2, 5), 10_080);
+
+    machine
+        .call(&Call::J { u: 2, v: 5 })
+        .expect("the join is accepted");
+    let standing = machine.standing();
+    assert_eq!(View::of(&standing, &machine.sessions).gain(2, 2), 0);
+}
+
+#[test]
+fn starred_cap_of_51_bales() {
+    let file = b"SALE,2,0,2,100\nLOT,28,1\nLOT,23,2\n";
+    let sale = parse(file).expect("the draft is within the cap");
+    assert_eq!(cap(&sale.catalogue), 28);
+}
+
+#[test]
+fn tables_of_the_worked_sale_with_one_join() {
+    let file = format!("{CATALOGUE}J,2,5\n");
+    let tables = tables_after(file.as_bytes()).expect("the sale is accepted");
+    let lot = |bales, session, above| LotRecord {
+        bales,
+        session,
+        above,
+    };
+    assert_eq!(
+        tables.lots,
+        [
+            lot(10, 1, 0),
+            lot(20, 1, 0),
+            lot(10, 2, 0),
+            lot(10, 2, 0),
+            lot(10, 0, 2)
+        ]
+    );
+    assert_eq!(tables.loaded_marks, [1, 3, 2, 5, 3, 4]);
+    assert_eq!(
+        tables.present_marks,
+        [
+            BTreeSet::from([1, 3]),
+            BTreeSet::from([2]),
+            BTreeSet::from([3, 4])
+        ]
+    );
+    let buyer = |first_place, present_marks| BuyerRecord {
+        first_place,
+        loaded_marks: 2,
+        present_marks,
+    };
+    assert_eq!(tables.buyers, [buyer(0, 2), buyer(2, 1), buyer(4, 2)]);
+    assert_eq!(tables.counts, [[1, 1], [1, 0], [0, 2]]);
+    assert_eq!(tables.gains, [[0, 3], [0, 0], [2, 0], [-1, 0], [0, 0]]);
+    assert_eq!(tables.visited, [0b11, 0b01, 0b10]);
+}
+
+#[test]
+fn a_lot_off_the_board_keeps_the_bales_it_had_when_joined() {
+    let file = "SALE,3,0,2,1000\nLOT,1,1\nLOT,2,1\nLOT,4,1\nJ,2,3\nJ,1,2\n";
+    let tables = tables_after(file.as_bytes()).expect("the sale is accepted");
+    let bales: Vec<u64> = tables.lots.iter().map(|lot| lot.bales).collect();
+    assert_eq!(bales, [7, 6, 4]);
+    let above: Vec<usize> = tables.lots.iter().map(|lot| lot.above).collect();
+    assert_eq!(above, [0, 1, 2]);
+}
+
+#[test]
+fn stack_and_record_are_handed_out() {
+    let sale = parse(CATALOGUE.as_bytes()).expect("the worked catalogue is accepted");
+    let list = [Call::J { u: 2, v: 5 }, Call::M { u: 1, t: 2 }];
+    let finish = run_calls(&sale.catalogue, &list);
+    assert_eq!(finish.joins, [(2, 5)]);
+    assert_eq!(finish.record, [(1, 1)]);
+}
+
+#[test]
+fn entries_are_sixteen_apart() {
+    assert_eq!(entry(1, 1), 0);
+    assert_eq!(entry(2, 1), 16);
+    assert_eq!(entry(1_024, 16), 16_383);
+}
