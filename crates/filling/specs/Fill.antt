@@ -15,8 +15,8 @@ use Rattle.connectivity.specs.Row.{row, row-none, row-here, row-there, row-not,
 use Rattle.connectivity.specs.Laid.{Net}
 use Rattle.connectivity.specs.Law.{stands-ext}
 use Rattle.connectivity.specs.Empty.{Blank, stands-empty}
-use Rattle.connectivity.specs.Set.{Frame, Seen, Sets, Set}
-use Rattle.levels.specs.World.{mat, Lists, World, kept-none, kept-trans, frame-kept}
+use Rattle.connectivity.specs.Set.{Frame, Seen, Sets, Set, kept-none, kept-trans, frame-kept}
+use Rattle.levels.specs.World.{mat, Lists, World}
 use Rattle.levels.specs.ContractNet.{setRow, setRow-here, setRow-there}
 
 -- ---- one net
