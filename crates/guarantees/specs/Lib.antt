@@ -11,3 +11,4 @@ pub mod Caps
 pub mod Loads
 pub mod Numbers
 pub mod Bounds
+pub mod Fresh

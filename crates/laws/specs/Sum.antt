@@ -4,7 +4,7 @@
 -- Over 1..n: sumTo-ext, sumTo-change, sumTo-change2, sumTo-add, sumTo-nil, sumTo-term, countTo-le, countTo-full
 -- Both: sum-sumTo · over a list's places: sum-list
 use mathlib.Core.Path.{_≡_, refl, sym, ap, ap₂, _∙_}
-use mathlib.Core.Bool.{Bool, true, false}
+use mathlib.Core.Bool.{Bool, true, false, _||_}
 use Prim.Native.Nat.{ℕ, zero, suc, _+_, _-_, _*_, _≤_, _<_}
 use native.Mathlib.Nat.{add-zero, add-suc, suc-mul, mul-add, zero-mul, mul-zero}
 use native.Mathlib.Numerals.{add-one}
@@ -196,3 +196,25 @@ countTo-full (suc n) f l i a b = go (λ k. countTo-full n f (omega (arith, one-l
     go : (i ≤ n → f i ≡ true) → Dec (i ≡ suc n) → f i ≡ true
     go ih (yes q) = ap f q ∙ one-full (f (suc n)) (omega (arith, countTo-le n f))
     go ih (no m) = ih (omega arith)
+
+-- ---- a test of 1..n, one number after another
+pub foldTo-none : (f : ℕ → Bool) → foldTo 0 (λ b s. b || f s) false ≡ false
+unfolding foldTo
+foldTo-none f = refl
+
+pub foldTo-more : (n : ℕ) (f : ℕ → Bool) → foldTo n (λ b s. b || f s) false ≡ false → f (suc n) ≡ false → foldTo (suc n) (λ b s. b || f s) false ≡ false
+unfolding foldTo
+foldTo-more n f e o = ap (λ (b : Bool). b || f (suc n)) e ∙ o
+
+pub foldTo-found : (n i : ℕ) (f : ℕ → Bool) → 1 ≤ i → i ≤ n → f i ≡ true → foldTo n (λ b s. b || f s) false ≡ true
+unfolding foldTo
+foldTo-found zero i f l u e = absurd (omega arith)
+foldTo-found (suc n) i f l u e = go (foldTo n (λ b s. b || f s) false) (foldTo-found n i f l) (ℕ-discrete i (suc n))
+  where
+    either : (b : Bool) → (b || true) ≡ true
+    either true = refl
+    either false = refl
+
+    go : (b : Bool) → (i ≤ n → f i ≡ true → b ≡ true) → Dec (i ≡ suc n) → (b || f (suc n)) ≡ true
+    go b ih (yes q) = ap (λ (t : Bool). b || t) (ap f (sym q) ∙ e) ∙ either b
+    go b ih (no m) = ap (λ (t : Bool). t || f (suc n)) (ih (omega arith) e)

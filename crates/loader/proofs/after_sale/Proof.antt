@@ -1,0 +1,77 @@
+-- `loader::after_sale` meets its contract.
+use native.Mathlib.Omega.{arith}
+use mathlib.Core.Path.{_≡_, refl, sym, _∙_, ap}
+use Rattle.loader.proofs.Ranges.{lots-cut, lots-go, fresh-start}
+use denote.Ref.{now}
+use borrow.Author.Needs.{needs}
+use Rattle.loader.proofs.after_sale.Statement.{statement}
+use Rattle.loader.proofs.after_sale.Tie as tie
+use Rattle.loader.proofs.after_sale.Reads as reads
+use Rattle.loader.proofs.after_sale.Lts as lts
+use Rattle.loader.proofs.after_lots.Reads as after-lots-reads
+use Rattle.loader.proofs.read_lots.Reads as read-lots-reads
+
+cast-read-lots : tie.Need-cast-read-lots
+cast-read-lots c = search needs
+
+read-lots-requires : tie.Need-read-lots-requires
+read-lots-requires c κs = let p = c .before .before .before .before .before .before .before .before .before .pre in (p .0, p .1 .l-low, p .2 .l-le, p .2 .w-len, p .2 .d-len)
+
+enum-known-q : tie.Need-enum-known-q
+enum-known-q c = search needs
+
+enum-known-i : tie.Need-enum-known-i
+enum-known-i c = search needs
+
+after-lots-requires : tie.Need-after-lots-requires
+after-lots-requires c κs = let p = c .before .before .before .before .before .before .before .before .before .before .before .before .before .before .before .before .before .before .before .before .before .before .before .before .before .pre in record { at-le = c .before .before .before .before .before .before .before .before .before .before .before .before .before .before .before .read-lots .ensures .inside (c .before .before .before .before .before .before .before .before .before .i .given .0 .0) (c .before .before .before .before .before .before .before .before .before .i .given .1); range = p .1; long = record { l-le = p .2 .l-le; w-len = omega (arith, p .2 .w-len, c .before .before .before .before .before .before .before .before .before .before .before .before .before .before .before .read-lots .kept .1 .1 .1 .1 .0); d-len = omega (arith, p .2 .d-len, c .before .before .before .before .before .before .before .before .before .before .before .before .before .before .before .read-lots .kept .1 .1 .1 .1 .1 .0); nw-len = p .2 .nw-len; f-len = p .2 .f-len; c-len = p .2 .c-len; wide = p .2 .wide; calls-len = p .2 .calls-len }; slen = refl; fresh = fresh-start }
+
+same-length : tie.Need-same-length
+same-length c = search needs
+
+same-length-2 : tie.Need-same-length-2
+same-length-2 c = search needs
+
+returns : tie.Need-returns
+returns c = let a = c .before .before .before .before .before .before .before .before .before .before .before .before .before .before .before .before .before .args in lots-cut (now (a .s)) (a .at) (a .lots) (a .buyers) (a .blocks) (a .imbalance) (now (a .bales)) (now (a .sessions)) (now (a .firsts)) (now (a .counts)) (now (a .marks)) _ _ (c .before .before .before .before .before .before .before .read-lots .result) (c .before .before .before .before .before .before .before .read-lots .ensures) (c .before .q .given .0 .0) (c .before .q .given .0 .1 .0) (c .before .q .given .1) (now (a .weights)) (now (a .firsts)) (now (a .counts)) (now (a .marks)) (now (a .calls))
+
+same-length-3 : tie.Need-same-length-3
+same-length-3 c = search needs
+
+same-length-4 : tie.Need-same-length-4
+same-length-4 c = search needs
+
+same-length-5 : tie.Need-same-length-5
+same-length-5 c = search needs
+
+same-length-6 : tie.Need-same-length-6
+same-length-6 c = search needs
+
+same-length-7 : tie.Need-same-length-7
+same-length-7 c = search needs
+
+same-length-8 : tie.Need-same-length-8
+same-length-8 c = search needs
+
+returns-2 : tie.Need-returns-2
+returns-2 c = let a = c .before .before .before .before .before .before .before .before .before .before .before .before .before .before .before .before .before .before .before .before .before .before .before .before .before .before .before .before .before .before .before .before .before .before .args in lots-go (now (a .s)) (a .at) (a .lots) (a .buyers) (a .blocks) (a .imbalance) (now (a .bales)) (now (a .sessions)) (now (a .firsts)) (now (a .counts)) (now (a .marks)) _ _ (c .before .before .before .before .before .before .before .before .before .before .before .before .before .before .before .before .before .before .before .before .before .before .before .before .read-lots .result) (c .before .before .before .before .before .before .before .before .before .before .before .before .before .before .before .before .before .before .before .before .before .before .before .before .read-lots .ensures) (c .before .before .before .before .before .before .before .before .before .before .before .before .before .before .before .before .before .before .i .given .0 .0) (c .before .before .before .before .before .before .before .before .before .before .before .before .before .before .before .before .before .before .i .given .1) (c .before .before .before .before .before .before .before .before .after-lots .result) _ _ _ _ _ (c .before .before .before .before .before .before .before .before .after-lots .ensures)
+
+pub after-sale-spec : {M : Type 1} → statement M
+after-sale-spec =
+    tie.close
+    (tie.spec
+    cast-read-lots
+    read-lots-requires
+    enum-known-q
+    enum-known-i
+    after-lots-requires
+    same-length
+    same-length-2
+    returns
+    same-length-3
+    same-length-4
+    same-length-5
+    same-length-6
+    same-length-7
+    same-length-8
+    returns-2)
