@@ -12,3 +12,4 @@ pub mod Loads
 pub mod Numbers
 pub mod Bounds
 pub mod Fresh
+pub mod Distinct
