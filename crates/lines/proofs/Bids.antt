@@ -13,8 +13,8 @@ use Rattle.model.specs.Catalogue.{vertices}
 use Rattle.model.specs.Grammar.{Fields, bytes, same, parts, fields, at, isLine, isNumber, within, Book, stopped, marked, marking, bought, buyLine}
 use Rattle.text.specs.Field.{formOf, counted, Third}
 use Rattle.lines.specs.Mark.{MarksRead, marksSeen, BuyRead}
-use Rattle.lines.specs.declared.Marks.{Marks}
-use Rattle.lines.specs.declared.Marks.the-variants.{Good, Wrong}
+use Rattle.lines.specs.declared.Pinned.{Pinned}
+use Rattle.lines.specs.declared.Pinned.the-variants.{Good, Wrong}
 use Rattle.lines.specs.declared.Buy.the-variants.{Bought, NoBuy}
 use Rattle.text.proofs.Lines.{fields-cons, Formed, formed}
 use Rattle.lines.proofs.Fields.{all-tail}
@@ -86,7 +86,7 @@ module _ (s : List ℕ) (at₀ end lots j first : ℕ) (marks stamps : List ℕ)
     pub buy-range : within 1 1000 w ≡ false → BuyRead fs lots j first (NoBuy 3) marks marks stamps
     buy-range u = none 3 (λ n k. sym (buy-is n k fs true false good (ap (within 1 1000) (sym ew) ∙ u)))
 
-    module _ (in-range : within 1 1000 w ≡ true) (b : ℕ) (third : Third s at₀ end b) (m : Marks) (marks′ stamps′ : List ℕ) (read : MarksRead (parts 44 (slice b end s)) lots j first m marks marks′ stamps′) where
+    module _ (in-range : within 1 1000 w ≡ true) (b : ℕ) (third : Third s at₀ end b) (m : Pinned) (marks′ stamps′ : List ℕ) (read : MarksRead (parts 44 (slice b end s)) lots j first m marks marks′ stamps′) where
       says : (n : ℕ) (k : Book) → vertices (k .graph) ≡ lots → k .marks ≡ first → bought n k w (marksSeen first m marks′) ≡ buyLine n k fs
       says n k e z =
           ap (bought n k w) (read .says (k .graph) e ∙ ap (λ (f : ℕ). marking (k .graph) (marked [] f) (parts 44 (slice b end s))) (sym z) ∙ ap (marking (k .graph) (marked [] (k .marks))) (third .is))
@@ -99,7 +99,7 @@ module _ (s : List ℕ) (at₀ end lots j first : ℕ) (marks stamps : List ℕ)
         past = λ v f z. let u : e ≡ f = cc in rw (← u) (read .past e q);
         len = read .len;
         slen = read .slen;
-        says = λ n k c z. ap (λ (y : Marks). bought n k w (marksSeen first y marks′)) (sym q) ∙ says n k c z;
+        says = λ n k c z. ap (λ (y : Pinned). bought n k w (marksSeen first y marks′)) (sym q) ∙ says n k c z;
         next = λ v f z. let u : e ≡ f = cc in rw (← u) (read .next e q);
       }
 
@@ -110,6 +110,6 @@ module _ (s : List ℕ) (at₀ end lots j first : ℕ) (marks stamps : List ℕ)
         past = λ v f z. absurd (let u : _≡_ {A = ℕ} 0 1 = cc in omega arith);
         len = read .len;
         slen = read .slen;
-        says = λ n k c z. ap (λ (y : Marks). bought n k w (marksSeen first y marks′)) (sym q) ∙ says n k c z;
+        says = λ n k c z. ap (λ (y : Pinned). bought n k w (marksSeen first y marks′)) (sym q) ∙ says n k c z;
         next = λ v f z. absurd (let u : _≡_ {A = ℕ} 0 1 = cc in omega arith);
       }

@@ -14,7 +14,7 @@ use Rattle.model.specs.Grammar.{Fields, parts, fields, isNumber, value, Marking
 use Rattle.text.specs.Field.{FirstAt, Numbered}
 use Rattle.lines.specs.Line.{Past}
 use Rattle.lines.specs.Mark.{Stamped, Fresh, markSeen, MarkOne, MarksRead}
-use Rattle.lines.specs.declared.Marks.the-variants.{Good, Wrong}
+use Rattle.lines.specs.declared.Pinned.the-variants.{Good, Wrong}
 use Rattle.text.proofs.Lines.{parts-on, parts-last, parts-first}
 use Rattle.lines.proofs.Stamps.{stamped-start}
 

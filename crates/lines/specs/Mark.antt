@@ -10,8 +10,8 @@ use Rattle.laws.specs.Fold.{any}
 use Rattle.model.specs.Catalogue.{Hypergraph, vertices}
 use Rattle.model.specs.Grammar.{Fields, Book, Reading, stopped, Marking, marked, wrong, mark, marking, bought, buyLine}
 use Rattle.lines.specs.Line.{Past}
-use Rattle.lines.specs.declared.Marks.{Marks}
-use Rattle.lines.specs.declared.Marks.the-variants.{Good, Wrong}
+use Rattle.lines.specs.declared.Pinned.{Pinned}
+use Rattle.lines.specs.declared.Pinned.the-variants.{Good, Wrong}
 use Rattle.lines.specs.declared.Buy.{Buy}
 use Rattle.lines.specs.declared.Buy.the-variants.{Bought, NoBuy}
 
@@ -40,11 +40,11 @@ pub record MarkOne (v lots j m r : ℕ) (marks stamps marks′ stamps′ : List 
   pub room : r ≡ 0 → m < 8192
 
 -- the marks of a line
-abbrev pub marksSeen : ℕ → Marks → List ℕ → Marking
+abbrev pub marksSeen : ℕ → Pinned → List ℕ → Marking
 marksSeen first (Good m) marks = marked (slice first m marks) m
 marksSeen first (Wrong q) marks = wrong q
 
-pub record MarksRead (fs : Fields) (lots j first : ℕ) (r : Marks) (marks marks′ stamps′ : List ℕ) : Type 0 where
+pub record MarksRead (fs : Fields) (lots j first : ℕ) (r : Pinned) (marks marks′ stamps′ : List ℕ) : Type 0 where
   pub keep : take first marks′ ≡ take first marks
   pub past : (m : ℕ) → r ≡ Good m → Past m marks marks′
   pub len : length marks′ ≡ length marks

@@ -28,7 +28,7 @@ pub enum Lot {
 }
 
 // The marks of a line: where they end in the table, or the first refusal.
-pub enum Marks {
+pub enum Pinned {
     Good(usize),
     Wrong(u8),
 }
@@ -86,14 +86,14 @@ pub fn sale_line(s: &[u8], at: usize, end: usize, vmax: u32, bmax: u32) -> Head
     if text::form(s, at, end, b"SALE") != 5 {
         return Head::NoSale(2);
     }
-    let lots = text::get(s, at, end, 1);
-    let buyers = text::get(s, at, end, 2);
+    let vertices = text::get(s, at, end, 1);
+    let nets = text::get(s, at, end, 2);
     let blocks = text::get(s, at, end, 3);
     let imbalance = text::get(s, at, end, 4);
-    if !between(1, vmax, lots) {
+    if !between(1, vmax, vertices) {
         return Head::NoSale(3);
     }
-    if !between(0, 1024, buyers) {
+    if !between(0, 1024, nets) {
         return Head::NoSale(3);
     }
     if !between(2, bmax, blocks) {
@@ -102,7 +102,7 @@ pub fn sale_line(s: &[u8], at: usize, end: usize, vmax: u32, bmax: u32) -> Head
     if !between(0, 1000, imbalance) {
         return Head::NoSale(3);
     }
-    Head::Sale(lots, buyers, blocks, imbalance)
+    Head::Sale(vertices, nets, blocks, imbalance)
 }
 
 // A lot line.
@@ -113,26 +113,33 @@ pub fn lot_line(s: &[u8], at: usize, end: usize, blocks: u16) -> Lot
     if text::form(s, at, end, b"LOT") != 3 {
         return Lot::NoLot(2);
     }
-    let bales = text::get(s, at, end, 1);
+    let weights = text::get(s, at, end, 1);
     let block = text::get(s, at, end, 2);
-    if !between(1, 65535, bales) {
+    if !between(1, 65535, weights) {
         return Lot::NoLot(3);
     }
     if !between(1, blocks as u32, block) {
         return Lot::NoLot(3);
     }
-    Lot::Of(bales, block as u16)
+    Lot::Of(weights, block as u16)
 }
 
 // One mark more of buyer j: 0, or the refusal.
-pub fn mark(v: u32, lots: u32, j: u16, m: usize, marks: &mut [u16], stamps: &mut [u16; 1024]) -> u8
-    requires { ⌜ (lots ≤ 1024) × (8192 ≤ length (now marks)) × (length (now stamps) ≡ 1024) ⌝ }
-    ensures { λ r. ⌜ MarkOne v lots j m r (now (marks .entry)) (now (stamps .entry)) (now (marks .exit)) (now (stamps .exit)) ⌝ }
+pub fn put_pin(
+    v: u32,
+    vertices: u32,
+    j: u16,
+    m: usize,
+    pins: &mut [u16],
+    stamps: &mut [u16; 1024],
+) -> u8
+    requires { ⌜ (vertices ≤ 1024) × (8192 ≤ length (now pins)) × (length (now stamps) ≡ 1024) ⌝ }
+    ensures { λ r. ⌜ MarkOne v vertices j m r (now (pins .entry)) (now (stamps .entry)) (now (pins .exit)) (now (stamps .exit)) ⌝ }
 {
     if v < 1 {
         return 3;
     }
-    if lots < v {
+    if vertices < v {
         return 3;
     }
     let x = (v - 1) as usize;
@@ -142,37 +149,37 @@ pub fn mark(v: u32, lots: u32, j: u16, m: usize, marks: &mut [u16], stamps: &mut
     if 8192 <= m {
         return 5;
     }
-    marks[m] = v as u16;
+    pins[m] = v as u16;
     stamps[x] = j;
     0
 }
 
 // The marks of buyer j, in the fields from `at` to `end`, into the table from `first` on.
-pub fn read_marks(
+pub fn read_pins(
     s: &[u8],
     at: usize,
     end: usize,
-    lots: u32,
+    vertices: u32,
     j: u16,
     first: usize,
-    marks: &mut [u16],
+    pins: &mut [u16],
     stamps: &mut [u16; 1024],
-) -> Marks
-    requires { ⌜ (at ≤ end) × (end ≤ length (now s)) × (all (parts 44 (slice at end (now s))) isNumber ≡ true) × (lots ≤ 1024) × (first ≤ 8192) × (8192 ≤ length (now marks)) × (length (now stamps) ≡ 1024) × Fresh j (now stamps) ⌝ }
-    ensures { λ r. ⌜ MarksRead (parts 44 (slice at end (now (s .entry)))) lots j first r (now (marks .entry)) (now (marks .exit)) (now (stamps .exit)) ⌝ }
+) -> Pinned
+    requires { ⌜ (at ≤ end) × (end ≤ length (now s)) × (all (parts 44 (slice at end (now s))) isNumber ≡ true) × (vertices ≤ 1024) × (first ≤ 8192) × (8192 ≤ length (now pins)) × (length (now stamps) ≡ 1024) × Fresh j (now stamps) ⌝ }
+    ensures { λ r. ⌜ MarksRead (parts 44 (slice at end (now (s .entry)))) vertices j first r (now (pins .entry)) (now (pins .exit)) (now (stamps .exit)) ⌝ }
 {
     let mut i = at;
     let mut m = first;
     loop {
         let e = text::find(s, i, end, 44);
         let v = text::get(s, i, end, 0);
-        let q = mark(v, lots, j, m, marks, stamps);
+        let q = put_pin(v, vertices, j, m, pins, stamps);
         if q != 0 {
-            return Marks::Wrong(q);
+            return Pinned::Wrong(q);
         }
         m += 1;
         if e == end {
-            return Marks::Good(m);
+            return Pinned::Good(m);
         }
         i = e + 1;
     }
@@ -183,14 +190,14 @@ pub fn buy_line(
     s: &[u8],
     at: usize,
     end: usize,
-    lots: u32,
+    vertices: u32,
     j: u16,
     first: usize,
-    marks: &mut [u16],
+    pins: &mut [u16],
     stamps: &mut [u16; 1024],
 ) -> Buy
-    requires { ⌜ (at ≤ end) × (end ≤ length (now s)) × (lots ≤ 1024) × (first ≤ 8192) × (8192 ≤ length (now marks)) × (length (now stamps) ≡ 1024) × Fresh j (now stamps) ⌝ }
-    ensures { λ r. ⌜ BuyRead (fields (slice at end (now (s .entry)))) lots j first r (now (marks .entry)) (now (marks .exit)) (now (stamps .exit)) ⌝ }
+    requires { ⌜ (at ≤ end) × (end ≤ length (now s)) × (vertices ≤ 1024) × (first ≤ 8192) × (8192 ≤ length (now pins)) × (length (now stamps) ≡ 1024) × Fresh j (now stamps) ⌝ }
+    ensures { λ r. ⌜ BuyRead (fields (slice at end (now (s .entry)))) vertices j first r (now (pins .entry)) (now (pins .exit)) (now (stamps .exit)) ⌝ }
 {
     if text::form(s, at, end, b"BUY") < 3 {
         return Buy::NoBuy(2);
@@ -200,8 +207,8 @@ pub fn buy_line(
         return Buy::NoBuy(3);
     }
     let b = text::third(s, at, end);
-    match read_marks(s, b, end, lots, j, first, marks, stamps) {
-        Marks::Good(m) => Buy::Bought(w as u16, m),
-        Marks::Wrong(q) => Buy::NoBuy(q),
+    match read_pins(s, b, end, vertices, j, first, pins, stamps) {
+        Pinned::Good(m) => Buy::Bought(w as u16, m),
+        Pinned::Wrong(q) => Buy::NoBuy(q),
     }
 }

@@ -21,7 +21,7 @@ use Rattle.lines.proofs.buy_line.Lts as lts
 use Rattle.lines.proofs.between.Reads as between-reads
 use Rattle.text.proofs.form.Reads as form-reads
 use Rattle.text.proofs.get.Reads as get-reads
-use Rattle.lines.proofs.read_marks.Reads as read-marks-reads
+use Rattle.lines.proofs.read_pins.Reads as read-pins-reads
 use Rattle.text.proofs.third.Reads as third-reads
 
 slice-aggregate-form : tie.Need-slice-aggregate-form
@@ -31,7 +31,7 @@ form-requires : tie.Need-form-requires
 form-requires c κs = search needs
 
 returns : tie.Need-returns
-returns c = let a = c .before .before .before .before .before .args in let x = slice (a .at) (a .end) (now (a .s)) in buy-bad (now (a .s)) (a .at) (a .end) (a .lots) (a .j) (a .first) (now (a .marks)) (now (a .stamps)) (c .before .before .before .before .before .pre .5) (c .before .form .result) word-BUY (c .before .form .ensures) (c .if1 .taken)
+returns c = let a = c .before .before .before .before .before .args in let x = slice (a .at) (a .end) (now (a .s)) in buy-bad (now (a .s)) (a .at) (a .end) (a .vertices) (a .j) (a .first) (now (a .pins)) (now (a .stamps)) (c .before .before .before .before .before .pre .5) (c .before .form .result) word-BUY (c .before .form .ensures) (c .if1 .taken)
 
 get-requires : tie.Need-get-requires
 get-requires c κs = let a = c .before .before .before .before .before .args in let x = slice (a .at) (a .end) (now (a .s)) in (omega arith, omega arith, numbered (66 ∷ 85 ∷ 89 ∷ []) (fields x) (c .before .form .result - 1) 1 (sym (c .before .form .ensures) ∙ omega arith) (omega arith) (omega arith))
@@ -40,13 +40,13 @@ between-requires : tie.Need-between-requires
 between-requires c κs = search needs
 
 returns-2 : tie.Need-returns-2
-returns-2 c = let a = c .before .before .before .before .before .before .before .before .args in let x = slice (a .at) (a .end) (now (a .s)) in buy-range (now (a .s)) (a .at) (a .end) (a .lots) (a .j) (a .first) (now (a .marks)) (now (a .stamps)) (c .before .before .before .before .before .before .before .before .pre .5) (c .before .before .before .before .form .result) word-BUY (c .before .before .before .before .form .ensures) (omega arith) (c .before .before .get .result) (c .before .before .get .ensures) (sym (c .before .between .ensures) ∙ not-true _ (c .if2 .taken))
+returns-2 c = let a = c .before .before .before .before .before .before .before .before .args in let x = slice (a .at) (a .end) (now (a .s)) in buy-range (now (a .s)) (a .at) (a .end) (a .vertices) (a .j) (a .first) (now (a .pins)) (now (a .stamps)) (c .before .before .before .before .before .before .before .before .pre .5) (c .before .before .before .before .form .result) word-BUY (c .before .before .before .before .form .ensures) (omega arith) (c .before .before .get .result) (c .before .before .get .ensures) (sym (c .before .between .ensures) ∙ not-true _ (c .if2 .taken))
 
 third-requires : tie.Need-third-requires
 third-requires c κs = let a = c .before .before .before .before .before .before .before .before .args in let x = slice (a .at) (a .end) (now (a .s)) in (omega arith, omega arith, buy-long x (c .before .before .before .before .form .result) word-BUY (c .before .before .before .before .form .ensures) (omega arith))
 
-read-marks-requires : tie.Need-read-marks-requires
-read-marks-requires c κs = let a = c .before .before .before .before .before .before .before .before .before .before .before .args in let x = slice (a .at) (a .end) (now (a .s)) in (omega arith, omega arith, ap (λ (fs : List (List _)). all fs isNumber) (c .before .before .third .ensures .is) ∙ buy-rest x (c .before .before .before .before .before .before .before .form .result) word-BUY (c .before .before .before .before .before .before .before .form .ensures) (omega arith), c .before .before .before .before .before .before .before .before .before .before .before .pre .2, c .before .before .before .before .before .before .before .before .before .before .before .pre .3, c .before .before .before .before .before .before .before .before .before .before .before .pre .4, c .before .before .before .before .before .before .before .before .before .before .before .pre .5, c .before .before .before .before .before .before .before .before .before .before .before .pre .6)
+read-pins-requires : tie.Need-read-pins-requires
+read-pins-requires c κs = let a = c .before .before .before .before .before .before .before .before .before .before .before .args in let x = slice (a .at) (a .end) (now (a .s)) in (omega arith, omega arith, ap (λ (fs : List (List _)). all fs isNumber) (c .before .before .third .ensures .is) ∙ buy-rest x (c .before .before .before .before .before .before .before .form .result) word-BUY (c .before .before .before .before .before .before .before .form .ensures) (omega arith), c .before .before .before .before .before .before .before .before .before .before .before .pre .2, c .before .before .before .before .before .before .before .before .before .before .before .pre .3, c .before .before .before .before .before .before .before .before .before .before .before .pre .4, c .before .before .before .before .before .before .before .before .before .before .before .pre .5, c .before .before .before .before .before .before .before .before .before .before .before .pre .6)
 
 enum-known-m : tie.Need-enum-known-m
 enum-known-m c = search needs
@@ -61,13 +61,13 @@ same-length : tie.Need-same-length
 same-length c = search needs
 
 returns-3 : tie.Need-returns-3
-returns-3 c = let a = c .before .before .before .before .before .before .before .before .before .before .before .before .before .before .before .before .before .args in let x = slice (a .at) (a .end) (now (a .s)) in buy-read (now (a .s)) (a .at) (a .end) (a .lots) (a .j) (a .first) (now (a .marks)) (now (a .stamps)) (c .before .before .before .before .before .before .before .before .before .before .before .before .before .before .before .before .before .pre .5) (c .before .before .before .before .before .before .before .before .before .before .before .before .before .form .result) word-BUY (c .before .before .before .before .before .before .before .before .before .before .before .before .before .form .ensures) (omega arith) (c .before .before .before .before .before .before .before .before .before .before .before .get .result) (c .before .before .before .before .before .before .before .before .before .before .before .get .ensures) (sym (c .before .before .before .before .before .before .before .before .before .before .between .ensures) ∙ not-false _ (c .before .before .before .before .before .before .before .before .before .if2 .left)) (c .before .before .before .before .before .before .before .before .third .result) (c .before .before .before .before .before .before .before .before .third .ensures) (c .before .before .before .before .before .read-marks .result) (c .before .before .before .before .before .read-marks .last .1 .1 .1 .1 .1 .1 .0) (c .before .before .before .before .before .read-marks .last .1 .1 .1 .1 .1 .1 .1 .0) (c .before .before .before .before .before .read-marks .ensures) (c .before .m .given .0 .0) (c .before .m .given .1)
+returns-3 c = let a = c .before .before .before .before .before .before .before .before .before .before .before .before .before .before .before .before .before .args in let x = slice (a .at) (a .end) (now (a .s)) in buy-read (now (a .s)) (a .at) (a .end) (a .vertices) (a .j) (a .first) (now (a .pins)) (now (a .stamps)) (c .before .before .before .before .before .before .before .before .before .before .before .before .before .before .before .before .before .pre .5) (c .before .before .before .before .before .before .before .before .before .before .before .before .before .form .result) word-BUY (c .before .before .before .before .before .before .before .before .before .before .before .before .before .form .ensures) (omega arith) (c .before .before .before .before .before .before .before .before .before .before .before .get .result) (c .before .before .before .before .before .before .before .before .before .before .before .get .ensures) (sym (c .before .before .before .before .before .before .before .before .before .before .between .ensures) ∙ not-false _ (c .before .before .before .before .before .before .before .before .before .if2 .left)) (c .before .before .before .before .before .before .before .before .third .result) (c .before .before .before .before .before .before .before .before .third .ensures) (c .before .before .before .before .before .read-pins .result) (c .before .before .before .before .before .read-pins .last .1 .1 .1 .1 .1 .1 .0) (c .before .before .before .before .before .read-pins .last .1 .1 .1 .1 .1 .1 .1 .0) (c .before .before .before .before .before .read-pins .ensures) (c .before .m .given .0 .0) (c .before .m .given .1)
 
 same-length-2 : tie.Need-same-length-2
 same-length-2 c = search needs
 
 returns-4 : tie.Need-returns-4
-returns-4 c = let a = c .before .before .before .before .before .before .before .before .before .before .before .before .before .before .before .before .before .args in let x = slice (a .at) (a .end) (now (a .s)) in buy-wrong (now (a .s)) (a .at) (a .end) (a .lots) (a .j) (a .first) (now (a .marks)) (now (a .stamps)) (c .before .before .before .before .before .before .before .before .before .before .before .before .before .before .before .before .before .pre .5) (c .before .before .before .before .before .before .before .before .before .before .before .before .before .form .result) word-BUY (c .before .before .before .before .before .before .before .before .before .before .before .before .before .form .ensures) (omega arith) (c .before .before .before .before .before .before .before .before .before .before .before .get .result) (c .before .before .before .before .before .before .before .before .before .before .before .get .ensures) (sym (c .before .before .before .before .before .before .before .before .before .before .between .ensures) ∙ not-false _ (c .before .before .before .before .before .before .before .before .before .if2 .left)) (c .before .before .before .before .before .before .before .before .third .result) (c .before .before .before .before .before .before .before .before .third .ensures) (c .before .before .before .before .before .read-marks .result) (c .before .before .before .before .before .read-marks .last .1 .1 .1 .1 .1 .1 .0) (c .before .before .before .before .before .read-marks .last .1 .1 .1 .1 .1 .1 .1 .0) (c .before .before .before .before .before .read-marks .ensures) (c .before .q .given .0 .0) (c .before .q .given .1)
+returns-4 c = let a = c .before .before .before .before .before .before .before .before .before .before .before .before .before .before .before .before .before .args in let x = slice (a .at) (a .end) (now (a .s)) in buy-wrong (now (a .s)) (a .at) (a .end) (a .vertices) (a .j) (a .first) (now (a .pins)) (now (a .stamps)) (c .before .before .before .before .before .before .before .before .before .before .before .before .before .before .before .before .before .pre .5) (c .before .before .before .before .before .before .before .before .before .before .before .before .before .form .result) word-BUY (c .before .before .before .before .before .before .before .before .before .before .before .before .before .form .ensures) (omega arith) (c .before .before .before .before .before .before .before .before .before .before .before .get .result) (c .before .before .before .before .before .before .before .before .before .before .before .get .ensures) (sym (c .before .before .before .before .before .before .before .before .before .before .between .ensures) ∙ not-false _ (c .before .before .before .before .before .before .before .before .before .if2 .left)) (c .before .before .before .before .before .before .before .before .third .result) (c .before .before .before .before .before .before .before .before .third .ensures) (c .before .before .before .before .before .read-pins .result) (c .before .before .before .before .before .read-pins .last .1 .1 .1 .1 .1 .1 .0) (c .before .before .before .before .before .read-pins .last .1 .1 .1 .1 .1 .1 .1 .0) (c .before .before .before .before .before .read-pins .ensures) (c .before .q .given .0 .0) (c .before .q .given .1)
 
 pub buy-line-spec : {M : Type 1} → statement M
 buy-line-spec =
@@ -80,7 +80,7 @@ buy-line-spec =
     between-requires
     returns-2
     third-requires
-    read-marks-requires
+    read-pins-requires
     enum-known-m
     cast-t24
     enum-known-q

@@ -1,5 +1,0 @@
-pub mod Turns
-pub mod Lots
-pub mod Nets
-pub mod Ranges
-pub mod Loads
