@@ -1,0 +1,3 @@
+-- What loading a sale file leaves in lent memory, and a buyer's marks handed out.
+-- Tables  the lent lists, what they hold after an accepted file, the loader's promise
+pub mod Tables
