@@ -117,6 +117,12 @@ rewind-asks T T′ vs bs tried kept j v ok f l q =
       };
     }
 
+pub rewind-from : (T T′ : List ℕ → List ℕ → Tables) (vs bs : List ℕ) (tried kept j : ℕ) (ok : RewindOk T vs bs tried kept) → ((aboves loaded : List ℕ) → Rewinding (T aboves loaded) vs bs tried kept j (T′ aboves loaded))
+    → 1 ≤ j → 1 ≤ getD vs (j - 1) 0
+rewind-from T T′ vs bs tried kept j ok f l =
+    let b = f (ok .aboves) (ok .loaded) .behind (ok .h) (ok .cs) (ok .block) (ok .sound) in
+    backs-step (ok .h) (ok .cs) (b .there) vs bs j l (b .backs (ok .backs)) .0 .vertex-in .0
+
 pub rewind-more : {T T′ T″ : Tables} (vs bs : List ℕ) (tried kept j v : ℕ) → T′ .n ≡ T .n → T′ .m ≡ T .m → T′ .k ≡ T .k → T′ .firsts ≡ T .firsts → T′ .loaded ≡ T .loaded
     → Rewinding T vs bs tried kept j T′ → kept < j → v - 1 + 1 ≡ getD vs (j - 1) 0 → Went T′ T″ (v - 1) (getD bs (j - 1) 0) → Rewinding T vs bs tried kept (j - 1) T″
 rewind-more {T″ = T″} vs bs tried kept j v qn qm qk qf ql f l q w = record {

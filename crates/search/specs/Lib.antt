@@ -9,3 +9,5 @@ pub mod Keeping
 pub mod Back
 pub mod Steps
 pub mod Taking
+pub mod Turning
+pub mod Whole

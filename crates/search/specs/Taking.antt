@@ -7,7 +7,7 @@ use native.Mathlib.Omega.{arith}
 use mathlib.Core.Path.{_≡_, refl, sym, ap, ap₂, _∙_, subst}
 use mathlib.Core.Bool.{Bool, true, false, not, _&&_, _||_, cond, and-true, and-false, true≢false}
 use mathlib.Core.List.{List, [], _∷_}
-use borrow.Author.Tests.{eq-eqb, ne-eqb}
+use borrow.Author.Tests.{eq-eqb, ne-eqb, lt-ltb, le-ltb}
 use lib.Dec.{eqb, ltb}
 use lib.ListN.{length, getD, set, length-set}
 use Rattle.laws.specs.Fold.{any}
@@ -24,6 +24,13 @@ use Rattle.search.specs.Marks.{candidateBit, movedBit, near, NetsOk, Spr
 use Rattle.search.specs.Tabled.{near-is, near-on, nets-ok}
 use Rattle.search.specs.Back.{Backs, backs-more}
 use Rattle.search.specs.Steps.{Locals, locals, At, TakeOk}
+
+-- the prefix to keep: the new one, or the one before
+pub lower-new : (now low x y : ℕ) → now < low → x ≡ cond (ltb now low) x y
+lower-new now low x y l = ap (λ (t : Bool). cond t x y) (sym (lt-ltb now low l))
+
+pub lower-old : (now low x y : ℕ) → low ≤ now → y ≡ cond (ltb now low) x y
+lower-old now low x y l = ap (λ (t : Bool). cond t x y) (sym (le-ltb now low l))
 
 -- a candidate after a move, in truth values: it was one or shares a net with the moved vertex, has not moved, and is on the board
 spread-bool : (cand mv bd adj eq : Bool) → (adj ≡ true → bd ≡ true)

@@ -1,2 +1,4 @@
 // The searches: W, a walk from two vertices, and P, a greedy polish, on the tables of a running sale.
 pub mod marks;
+mod numbers;
+pub mod walks;

@@ -1,5 +1,6 @@
 // The candidates of a search as two rows of bits: row 0 has the vertices that may be chosen, row 1 those that have moved in this search.
 // Vertices and nets count from 0.
+use crate::numbers::index;
 use incidence::is_pin;
 use incidence::next_net;
 use incidence::put;
@@ -10,12 +11,6 @@ ghost use lib.Dec.{eqb};
 ghost use lib.ListN.{length};
 ghost use Rattle.connectivity.specs.Listed.{has};
 ghost use Rattle.search.specs.Marks.{Marked, PinsOk, near, NetsOk, Spread};
-
-fn index(x: u16) -> usize
-    ensures { λ r. ⌜ r ≡ x ⌝ }
-{
-    x as usize
-}
 
 // Makes `x` a candidate, unless it has moved.
 pub fn mark_vertex(marks: &mut [u64; 32], x: usize)

@@ -11,7 +11,7 @@ use Rattle.search.proofs.marks.mark_nets.Tie as tie
 use Rattle.search.proofs.marks.mark_nets.Reads as reads
 use Rattle.search.proofs.marks.mark_nets.Lts as lts
 use Rattle.incidence.proofs.next_net.Reads as next-net-reads
-use Rattle.search.proofs.marks.index.Reads as index-reads
+use Rattle.search.proofs.numbers.index.Reads as index-reads
 use Rattle.search.proofs.marks.mark_pins.Reads as mark-pins-reads
 
 abbrev Inv-loop : tie.InvT-loop

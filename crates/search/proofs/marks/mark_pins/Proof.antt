@@ -10,7 +10,7 @@ use Rattle.search.proofs.marks.mark_pins.Statement.{statement}
 use Rattle.search.proofs.marks.mark_pins.Tie as tie
 use Rattle.search.proofs.marks.mark_pins.Reads as reads
 use Rattle.search.proofs.marks.mark_pins.Lts as lts
-use Rattle.search.proofs.marks.index.Reads as index-reads
+use Rattle.search.proofs.numbers.index.Reads as index-reads
 use Rattle.search.proofs.marks.mark_vertex.Reads as mark-vertex-reads
 
 abbrev Inv-loop : tie.InvT-loop
