@@ -6,23 +6,25 @@ use native.Mathlib.Omega.{arith}
 use mathlib.Core.Path.{_≡_, refl, sym, ap, ap₂, _∙_, subst}
 use mathlib.Core.Bool.{Bool, true, false, not, _&&_, _||_, true≢false}
 use mathlib.Core.List.{List}
-use borrow.Author.Tests.{eq-eqb, ne-eqb, eqb-true}
+use borrow.Author.Tests.{eqb-true, eqb-false, not-true}
 use lib.Dec.{eqb, leb}
 use lib.ListN.{length, getD}
-use lib.IntN.{ℤ, pos}
+use lib.IntN.{ℤ}
 use Rattle.laws.specs.Choice.{one, one-eqb, and-left, and-right}
 use Rattle.laws.specs.Fold.{any, any-at, any-not}
 use Rattle.model.specs.Catalogue.{Hypergraph, vertices, capacity}
 use Rattle.model.specs.Measure.{Contraction, above, onBoard, pin, weight, blockWeight, gain, adjacent}
+use Rattle.model.specs.Search.{best, bestPair}
+use Rattle.guarantees.specs.Tops.{Top, best-top}
 use Rattle.pins.specs.Stack.{present-on, present-off, present-pin, loadedPin, row-pin}
 use Rattle.incidence.specs.On.{on}
 use Rattle.connectivity.specs.Listed.{has}
 use Rattle.levels.specs.Link.{netAt, noNet, has-pin, reads}
 use Rattle.calls.specs.Tables.{Tables, Sound}
 use Rattle.calls.specs.Move.{Open, on-board, own-block, own-weight, in-range}
-use Rattle.choice.specs.Open.{SearchOk, gainIn}
+use Rattle.choice.specs.Open.{SearchOk, mayGo, roomFor, isCandidate, openIn}
 use Rattle.choice.specs.OpenLink.{Holds}
-use Rattle.search.specs.Marks.{PinsOk, NetsOk, near, near-yes, near-no}
+use Rattle.search.specs.Marks.{candidateBit, PinsOk, NetsOk, near, near-yes, near-no}
 
 module _ {h : Hypergraph} {cs : List Contraction} {block : ℕ → ℕ} {T : Tables} (s : Sound h cs block T) where
   -- ---- pins
@@ -100,3 +102,24 @@ module _ {h : Hypergraph} {cs : List Contraction} {block : ℕ → ℕ} {T : Tab
 
       at-one : (v : ℕ) → 1 ≤ v → above cs v ≡ 0 → above cs (v - 1 + 1) ≡ 0
       at-one v l q = ap (above cs) (back v l) ∙ q
+
+  -- an open pair of candidates on the board can be moved
+  pub pair-open : (marks : List ℕ) (limit v b : ℕ) → ((x : ℕ) → x < T .n → candidateBit marks x ≡ true → above cs (x + 1) ≡ 0) → (1 ≤ v) × (v ≤ T .n) × (1 ≤ b) × (b ≤ T .k)
+      → openIn marks (T .blocks) (T .weights) (T .loads) limit v b ≡ true → Open (T .blocks) (T .n) (T .k) (v - 1) b
+  pair-open marks limit v b bd i o =
+      let u-in : v - 1 < T .n = omega (arith, i .0, i .1) in
+      let c = bd (v - 1) u-in (and-left (isCandidate marks v) (mayGo (getD (T .loads) (b - 1) 0) (getD (T .blocks) (v - 1) 0) (getD (T .weights) (v - 1) 0) limit b) o) in
+      let m = and-right (isCandidate marks v) (mayGo (getD (T .loads) (b - 1) 0) (getD (T .blocks) (v - 1) 0) (getD (T .weights) (v - 1) 0) limit b) o in
+      record {
+        u-in = u-in;
+        on = omega (arith, own-block s (v - 1) u-in c, in-range s (v - 1) u-in c .0);
+        t-in = (i .2, i .3);
+        away = eqb-false _ _ (not-true _ (and-left (not (eqb (getD (T .blocks) (v - 1) 0) b)) (roomFor (getD (T .loads) (b - 1) 0) (getD (T .weights) (v - 1) 0) limit) m));
+      }
+
+-- a pair that was chosen is open
+pub chosen-open : (n k : ℕ) (may : ℕ → ℕ → Bool) (worth : ℕ → ℕ → ℤ) (v b : ℕ) (g : ℤ) → best v b g ≡ bestPair n k may worth → may v b ≡ true
+chosen-open n k may worth v b g q = is-open (subst (Top may worth (λ a c. (1 ≤ a) × (a ≤ n) × (1 ≤ c) × (c ≤ k))) (sym q) (best-top may worth k n))
+  where
+    is-open : Top may worth (λ a c. (1 ≤ a) × (a ≤ n) × (1 ≤ c) × (c ≤ k)) (best v b g) → may v b ≡ true
+    is-open t = t .open-pair

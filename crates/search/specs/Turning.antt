@@ -27,7 +27,7 @@ use Rattle.choice.specs.declared.open.Pick.the-variants.{Move as Step, Nothing}
 use Rattle.choice.specs.Open.{bestOf, gainIn, mayGo, roomFor, isCandidate, openIn, Chosen}
 use Rattle.choice.specs.OpenLink.{walk-is}
 use Rattle.search.specs.Marks.{candidateBit, movedBit, Marked, marked-more}
-use Rattle.search.specs.Tabled.{holds}
+use Rattle.search.specs.Tabled.{holds, pair-open, chosen-open}
 use Rattle.search.specs.Keeping.{keeps-none, keeps-more}
 use Rattle.search.specs.Back.{Backs, backs-none, RewindOk, Rewinds}
 use Rattle.search.specs.Steps.{Locals, locals, At, nextOf, TakeOk, Took, TurnOk, Onward, Turned, WalkOk, Going, Ended, Walks}
@@ -45,12 +45,9 @@ module _ (gains : List ℤ) (blocks weights loads marks : List ℕ) (n k limit t
   pub next-open : {r : Pick} (v b : ℕ) → Chosen (gainIn gains) n k r (nextOf gains blocks weights loads marks n k limit tried kept) → r ≡ Step v b → openIn marks blocks weights loads limit v b ≡ true
   next-open v b c e = go (leb (kept + patience) tried) (sym (ap (bestOf (gainIn gains)) e) ∙ c .same)
     where
-      is-open : Top (openIn marks blocks weights loads limit) (gainIn gains) (λ a c. (1 ≤ a) × (a ≤ n) × (1 ≤ c) × (c ≤ k)) (best v b (gainIn gains v b)) → openIn marks blocks weights loads limit v b ≡ true
-      is-open t = t .open-pair
-
       go : (t : Bool) → best v b (gainIn gains v b) ≡ cond t none (bestPair n k (openIn marks blocks weights loads limit) (gainIn gains)) → openIn marks blocks weights loads limit v b ≡ true
       go true q = let z : _≡_ {A = ℕ} 0 1 = cc in absurd (omega arith)
-      go false q = is-open (subst (Top (openIn marks blocks weights loads limit) (gainIn gains) (λ a c. (1 ≤ a) × (a ≤ n) × (1 ≤ c) × (c ≤ k))) (sym q) (best-top (openIn marks blocks weights loads limit) (gainIn gains) k n))
+      go false q = chosen-open n k (openIn marks blocks weights loads limit) (gainIn gains) v b (gainIn gains v b) q
 
 -- ---- the next move, as model's walk takes it
 abbrev next : (h : Hypergraph) (cs : List Contraction) → Walk → Best
@@ -67,19 +64,9 @@ module _ {h : Hypergraph} {cs : List Contraction} {w : Walk} {T : Tables} {L : L
       let e : v - 1 + 1 ≡ v = omega arith in
       A .chosen (v - 1) (omega arith) ∙ ap (λ (z : ℕ). w .candidate z && not (moved h cs w z) && onBoard cs z) e))
 
-  -- an open pair can be taken
-  pub open-ok : (limit v b : ℕ) → (1 ≤ v) × (v ≤ T .n) × (1 ≤ b) × (b ≤ T .k) → openIn (L .marks) (T .blocks) (T .weights) (T .loads) limit v b ≡ true → Open (T .blocks) (T .n) (T .k) (v - 1) b
-  open-ok limit v b i o =
-      let u-in : v - 1 < T .n = omega (arith, i .0, i .1) in
-      let c = and-left (isCandidate (L .marks) v) (mayGo (getD (T .loads) (b - 1) 0) (getD (T .blocks) (v - 1) 0) (getD (T .weights) (v - 1) 0) limit b) o in
-      let m = and-right (isCandidate (L .marks) v) (mayGo (getD (T .loads) (b - 1) 0) (getD (T .blocks) (v - 1) 0) (getD (T .weights) (v - 1) 0) limit b) o in
-      let bd : above cs (v - 1 + 1) ≡ 0 = eqb-true _ _ (and-right (w .candidate (v - 1 + 1) && not (moved h cs w (v - 1 + 1))) (onBoard cs (v - 1 + 1)) (sym (A .chosen (v - 1) u-in) ∙ c)) in
-      record {
-        u-in = u-in;
-        on = omega (arith, own-block (A .sound) (v - 1) u-in bd, in-range (A .sound) (v - 1) u-in bd .0);
-        t-in = (i .2, i .3);
-        away = eqb-false _ _ (not-true _ (and-left (not (eqb (getD (T .blocks) (v - 1) 0) b)) (roomFor (getD (T .loads) (b - 1) 0) (getD (T .weights) (v - 1) 0) limit) m));
-      }
+  -- a candidate is on the board
+  pub chosen-on : (x : ℕ) → x < T .n → candidateBit (L .marks) x ≡ true → above cs (x + 1) ≡ 0
+  chosen-on x l q = eqb-true _ _ (and-right (w .candidate (x + 1) && not (moved h cs w (x + 1))) (onBoard cs (x + 1)) (sym (A .chosen x l) ∙ q))
 
 module _ (h : Hypergraph) (cs : List Contraction) where
   on-next : (f : ℕ) (w : Walk) → walkOn h cs (suc f) w ≡ walkTurn h cs w (walkOn h cs f) (next h cs w)
@@ -119,7 +106,7 @@ module _ {T : List ℕ → List ℕ → Tables} {L : Locals} {limit turn : ℕ} 
         turn-to = ok .turn-to;
         tried-to = ok .tried-to;
         v-from = i .0;
-        open-pair = open-ok (ok .at) limit v b i (next-open (S .gains) (S .blocks) (S .weights) (S .loads) (L .marks) (S .n) (S .k) limit (L .tried) (L .kept) v b c e);
+        open-pair = pair-open (ok .at .sound) (L .marks) limit v b (chosen-on (ok .at)) i (next-open (S .gains) (S .blocks) (S .weights) (S .loads) (L .marks) (S .n) (S .k) limit (L .tried) (L .kept) v b c e);
       }
 
 -- no move
