@@ -11,3 +11,5 @@ pub mod Steps
 pub mod Taking
 pub mod Turning
 pub mod Whole
+pub mod Polishing
+pub mod Polished
