@@ -1,9 +1,9 @@
 // P, a greedy polish: over all vertices on the board, the best open pair is moved while its gain is at least 1.
-use calls::moves::go;
-use choice::open::best_open;
-use choice::open::Pick;
 use crate::marks::mark_vertex;
 use crate::numbers::index;
+use calls::moves::go;
+use choice::open::Pick;
+use choice::open::best_open;
 ghost use mathlib.Core.Path.{_≡_};
 ghost use mathlib.Core.List.{List};
 ghost use Prim.Native.Nat.{ℕ, _+_, _-_, _*_, _<_, _≤_};
