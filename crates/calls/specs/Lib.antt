@@ -3,7 +3,9 @@
 -- Tables  the tables as one record, and Sound, their invariant; Keeps, that what is not in use is untouched
 -- Total   the metric less a gain
 -- Move    a vertex goes to another block
+-- Join    a contraction and its undo
 pub mod Pairs
 pub mod Tables
 pub mod Total
 pub mod Move
+pub mod Join

@@ -19,19 +19,18 @@ use Rattle.laws.specs.Sum.{sumTo, sumTo-term}
 use Rattle.laws.specs.Place.{place, place-at, place-off}
 use Rattle.model.specs.Catalogue.{Hypergraph, vertices}
 use Rattle.model.specs.Measure.{Contraction, above, onBoard, weight, blockWeight, metric, gain}
-use Rattle.model.specs.Memory.{weightEntry, blockEntry}
+use Rattle.model.specs.Memory.{weightEntry}
 use Rattle.guarantees.specs.Ends.{placed-move}
 use Rattle.guarantees.specs.Weights.{blockWeight-move}
 use Rattle.guarantees.specs.Moves.{metric-gain}
 use Rattle.guarantees.specs.Bounds.{metric-le}
 use Rattle.guarantees.specs.WeightBounds.{weight-le, blockWeight-le, total-le}
 use Rattle.connectivity.specs.Raised.{at}
-use Rattle.connectivity.specs.Matrix.{Kept}
 use Rattle.connectivity.specs.Law.{small-of}
-use Rattle.levels.specs.World.{Moves, Moved}
-use Rattle.levels.specs.Link.{reads}
-use Rattle.levels.specs.Refine.{says-move}
-use Rattle.calls.specs.Tables.{Tables, tables, Fit, Sound, Past, Keeps}
+use Rattle.levels.specs.Running.{running}
+use Rattle.levels.specs.Operations.{MoveNeeds, MoveDoes}
+use Rattle.levels.specs.Reading.{reads}
+use Rattle.calls.specs.Tables.{Tables, tables, runningOf, Sound, Past, Keeps}
 use Rattle.calls.specs.Total.{Lowers}
 
 -- u, counted from 0, is on the board, and t is another block than its own
@@ -51,19 +50,17 @@ pub record Goes (T : Tables) (u t : ℕ) : Type 0 where
 
 -- ---- what sound tables tell of a vertex
 module _ {h : Hypergraph} {cs : List Contraction} {block : ℕ → ℕ} {T : Tables} (s : Sound h cs block T) (u : ℕ) (u-in : u < T .n) where
+  -- its entry names its block, 0 off the board
+  pub own-block : getD (T .blocks) u 0 ≡ block (u + 1)
+  own-block = s .follows .says .sits u u-in
+
   -- it is on the board, where its entry is a block
   pub on-board : 1 ≤ getD (T .blocks) u 0 → above cs (u + 1) ≡ 0
-  unfolding blockEntry
   on-board l = go (ℕ-discrete (above cs (u + 1)) 0)
     where
       go : Dec (above cs (u + 1) ≡ 0) → above cs (u + 1) ≡ 0
       go (yes q) = q
-      go (no q) = absurd (omega (arith, s .sits u u-in, cond-no (above cs (u + 1)) 0 (block (u + 1)) 0 q))
-
-  -- the block that its entry names
-  pub own-block : above cs (u + 1) ≡ 0 → getD (T .blocks) u 0 ≡ block (u + 1)
-  unfolding blockEntry
-  own-block q = s .sits u u-in ∙ cond-yes (above cs (u + 1)) 0 (block (u + 1)) 0 q
+      go (no q) = absurd (omega (arith, own-block, s .placed (u + 1) (omega arith) (omega (arith, s .follows .says .all-vertices)) .off q))
 
   -- its weight
   pub own-weight : above cs (u + 1) ≡ 0 → getD (T .weights) u 0 ≡ weight h cs (u + 1)
@@ -71,14 +68,14 @@ module _ {h : Hypergraph} {cs : List Contraction} {block : ℕ → ℕ} {T : Tab
   own-weight q = s .weighs u u-in ∙ cond-yes (above cs (u + 1)) 0 (weight h cs (u + 1)) _ q
 
   pub in-range : above cs (u + 1) ≡ 0 → (1 ≤ block (u + 1)) × (block (u + 1) ≤ T .k)
-  in-range q = let r = s .placed (u + 1) (omega arith) (omega (arith, s .says .all-vertices)) .board q in (r .0, omega (arith, r .1, s .says .all-blocks))
+  in-range q = let r = s .placed (u + 1) (omega arith) (omega (arith, s .follows .says .all-vertices)) .board q in (r .0, omega (arith, r .1, s .follows .says .all-blocks))
 
   -- its block bears its weight
   pub own-load : above cs (u + 1) ≡ 0 → weight h cs (u + 1) ≤ blockWeight h cs block (block (u + 1))
   unfolding blockWeight
   own-load q = omega (
     arith,
-    sumTo-term (vertices h) (u + 1) (λ x. cond (onBoard cs x && eqb (block x) (block (u + 1))) (weight h cs x) 0) (omega arith) (omega (arith, s .says .all-vertices)),
+    sumTo-term (vertices h) (u + 1) (λ x. cond (onBoard cs x && eqb (block x) (block (u + 1))) (weight h cs x) 0) (omega arith) (omega (arith, s .follows .says .all-vertices)),
     ap (λ (b : Bool). cond (b && eqb (block (u + 1)) (block (u + 1))) (weight h cs (u + 1)) 0) (eq-eqb (above cs (u + 1)) 0 q),
     ap (λ (b : Bool). cond b (weight h cs (u + 1)) 0) (eq-eqb (block (u + 1)) (block (u + 1)) refl),
   )
@@ -99,7 +96,7 @@ pub record Went (T T′ : Tables) (u t : ℕ) : Type 0 where
   pub sound : (h : Hypergraph) (cs : List Contraction) (block : ℕ → ℕ) → Sound h cs block T → Sound h cs (place block (u + 1) t) T′
   pub keeps : Keeps T T′
 
-past-same : (n : ℕ) (l : List ℕ) → Past n l l
+pub past-same : (n : ℕ) (l : List ℕ) → Past n l l
 past-same n l = record { len = refl; past = λ i q. refl }
 
 pub past-set : (n i x : ℕ) (l : List ℕ) → i < n → Past n l (set l i x)
@@ -110,23 +107,23 @@ module _ {h : Hypergraph} {cs : List Contraction} {block : ℕ → ℕ} {T : Tab
   on = on-board s u (o .u-in) (o .on)
 
   own : getD (T .blocks) u 0 ≡ block (u + 1)
-  own = own-block s u (o .u-in) on
+  own = own-block s u (o .u-in)
 
   elsewhere : block (u + 1) ≡ t → ⊥
   elsewhere q = o .away (own ∙ q)
 
-  pub moves-ok : Moves (T .netWeights) (T .counts) (T .visited) (T .pins) (T .blocks) (T .firsts) (T .sizes) (T .gains) (T .n) (T .m) (T .k) u t
-  moves-ok = record { world = s .world; u-in = o .u-in; t-in = o .t-in }
+  pub moves-ok : MoveNeeds (runningOf T) (T .n) (T .m) (T .k) u t
+  moves-ok = record { h = h; cs = cs; block = block; loaded = T .loaded; follows = s .follows; on-board = on; u-in = o .u-in; t-in = o .t-in }
 
   gain-read : at (T .gains) (16 * u + (t - 1)) ≡ gain h cs block (u + 1) t
   gain-read =
       let e : t - 1 + 1 ≡ t = omega arith in
-      reads (s .says) (s .world) .gained u (t - 1) (o .u-in) (omega arith) (in-range s u (o .u-in) on .0) ∙ ap (gain h cs block (u + 1)) e
+      reads (s .follows) .gained u (t - 1) (o .u-in) (omega (arith, o .t-in)) ∙ ap (gain h cs block (u + 1)) e
 
   after-is : pos (metric h cs (place block (u + 1) t)) ≡ pos (T .total) -ℤ at (T .gains) (16 * u + (t - 1))
   after-is =
       let r = in-range s u (o .u-in) on in
-      metric-gain h cs block (u + 1) t (omega arith) (omega (arith, s .says .all-vertices)) (r .0) (omega (arith, r .1, s .says .all-blocks)) (o .t-in .0) (omega (arith, s .says .all-blocks)) elsewhere
+      metric-gain h cs block (u + 1) t (omega arith) (omega (arith, s .follows .says .all-vertices)) (r .0) (omega (arith, r .1, s .follows .says .all-blocks)) (o .t-in .0) (omega (arith, s .follows .says .all-blocks)) elsewhere
       ∙ sym (cc (s .total-is, gain-read))
 
   pub lower-ok : Lowers (T .total) (at (T .gains) (16 * u + (t - 1)))
@@ -150,10 +147,10 @@ module _ {h : Hypergraph} {cs : List Contraction} {block : ℕ → ℕ} {T : Tab
   loads-move j lj = go (ℕ-discrete j (t - 1)) (ℕ-discrete j (getD (T .blocks) u 0 - 1))
     where
       law : blockWeight h cs (place block (u + 1) t) (j + 1) + cond (eqb (block (u + 1)) (j + 1)) (weight h cs (u + 1)) 0 ≡ blockWeight h cs block (j + 1) + cond (eqb t (j + 1)) (weight h cs (u + 1)) 0
-      law = blockWeight-move h cs block (u + 1) t (omega arith) (omega (arith, s .says .all-vertices)) on (j + 1)
+      law = blockWeight-move h cs block (u + 1) t (omega arith) (omega (arith, s .follows .says .all-vertices)) on (j + 1)
 
       few : T .k ≤ 16
-      few = s .world .frame .few
+      few = s .follows .world .frame .few
 
       go : Dec (j ≡ t - 1) → Dec (j ≡ own-entry - 1) → getD (set less (t - 1) (getD less (t - 1) 0 + own-weight-entry)) j 0 ≡ blockWeight h cs (place block (u + 1) t) (j + 1)
       go (yes p) (yes q) = absurd (o .away (omega (arith, o .t-in .0, o .on)))
@@ -198,38 +195,21 @@ module _ {h : Hypergraph} {cs : List Contraction} {block : ℕ → ℕ} {T : Tab
           )
 
   module _ {counts visited blocks loads : List ℕ} {gains : List ℤ} {total : ℕ}
-      (q : Moved (T .netWeights) (T .pins) (T .firsts) (T .sizes) (T .n) (T .m) (T .k) u t (T .blocks) blocks (T .counts) counts (T .visited) visited (T .gains) gains)
+      (q : MoveDoes (runningOf T) (running counts visited gains (T .pins) (T .sizes) (T .bits) blocks (T .netWeights) (T .firsts)) (T .n) (T .m) (T .k) u t)
       (l : loads ≡ shifted (T .loads) (getD (T .blocks) u 0) t (getD (T .weights) u 0))
       (d : pos total ≡ pos (T .total) -ℤ at (T .gains) (16 * u + (t - 1))) where
     abbrev T′ : Tables
     T′ = tables counts visited gains (T .pins) (T .sizes) (T .bits) blocks (T .weights) (T .aboves) loads (T .netWeights) (T .firsts) (T .loaded) (T .n) (T .m) (T .k) total
-
-    fits-blocks : u < length (T .blocks)
-    fits-blocks = omega (arith, s .world .lists .blocks-fit)
-
-    sits-move : (y : ℕ) → y < T .n → getD blocks y 0 ≡ blockEntry h cs (place block (u + 1) t) (y + 1)
-    unfolding blockEntry
-    sits-move y ly = ap (λ (z : List ℕ). getD z y 0) (q .block) ∙ go (ℕ-discrete y u)
-      where
-        go : Dec (y ≡ u) → getD (set (T .blocks) u t) y 0 ≡ cond (onBoard cs (y + 1)) (place block (u + 1) t (y + 1)) 0
-        go (yes e) = rw e (getD-set-same (T .blocks) u t 0 fits-blocks ∙ sym (cond-yes (above cs (u + 1)) 0 (place block (u + 1) t (u + 1)) 0 on ∙ place-at block (u + 1) t))
-        go (no e) =
-            getD-set-other (T .blocks) u y t 0 e
-            ∙ s .sits y ly
-            ∙ ap (λ (z : ℕ). cond (onBoard cs (y + 1)) z 0) (sym (place-off block (u + 1) t (y + 1) (λ r. e (omega arith))))
 
     pub sound-move : Sound h cs (place block (u + 1) t) T′
     unfolding weightEntry
     sound-move = record {
       fit = s .fit;
       inside = s .inside;
-      placed = placed-move h cs block (u + 1) t (s .placed) on (o .t-in .0) (omega (arith, s .says .all-blocks));
-      says = says-move u t fits-blocks (q .block) (s .says);
-      room = s .room;
-      world = q .world;
-      no-more-blocks = λ e j le lj. q .kept .of-tally .masks-past e j lj ∙ s .no-more-blocks e j le lj;
+      placed = placed-move h cs block (u + 1) t (s .placed) on (o .t-in .0) (omega (arith, s .follows .says .all-blocks));
+      follows = q .follows h cs block (T .loaded) (s .follows);
+      no-more-blocks = λ e j le lj. q .untouched (T .loaded) .tables .of-tally .masks-past e j lj ∙ s .no-more-blocks e j le lj;
       weighs = s .weighs;
-      sits = sits-move;
       hangs = s .hangs;
       bears = λ j lj. ap (λ (z : List ℕ). getD z j 0) l ∙ loads-move j lj;
       total-is = pos-inj (d ∙ sym after-is);
@@ -238,17 +218,10 @@ module _ {h : Hypergraph} {cs : List Contraction} {block : ℕ → ℕ} {T : Tab
       loads-fit = ap length l ∙ length-set less (t - 1) (getD less (t - 1) 0 + own-weight-entry) ∙ length-set (T .loads) (own-entry - 1) (getD (T .loads) (own-entry - 1) 0 - own-weight-entry) ∙ s .loads-fit;
     }
 
-pub keeps-move : {T : Tables} {counts visited blocks loads : List ℕ} {gains : List ℤ} {total u t : ℕ} → u < T .n
-    → Moved (T .netWeights) (T .pins) (T .firsts) (T .sizes) (T .n) (T .m) (T .k) u t (T .blocks) blocks (T .counts) counts (T .visited) visited (T .gains) gains
+pub keeps-move : {T : Tables} {counts visited blocks loads : List ℕ} {gains : List ℤ} {total u t : ℕ}
+    → MoveDoes (runningOf T) (running counts visited gains (T .pins) (T .sizes) (T .bits) blocks (T .netWeights) (T .firsts)) (T .n) (T .m) (T .k) u t
     → Keeps T (tables counts visited gains (T .pins) (T .sizes) (T .bits) blocks (T .weights) (T .aboves) loads (T .netWeights) (T .firsts) (T .loaded) (T .n) (T .m) (T .k) total)
-keeps-move {T} {u = u} {t = t} u-in q = record {
-  kept = q .kept;
-  pins = record { len = refl; around = λ i r. refl };
-  sizes = past-same (T .m) (T .sizes);
-  blocks = rw (q .block) (past-set (T .n) u t (T .blocks) u-in);
-  weights = past-same (T .n) (T .weights);
-  aboves = past-same (T .n) (T .aboves);
-}
+keeps-move {T} q = record { running = q .untouched (T .loaded); weights = past-same (T .n) (T .weights); aboves = past-same (T .n) (T .aboves) }
 
 -- the loads are long enough for both blocks, and neither passes its range
 pub record Shifts (loads : List ℕ) (s t w : ℕ) : Type 0 where
@@ -270,17 +243,17 @@ module _ {h : Hypergraph} {cs : List Contraction} {block : ℕ → ℕ} {T : Tab
   up-on = on-board s u (o .u-in) (o .on)
 
   pub gain-small : mag (at (T .gains) (16 * u + (t - 1))) < 2 ^ 31
-  gain-small = omega (arith, abs-is (at (T .gains) (16 * u + (t - 1))), small-of (s .world .stands) (s .world .frame .nets) (s .world .frame .weight) u (t - 1) (o .u-in) (omega (arith, o .t-in)))
+  gain-small = omega (arith, abs-is (at (T .gains) (16 * u + (t - 1))), small-of (s .follows .world .stands) (s .follows .world .frame .few-nets) (s .follows .world .frame .weight) u (t - 1) (o .u-in) (omega (arith, o .t-in)))
 
   pub lower-needs : (b : ℕ) → b ≡ t → Lowers (T .total) (toZ w32 (ofZ w32 (at (T .gains) (16 * u + (b - 1)))))
   lower-needs b q = rw (q, read32 (at (T .gains) (16 * u + (t - 1))) gain-small) (lower-ok s u t o)
 
   pub shift-needs : (a b w : ℕ) → a ≡ getD (T .blocks) u 0 → b ≡ t → w ≡ getD (T .weights) u 0 → Shifts (T .loads) a b w
   shift-needs a b w qa qb qw =
-      let own-is : a ≡ block (u + 1) = qa ∙ own-block s u (o .u-in) up-on in
+      let own-is : a ≡ block (u + 1) = qa ∙ own-block s u (o .u-in) in
       let r = in-range s u (o .u-in) up-on in
       let heavy : w ≡ weight h cs (u + 1) = qw ∙ own-weight s u (o .u-in) up-on in
-      let few : T .k ≤ 16 = s .world .frame .few in
+      let few : T .k ≤ 16 = s .follows .world .frame .few in
       record {
         len = s .loads-fit;
         s-in = omega (arith, r .0, r .1);
@@ -298,7 +271,7 @@ module _ {h : Hypergraph} {cs : List Contraction} {block : ℕ → ℕ} {T : Tab
 
 module _ (T : Tables) {u t : ℕ} (o : Open (T .blocks) (T .n) (T .k) u t) (f : mag (at (T .gains) (16 * u + (t - 1))) < 2 ^ 31)
     {counts visited blocks loads : List ℕ} {gains : List ℤ} {total b w a : ℕ} (qa : a ≡ getD (T .blocks) u 0) (qb : b ≡ t) (qw : w ≡ getD (T .weights) u 0)
-    (q : Moved (T .netWeights) (T .pins) (T .firsts) (T .sizes) (T .n) (T .m) (T .k) u t (T .blocks) blocks (T .counts) counts (T .visited) visited (T .gains) gains)
+    (q : MoveDoes (runningOf T) (running counts visited gains (T .pins) (T .sizes) (T .bits) blocks (T .netWeights) (T .firsts)) (T .n) (T .m) (T .k) u t)
     (l : loads ≡ shifted (T .loads) a b w)
     (d : pos total ≡ pos (T .total) -ℤ toZ w32 (ofZ w32 (at (T .gains) (16 * u + (b - 1))))) where
   loads-are : loads ≡ shifted (T .loads) (getD (T .blocks) u 0) t (getD (T .weights) u 0)
@@ -310,5 +283,5 @@ module _ (T : Tables) {u t : ℕ} (o : Open (T .blocks) (T .n) (T .k) u t) (f : 
   pub went : Went T (tables counts visited gains (T .pins) (T .sizes) (T .bits) blocks (T .weights) (T .aboves) loads (T .netWeights) (T .firsts) (T .loaded) (T .n) (T .m) (T .k) total) u t
   went = record {
     sound = λ h cs block s. sound-move s u t o q loads-are total-is;
-    keeps = keeps-move (o .u-in) q;
+    keeps = keeps-move q;
   }

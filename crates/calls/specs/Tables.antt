@@ -2,22 +2,18 @@
 -- that entries which the catalogue has no use for are untouched. Rests on levels. Assumes nothing.
 use Prim.Native.Nat.{ℕ, zero, suc, _+_, _*_, _-_, _<_, _≤_}
 use mathlib.Core.Path.{_≡_}
-use mathlib.Core.Logic.{_⊎_}
 use mathlib.Core.List.{List}
 use lib.ListN.{length, getD}
 use lib.IntN.{ℤ}
 use Rattle.laws.specs.Bit.{bit}
 use Rattle.model.specs.Catalogue.{Limits, Hypergraph}
 use Rattle.model.specs.Measure.{Contraction, above, blockWeight, metric}
-use Rattle.model.specs.Memory.{weightEntry, blockEntry}
+use Rattle.model.specs.Memory.{weightEntry}
 use Rattle.guarantees.specs.Climbs.{Sound as SoundStack}
 use Rattle.guarantees.specs.Splits.{AllInside}
 use Rattle.guarantees.specs.Ends.{Placed}
 use Rattle.guarantees.specs.Ranges.{Ranges}
-use Rattle.connectivity.specs.Matrix.{Kept}
-use Rattle.pins.specs.Board.{Room}
-use Rattle.levels.specs.World.{World}
-use Rattle.levels.specs.Link.{Says}
+use Rattle.levels.specs.Running.{Running, running, Follows, Untouched}
 
 -- Nets: counts, connectivity sets, their stretches of pins, weights. Vertices: gains, incidence bits, blocks, weights, the vertex
 -- above. Blocks: loads, which are their weights. Then the numbers of vertices, nets and blocks, and the metric
@@ -61,6 +57,10 @@ tables counts visited gains pins sizes bits blocks weights aboves loads netWeigh
   total = total;
 }
 
+-- those of them that levels' operations run on
+abbrev pub runningOf : Tables → Running
+runningOf T = running (T .counts) (T .visited) (T .gains) (T .pins) (T .sizes) (T .bits) (T .blocks) (T .netWeights) (T .firsts)
+
 -- a catalogue within the ranges of document 01
 pub record Fit (h : Hypergraph) : Type 0 where
   pub limits : Limits
@@ -73,15 +73,11 @@ pub record Sound (h : Hypergraph) (cs : List Contraction) (block : ℕ → ℕ) 
   pub fit : Fit h
   pub inside : AllInside h cs
   pub placed : Placed h cs block
-  -- pin lists, incidence and net weights
-  pub says : Says h cs block (T .netWeights) (T .pins) (T .blocks) (T .firsts) (T .sizes) (T .loaded) (T .bits) (T .n) (T .m) (T .k)
-  pub room : Room (T .pins) (T .firsts) (T .sizes) (T .loaded) (T .bits) (T .n) (T .m)
-  -- counts, connectivity sets and gains
-  pub world : World (T .netWeights) (T .counts) (T .visited) (T .pins) (T .blocks) (T .firsts) (T .sizes) (T .gains) (T .n) (T .m) (T .k)
+  -- pin lists, incidence, net weights and blocks; counts, connectivity sets and gains
+  pub follows : Follows h cs block (T .loaded) (runningOf T) (T .n) (T .m) (T .k)
   pub no-more-blocks : (e j : ℕ) → e < T .m → T .k ≤ j → bit (getD (T .visited) e 0) j ≡ 0
-  -- the vertices' records, and the blocks' weights
+  -- the vertices' weights and the vertices above, and the blocks' weights
   pub weighs : (y : ℕ) → y < T .n → getD (T .weights) y 0 ≡ weightEntry h cs block (y + 1)
-  pub sits : (y : ℕ) → y < T .n → getD (T .blocks) y 0 ≡ blockEntry h cs block (y + 1)
   pub hangs : (y : ℕ) → y < T .n → getD (T .aboves) y 0 ≡ above cs (y + 1)
   pub bears : (j : ℕ) → j < T .k → getD (T .loads) j 0 ≡ blockWeight h cs block (j + 1)
   pub total-is : T .total ≡ metric h cs block
@@ -94,16 +90,8 @@ pub record Past (n : ℕ) (l l′ : List ℕ) : Type 0 where
   pub len : length l′ ≡ length l
   pub past : (i : ℕ) → n ≤ i → getD l′ i 0 ≡ getD l i 0
 
--- the pins outside the loaded stretches are the same
-pub record Around (firsts loaded : List ℕ) (m : ℕ) (l l′ : List ℕ) : Type 0 where
-  pub len : length l′ ≡ length l
-  pub around : (i : ℕ) → ((e : ℕ) → e < m → (i < getD firsts e 0) ⊎ (getD firsts e 0 + getD loaded e 0 ≤ i)) → getD l′ i 0 ≡ getD l i 0
-
 -- what is not in use is untouched
 pub record Keeps (T T′ : Tables) : Type 0 where
-  pub kept : Kept (T .n) (T .m) (T .k) (T .counts) (T′ .counts) (T .visited) (T′ .visited) (T .gains) (T′ .gains)
-  pub pins : Around (T .firsts) (T .loaded) (T .m) (T .pins) (T′ .pins)
-  pub sizes : Past (T .m) (T .sizes) (T′ .sizes)
-  pub blocks : Past (T .n) (T .blocks) (T′ .blocks)
+  pub running : Untouched (T .loaded) (T .n) (T .m) (T .k) (runningOf T) (runningOf T′)
   pub weights : Past (T .n) (T .weights) (T′ .weights)
   pub aboves : Past (T .n) (T .aboves) (T′ .aboves)

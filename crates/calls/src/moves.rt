@@ -78,6 +78,7 @@ pub fn go(
         pins,
         firsts,
         sizes,
+        bits,
         n,
         m,
         k,

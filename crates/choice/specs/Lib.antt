@@ -1,7 +1,19 @@
 -- The two choices of a search, each equal to model's choice.
--- Open     the best open pair, as the tables have it
--- OpenLaw  the laws that the proofs of `best_open` cite
--- OpenLink  that pair is the one that a walk or a polish of model takes, where the tables hold its state
+-- Open        the best open pair, as the tables have it
+-- OpenLaw     its laws
+-- OpenLink    it is the pair that a walk or a polish of model takes, where the tables hold its state
+-- Rating      ratings, as the tables have them
+-- RatingLaw   ratings added up over the nets of a vertex; no rating passes the sum of the terms of its own nets
+-- PartnerLaw  the best partner of a vertex
+-- JoinLaw     the best pair to contract, row by row
+-- JoinPair    it is model's best pair
+-- JoinLink    it is the pair that model contracts, where the tables hold its state
 pub mod Open
 pub mod OpenLaw
 pub mod OpenLink
+pub mod Rating
+pub mod RatingLaw
+pub mod PartnerLaw
+pub mod JoinLaw
+pub mod JoinPair
+pub mod JoinLink

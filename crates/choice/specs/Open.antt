@@ -5,7 +5,7 @@ use mathlib.Core.List.{List}
 use mathlib.Core.Bool.{Bool, true, not, _&&_, cond}
 use Prim.Native.Nat.{ℕ, _+_, _-_, _*_, _≤_, _<_}
 use lib.Dec.{leb, eqb}
-use lib.ListN.{length, getD}
+use lib.ListN.{getD}
 use lib.IntN.{ℤ, pos}
 use lib.Signed.{ltZ}
 use Rattle.incidence.specs.On.{on}
@@ -40,7 +40,7 @@ mayGo load own weight capacity b = not (eqb own b) && roomFor load weight capaci
 abbrev pub isCandidate : List ℕ → ℕ → Bool
 isCandidate candidates v = eqb (on candidates 0 (v - 1)) 1
 
--- the pair is open
+-- the pair is open: v is a candidate, b is not its block, and has room for it. `loads` are the blocks' weights
 abbrev pub openIn : (candidates blocks weights loads : List ℕ) (capacity : ℕ) → ℕ → ℕ → Bool
 openIn candidates blocks weights loads capacity v b =
     isCandidate candidates v && mayGo (getD loads (b - 1) 0) (getD blocks (v - 1) 0) (getD weights (v - 1) 0) capacity b

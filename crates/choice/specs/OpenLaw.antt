@@ -2,24 +2,24 @@
 -- Assumes nothing.
 use mathlib.Core.Path.{_≡_, refl, sym, ap, _∙_, subst}
 use mathlib.Core.List.{List}
-use mathlib.Core.Bool.{Bool, true, false, not, _&&_, cond, true≢false}
-use Prim.Native.Nat.{ℕ, zero, suc, _+_, _-_, _*_, _≤_, _<_, _^_}
+use mathlib.Core.Bool.{Bool, true, false, _&&_, true≢false}
+use Prim.Native.Nat.{ℕ, _+_, _-_, _≤_, _<_, _^_}
 use native.Mathlib.Omega.{arith}
 use lib.Dec.{leb, eqb}
-use lib.ListN.{length, getD}
-use lib.IntN.{ℤ, pos}
+use lib.ListN.{getD}
+use lib.IntN.{ℤ}
 use lib.Signed.{ltZ, mag}
 use mir.Syntax.{w32}
 use mir.Val.{ofZ, toZ}
 use borrow.Author.Tests.{le-leb, lt-leb, leb-true, leb-false, eq-eqb, ne-eqb}
 use Rattle.laws.specs.Integer.{read32}
-use Rattle.laws.specs.Sum.{foldTo, foldTo-zero, foldTo-step, foldTo-ext, foldTo-skip}
+use Rattle.laws.specs.Sum.{foldTo-zero, foldTo-step, foldTo-skip}
 use Rattle.model.specs.Search.{Best, none, best, better, consider, bestPair}
 use Rattle.guarantees.specs.Tops.{Top, best-top}
 use Rattle.incidence.specs.On.{on, Next}
 use Rattle.choice.specs.declared.open.Pick.{Pick}
 use Rattle.choice.specs.declared.open.Pick.the-variants.{Move, Nothing}
-use Rattle.choice.specs.Open.{bestOf, PickIn, gainIn, roomFor, mayGo, isCandidate, openIn, exceeds, considered, bestInRow, bestTo, Chosen}
+use Rattle.choice.specs.Open.{bestOf, PickIn, gainIn, roomFor, mayGo, openIn, exceeds, considered, bestInRow, bestTo, Chosen}
 
 pub room-none : (load weight capacity : ℕ) → capacity < weight → false ≡ roomFor load weight capacity
 room-none load weight capacity h = sym (lt-leb (load + weight) capacity (omega arith))
@@ -155,3 +155,8 @@ module _ (candidates blocks weights loads : List ℕ) (capacity : ℕ) (worth : 
       range : (r : Pick) → Top may worth In (bestOf worth r) → PickIn n k r
       range Nothing t = tt
       range (Move v b) t = t .there
+
+-- the pair that is answered is open
+pub pick-open : (may : ℕ → ℕ → Bool) (worth : ℕ → ℕ → ℤ) (n k v b : ℕ) (r : Pick) → r ≡ Move v b → Chosen worth n k r (bestPair n k may worth) → may v b ≡ true
+pick-open may worth n k v b r e c =
+    subst (Top may worth (λ a d. (1 ≤ a) × (a ≤ n) × (1 ≤ d) × (d ≤ k))) (sym (c .same) ∙ ap (bestOf worth) e) (best-top may worth k n) .open-pair

@@ -10,8 +10,8 @@ use lib.IntN.{ℤ}
 use Rattle.laws.specs.Choice.{and-left, and-right}
 use Rattle.laws.specs.Fold.{any}
 use Rattle.model.specs.Catalogue.{Hypergraph, vertices, capacity}
-use Rattle.model.specs.Measure.{Contraction, onBoard, weight, blockWeight, gain, hasRoom}
-use Rattle.model.specs.Search.{Best, bestPair, Walk, mayMove, canGo, isOpen, walkBest, polishBest}
+use Rattle.model.specs.Measure.{Contraction, weight, blockWeight, gain, hasRoom}
+use Rattle.model.specs.Search.{bestPair, Walk, mayMove, canGo, isOpen, walkBest, polishBest}
 use Rattle.guarantees.specs.Tops.{bestPair-ext}
 use Rattle.choice.specs.Open.{gainIn, mayGo, isCandidate, openIn}
 

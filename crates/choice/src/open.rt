@@ -1,32 +1,23 @@
 // The best open pair: the search over the candidates, in increasing order, and over the blocks. Ties go to the lowest vertex, then to the
 // lowest block.
+use crate::numbers::wide;
+use crate::numbers::wide32;
 use incidence::next_net;
 ghost use mathlib.Core.Path.{_≡_};
-ghost use mathlib.Core.Bool.{not, _&&_};
-ghost use Prim.Native.Nat.{ℕ, _+_, _-_, _*_, _<_, _≤_};
+ghost use Prim.Native.Nat.{_+_, _-_, _*_, _<_, _≤_};
 ghost use lib.ListN.{length, getD};
 ghost use lib.Signed.{ltZ};
-ghost use Rattle.incidence.specs.On.{on, Next};
+ghost use Rattle.incidence.specs.On.{Next};
 ghost use Rattle.model.specs.Search.{bestPair};
 ghost use Rattle.choice.specs.Open.{bestOf, gainIn, roomFor, mayGo, openIn, exceeds, considered, bestInRow, Chosen, PairOk, RowOk, VertexOk, SearchOk};
 
+// The open pair to take, or that no pair is open.
 pub enum Pick {
     Move { vertex: u16, block: u16 },
     Nothing,
 }
 
-fn wide(x: u16) -> usize
-    ensures { λ r. ⌜ r ≡ x ⌝ }
-{
-    x as usize
-}
-
-fn wide32(x: u32) -> u64
-    ensures { λ r. ⌜ r ≡ x ⌝ }
-{
-    x as u64
-}
-
+// Whether one gain is below another.
 fn less(a: i32, b: i32) -> bool
     ensures { λ r. ⌜ r ≡ ltZ a b ⌝ }
 {
@@ -144,7 +135,8 @@ fn next_candidate(candidates: &[u64], from: usize, n: usize) -> usize
     next_net(candidates, 0, from, n)
 }
 
-// The open pair of highest gain, then lowest vertex, then lowest block.
+// The open pair of highest gain, then lowest vertex, then lowest block: vertices and blocks count from 1. `loads` are the blocks' weights,
+// `candidates` a row of bits in which vertex v is bit v - 1.
 pub fn best_open(
     gains: &[i32],
     blocks: &[u16],

@@ -1,23 +1,22 @@
--- The rules of the critical counts: what the gains of a net's other pins change by when its pin `x` goes from the block `a` to `b`. Assumes nothing.
-use Prim.Native.Nat.{ℕ, zero, suc, _+_, _*_, _-_, _<_, _≤_}
-use mathlib.Core.Path.{_≡_, refl, sym, ap, _∙_, subst}
+-- The rules of the critical counts: what the gains of a net's other pins change by when its pin x goes from the block a to b. Rests on Row.
+use Prim.Native.Nat.{ℕ, _+_, _-_, _<_, _≤_}
+use mathlib.Core.Path.{_≡_, refl, sym, ap, _∙_}
 use mathlib.Core.Bool.{Bool, true, false, cond}
-use mathlib.Core.Logic.{⊎-elim}
 use native.Mathlib.Omega.{arith}
 use native.Mathlib.Decide.{ℕ-discrete}
-use borrow.Author.Tests.{eq-eqb, ne-eqb, eqb-true, eqb-false}
+use borrow.Author.Tests.{eq-eqb, ne-eqb}
 use lib.Dec.{eqb}
-use lib.IntN.{ℤ, pos, natAbs, _+ℤ_, _-ℤ_, negℤ}
-use Rattle.laws.specs.Integer.{eq-by, add-is, sub-is, neg-is, pos-is, abs-is}
+use lib.IntN.{ℤ, pos, _+ℤ_, _-ℤ_, negℤ}
+use Rattle.laws.specs.Integer.{eq-by, add-is, sub-is, neg-is, pos-is}
 use Rattle.laws.specs.Choice.{one}
-use Rattle.laws.specs.Place.{place, place-at, place-off}
-use Rattle.connectivity.specs.Share.{when}
-use Rattle.connectivity.specs.Matrix.{cnt, shareOf}
-use Rattle.connectivity.specs.Row.{cnt-put}
+use Rattle.laws.specs.Place.{place, place-off}
+use Rattle.connectivity.specs.Share.{when, when-le}
+use Rattle.connectivity.specs.Matrix.{rowCount, shareOf}
+use Rattle.connectivity.specs.Row.{rowCount-place}
 
 -- of a vertex of the block `o`, at the block `c`: `w` at each block but `a`, if `o` is `a` and the count `f` is `want`
-unfoldable pub rowbut : ℕ → ℕ → ℕ → ℕ → ℕ → ℕ → ℕ
-rowbut f want o a w c = cond (eqb o a) (cond (eqb c a) 0 (when f want w)) 0
+unfoldable pub rowBut : ℕ → ℕ → ℕ → ℕ → ℕ → ℕ → ℕ
+rowBut f want o a w c = cond (eqb o a) (cond (eqb c a) 0 (when f want w)) 0
 
 -- `w` at the block `a`, if the count `f` is `want`
 unfoldable pub single : ℕ → ℕ → ℕ → ℕ → ℕ → ℕ
@@ -26,7 +25,7 @@ single f want a w c = cond (eqb c a) (when f want w) 0
 -- all four rules: `fa` and `fb` are the counts before
 unfoldable pub delta : (a b fa fb w o c : ℕ) → ℤ
 delta a b fa fb w o c = cond (eqb o 0) (pos 0)
-    (((pos (rowbut fa 2 o a w c) +ℤ negℤ (pos (rowbut fb 1 o b w c))) +ℤ negℤ (pos (single fa 1 a w c))) +ℤ pos (single fb 0 b w c))
+    (((pos (rowBut fa 2 o a w c) +ℤ negℤ (pos (rowBut fb 1 o b w c))) +ℤ negℤ (pos (single fa 1 a w c))) +ℤ pos (single fb 0 b w c))
 
 pub when-no : (n want w : ℕ) → (n ≡ want → ⊥) → when n want w ≡ 0
 unfolding when
@@ -43,34 +42,26 @@ when-iff n p n′ p′ w f g = by (ℕ-discrete n p)
     by (yes q) = when-yes n p w q ∙ sym (when-yes n′ p′ w (f q))
     by (no q) = when-no n p w q ∙ sym (when-no n′ p′ w (λ z. q (g z)))
 
-pub when-le : (n want w : ℕ) → when n want w ≤ w
-unfolding when
-when-le n want w = by (eqb n want)
-  where
-    by : (t : Bool) → cond t w 0 ≤ w
-    by true = omega arith
-    by false = omega arith
-
 module _ (f want : ℕ) where
-  pub rowbut-other : (o a w c : ℕ) → (o ≡ a → ⊥) → rowbut f want o a w c ≡ 0
-  unfolding rowbut
-  rowbut-other o a w c ne = rw (ne-eqb o a ne)
+  pub rowBut-other : (o a w c : ℕ) → (o ≡ a → ⊥) → rowBut f want o a w c ≡ 0
+  unfolding rowBut
+  rowBut-other o a w c ne = rw (ne-eqb o a ne)
 
-  pub rowbut-own : (o a w c : ℕ) → c ≡ a → rowbut f want o a w c ≡ 0
-  unfolding rowbut
-  rowbut-own o a w c e = by (eqb o a)
+  pub rowBut-own : (o a w c : ℕ) → c ≡ a → rowBut f want o a w c ≡ 0
+  unfolding rowBut
+  rowBut-own o a w c e = by (eqb o a)
     where
       by : (t : Bool) → cond t (cond (eqb c a) 0 (when f want w)) 0 ≡ 0
       by true = rw (eq-eqb c a e)
       by false = refl
 
-  pub rowbut-here : (o a w c : ℕ) → o ≡ a → (c ≡ a → ⊥) → rowbut f want o a w c ≡ when f want w
-  unfolding rowbut
-  rowbut-here o a w c e ne = rw (eq-eqb o a e, ne-eqb c a ne)
+  pub rowBut-here : (o a w c : ℕ) → o ≡ a → (c ≡ a → ⊥) → rowBut f want o a w c ≡ when f want w
+  unfolding rowBut
+  rowBut-here o a w c e ne = rw (eq-eqb o a e, ne-eqb c a ne)
 
-  pub rowbut-le : (o a w c : ℕ) → rowbut f want o a w c ≤ w
-  unfolding rowbut
-  rowbut-le o a w c = by (eqb o a) (eqb c a)
+  pub rowBut-le : (o a w c : ℕ) → rowBut f want o a w c ≤ w
+  unfolding rowBut
+  rowBut-le o a w c = by (eqb o a) (eqb c a)
     where
       by : (s t : Bool) → cond s (cond t 0 (when f want w)) 0 ≤ w
       by true true = omega arith
@@ -93,9 +84,9 @@ module _ (f want : ℕ) where
       by true = when-le f want w
       by false = omega arith
 
-  pub rowbut-idle : (o a w c : ℕ) → (f ≡ want → ⊥) → rowbut f want o a w c ≡ 0
-  unfolding rowbut
-  rowbut-idle o a w c ne = by (eqb o a) (eqb c a)
+  pub rowBut-idle : (o a w c : ℕ) → (f ≡ want → ⊥) → rowBut f want o a w c ≡ 0
+  unfolding rowBut
+  rowBut-idle o a w c ne = by (eqb o a) (eqb c a)
     where
       by : (s t : Bool) → cond s (cond t 0 (when f want w)) 0 ≡ 0
       by true true = refl
@@ -114,13 +105,8 @@ pub delta-none : (a b fa fb w c : ℕ) → delta a b fa fb w 0 c ≡ pos 0
 unfolding delta
 delta-none a b fa fb w c = refl
 
--- the four numbers, and their sum
-module _ (p q s t : ℕ) where
-  four : ℤ
-  four = ((pos p +ℤ negℤ (pos q)) +ℤ negℤ (pos s)) +ℤ pos t
-
 pub delta-some : (a b fa fb w o c : ℕ) → 1 ≤ o → delta a b fa fb w o c ≡
-    ((pos (rowbut fa 2 o a w c) +ℤ negℤ (pos (rowbut fb 1 o b w c))) +ℤ negℤ (pos (single fa 1 a w c))) +ℤ pos (single fb 0 b w c)
+    ((pos (rowBut fa 2 o a w c) +ℤ negℤ (pos (rowBut fb 1 o b w c))) +ℤ negℤ (pos (single fa 1 a w c))) +ℤ pos (single fb 0 b w c)
 unfolding delta
 delta-some a b fa fb w o c h = rw (ne-eqb o 0 (λ z. omega arith))
 
@@ -147,25 +133,25 @@ shift A B A′ B′ p q s t e d = eq-by _ _ (omega (
 ))
 
 -- a pin is counted
-pub cnt-has : (n : ℕ) (r : ℕ → ℕ) (y o : ℕ) → y < n → r y ≡ o → 1 ≤ o → 1 ≤ cnt n r o
-cnt-has n r y o l e h = omega (arith, cnt-put n r y 0 o l, ap (λ (z : ℕ). one (eqb z o)) e, ap one (eq-eqb o o refl), ap one (ne-eqb 0 o (λ z. omega arith)))
+pub rowCount-has : (n : ℕ) (r : ℕ → ℕ) (y o : ℕ) → y < n → r y ≡ o → 1 ≤ o → 1 ≤ rowCount n r o
+rowCount-has n r y o l e h = omega (arith, rowCount-place n r y 0 o l, ap (λ (z : ℕ). one (eqb z o)) e, ap one (eq-eqb o o refl), ap one (ne-eqb 0 o (λ z. omega arith)))
 
 module _ (n : ℕ) (r : ℕ → ℕ) (x a b w : ℕ) (hx : x < n) (ea : r x ≡ a) (ne : a ≡ b → ⊥) where
-  count-a : 1 ≤ a → cnt n (place r x b) a + 1 ≡ cnt n r a
-  count-a h = omega (arith, cnt-put n r x b a hx, ap (λ (z : ℕ). one (eqb z a)) ea, ap one (eq-eqb a a refl), ap one (ne-eqb b a (λ z. ne (sym z))))
+  count-a : 1 ≤ a → rowCount n (place r x b) a + 1 ≡ rowCount n r a
+  count-a h = omega (arith, rowCount-place n r x b a hx, ap (λ (z : ℕ). one (eqb z a)) ea, ap one (eq-eqb a a refl), ap one (ne-eqb b a (λ z. ne (sym z))))
 
-  count-b : 1 ≤ b → cnt n (place r x b) b ≡ cnt n r b + 1
-  count-b h = omega (arith, cnt-put n r x b b hx, ap (λ (z : ℕ). one (eqb z b)) ea, ap one (eq-eqb b b refl), ap one (ne-eqb a b ne))
+  count-b : 1 ≤ b → rowCount n (place r x b) b ≡ rowCount n r b + 1
+  count-b h = omega (arith, rowCount-place n r x b b hx, ap (λ (z : ℕ). one (eqb z b)) ea, ap one (eq-eqb b b refl), ap one (ne-eqb a b ne))
 
-  count-other : (c : ℕ) → (c ≡ a → ⊥) → (c ≡ b → ⊥) → cnt n (place r x b) c ≡ cnt n r c
-  count-other c na nb = omega (arith, cnt-put n r x b c hx, ap (λ (z : ℕ). one (eqb z c)) ea, ap one (ne-eqb a c (λ z. na (sym z))), ap one (ne-eqb b c (λ z. nb (sym z))))
+  count-other : (c : ℕ) → (c ≡ a → ⊥) → (c ≡ b → ⊥) → rowCount n (place r x b) c ≡ rowCount n r c
+  count-other c na nb = omega (arith, rowCount-place n r x b c hx, ap (λ (z : ℕ). one (eqb z c)) ea, ap one (ne-eqb a c (λ z. na (sym z))), ap one (ne-eqb b c (λ z. nb (sym z))))
 
-  module _ (fa fb : ℕ) (ha : 1 ≤ a → fa ≡ cnt n r a) (hb : 1 ≤ b → fb ≡ cnt n r b) where
+  module _ (fa fb : ℕ) (ha : 1 ≤ a → fa ≡ rowCount n r a) (hb : 1 ≤ b → fb ≡ rowCount n r b) where
     -- what leaving frees, and what it draws
-    drawn : (c : ℕ) → 1 ≤ c → when (cnt n (place r x b) c) 0 w + single fb 0 b w c ≡ when (cnt n r c) 0 w + single fa 1 a w c
+    drawn : (c : ℕ) → 1 ≤ c → when (rowCount n (place r x b) c) 0 w + single fb 0 b w c ≡ when (rowCount n r c) 0 w + single fa 1 a w c
     drawn c hc = by (ℕ-discrete c a) (ℕ-discrete c b)
       where
-        by : Dec (c ≡ a) → Dec (c ≡ b) → when (cnt n (place r x b) c) 0 w + single fb 0 b w c ≡ when (cnt n r c) 0 w + single fa 1 a w c
+        by : Dec (c ≡ a) → Dec (c ≡ b) → when (rowCount n (place r x b) c) 0 w + single fb 0 b w c ≡ when (rowCount n r c) 0 w + single fa 1 a w c
         by (yes p) (yes q) = absurd (ne (sym p ∙ q))
         by (yes p) (no q) =
             let h : 1 ≤ a = omega arith in
@@ -173,10 +159,10 @@ module _ (n : ℕ) (r : ℕ → ℕ) (x a b w : ℕ) (hx : x < n) (ea : r x ≡ 
               arith,
               single-other fb 0 b w c q,
               single-here fa 1 a w c p,
-              ap (λ (z : ℕ). when (cnt n (place r x b) z) 0 w) p,
-              ap (λ (z : ℕ). when (cnt n r z) 0 w) p,
-              when-no (cnt n r a) 0 w (λ z. omega (arith, count-a h)),
-              when-iff (cnt n (place r x b) a) 0 fa 1 w (λ z. omega (arith, count-a h, ha h)) (λ z. omega (arith, count-a h, ha h)),
+              ap (λ (z : ℕ). when (rowCount n (place r x b) z) 0 w) p,
+              ap (λ (z : ℕ). when (rowCount n r z) 0 w) p,
+              when-no (rowCount n r a) 0 w (λ z. omega (arith, count-a h)),
+              when-iff (rowCount n (place r x b) a) 0 fa 1 w (λ z. omega (arith, count-a h, ha h)) (λ z. omega (arith, count-a h, ha h)),
             )
         by (no p) (yes q) =
             let h : 1 ≤ b = omega arith in
@@ -184,47 +170,47 @@ module _ (n : ℕ) (r : ℕ → ℕ) (x a b w : ℕ) (hx : x < n) (ea : r x ≡ 
               arith,
               single-other fa 1 a w c p,
               single-here fb 0 b w c q,
-              ap (λ (z : ℕ). when (cnt n (place r x b) z) 0 w) q,
-              ap (λ (z : ℕ). when (cnt n r z) 0 w) q,
-              when-no (cnt n (place r x b) b) 0 w (λ z. omega (arith, count-b h)),
+              ap (λ (z : ℕ). when (rowCount n (place r x b) z) 0 w) q,
+              ap (λ (z : ℕ). when (rowCount n r z) 0 w) q,
+              when-no (rowCount n (place r x b) b) 0 w (λ z. omega (arith, count-b h)),
               ap (λ (z : ℕ). when z 0 w) (hb h),
             )
         by (no p) (no q) = omega (arith, single-other fa 1 a w c p, single-other fb 0 b w c q, ap (λ (z : ℕ). when z 0 w) (count-other c p q))
 
     module _ (y o : ℕ) (hy : y < n) (ny : y ≡ x → ⊥) (eo : r y ≡ o) (ho : 1 ≤ o) where
-      still : 1 ≤ cnt n (place r x b) o
-      still = cnt-has n (place r x b) y o hy (place-off r x b y ny ∙ eo) ho
+      still : 1 ≤ rowCount n (place r x b) o
+      still = rowCount-has n (place r x b) y o hy (place-off r x b y ny ∙ eo) ho
 
-      freed : (c : ℕ) → (c ≡ o → ⊥) → when (cnt n (place r x b) o) 1 w + rowbut fb 1 o b w c ≡ when (cnt n r o) 1 w + rowbut fa 2 o a w c
+      freed : (c : ℕ) → (c ≡ o → ⊥) → when (rowCount n (place r x b) o) 1 w + rowBut fb 1 o b w c ≡ when (rowCount n r o) 1 w + rowBut fa 2 o a w c
       freed c nc = by (ℕ-discrete o a) (ℕ-discrete o b)
         where
-          by : Dec (o ≡ a) → Dec (o ≡ b) → when (cnt n (place r x b) o) 1 w + rowbut fb 1 o b w c ≡ when (cnt n r o) 1 w + rowbut fa 2 o a w c
+          by : Dec (o ≡ a) → Dec (o ≡ b) → when (rowCount n (place r x b) o) 1 w + rowBut fb 1 o b w c ≡ when (rowCount n r o) 1 w + rowBut fa 2 o a w c
           by (yes p) (yes q) = absurd (ne (sym p ∙ q))
           by (yes p) (no q) =
               let h : 1 ≤ a = omega arith in
-              let l : 1 ≤ cnt n (place r x b) a = rw p at still in
+              let l : 1 ≤ rowCount n (place r x b) a = rw p at still in
               omega (
                 arith,
-                rowbut-other fb 1 o b w c q,
-                rowbut-here fa 2 o a w c p (λ z. nc (z ∙ sym p)),
-                ap (λ (z : ℕ). when (cnt n (place r x b) z) 1 w) p,
-                ap (λ (z : ℕ). when (cnt n r z) 1 w) p,
-                when-no (cnt n r a) 1 w (λ z. omega (arith, count-a h)),
-                when-iff (cnt n (place r x b) a) 1 fa 2 w (λ z. omega (arith, count-a h, ha h)) (λ z. omega (arith, count-a h, ha h)),
+                rowBut-other fb 1 o b w c q,
+                rowBut-here fa 2 o a w c p (λ z. nc (z ∙ sym p)),
+                ap (λ (z : ℕ). when (rowCount n (place r x b) z) 1 w) p,
+                ap (λ (z : ℕ). when (rowCount n r z) 1 w) p,
+                when-no (rowCount n r a) 1 w (λ z. omega (arith, count-a h)),
+                when-iff (rowCount n (place r x b) a) 1 fa 2 w (λ z. omega (arith, count-a h, ha h)) (λ z. omega (arith, count-a h, ha h)),
               )
           by (no p) (yes q) =
               let h : 1 ≤ b = omega arith in
-              let l : 1 ≤ cnt n r b = cnt-has n r y b hy (eo ∙ q) h in
+              let l : 1 ≤ rowCount n r b = rowCount-has n r y b hy (eo ∙ q) h in
               omega (
                 arith,
-                rowbut-other fa 2 o a w c p,
-                rowbut-here fb 1 o b w c q (λ z. nc (z ∙ sym q)),
-                ap (λ (z : ℕ). when (cnt n (place r x b) z) 1 w) q,
-                ap (λ (z : ℕ). when (cnt n r z) 1 w) q,
-                when-no (cnt n (place r x b) b) 1 w (λ z. omega (arith, count-b h)),
+                rowBut-other fa 2 o a w c p,
+                rowBut-here fb 1 o b w c q (λ z. nc (z ∙ sym q)),
+                ap (λ (z : ℕ). when (rowCount n (place r x b) z) 1 w) q,
+                ap (λ (z : ℕ). when (rowCount n r z) 1 w) q,
+                when-no (rowCount n (place r x b) b) 1 w (λ z. omega (arith, count-b h)),
                 ap (λ (z : ℕ). when z 1 w) (hb h),
               )
-          by (no p) (no q) = omega (arith, rowbut-other fa 2 o a w c p, rowbut-other fb 1 o b w c q, ap (λ (z : ℕ). when z 1 w) (count-other o p q))
+          by (no p) (no q) = omega (arith, rowBut-other fa 2 o a w c p, rowBut-other fb 1 o b w c q, ap (λ (z : ℕ). when z 1 w) (count-other o p q))
 
       -- at its own block nothing changes
       own-none : delta a b fa fb w o o ≡ pos 0
@@ -233,34 +219,34 @@ module _ (n : ℕ) (r : ℕ → ℕ) (x a b w : ℕ) (hx : x < n) (ea : r x ≡ 
           zero-sum : {p q s t : ℕ} → p ≡ 0 → q ≡ 0 → s ≡ 0 → t ≡ 0 → ((pos p +ℤ negℤ (pos q)) +ℤ negℤ (pos s)) +ℤ pos t ≡ pos 0
           zero-sum e f g h = rw (e, f, g, h) refl
 
-          a-none : Dec (o ≡ a) → rowbut fa 2 o a w o ≡ 0
-          a-none (yes p) = rowbut-own fa 2 o a w o p
-          a-none (no p) = rowbut-other fa 2 o a w o p
+          a-none : Dec (o ≡ a) → rowBut fa 2 o a w o ≡ 0
+          a-none (yes p) = rowBut-own fa 2 o a w o p
+          a-none (no p) = rowBut-other fa 2 o a w o p
 
-          b-none : Dec (o ≡ b) → rowbut fb 1 o b w o ≡ 0
-          b-none (yes p) = rowbut-own fb 1 o b w o p
-          b-none (no p) = rowbut-other fb 1 o b w o p
+          b-none : Dec (o ≡ b) → rowBut fb 1 o b w o ≡ 0
+          b-none (yes p) = rowBut-own fb 1 o b w o p
+          b-none (no p) = rowBut-other fb 1 o b w o p
 
           a-one : Dec (o ≡ a) → single fa 1 a w o ≡ 0
           a-one (yes p) =
               let h : 1 ≤ a = omega arith in
-              let l : 1 ≤ cnt n (place r x b) a = rw p at still in
+              let l : 1 ≤ rowCount n (place r x b) a = rw p at still in
               single-here fa 1 a w o p ∙ when-no fa 1 w (λ z. omega (arith, count-a h, ha h))
           a-one (no p) = single-other fa 1 a w o p
 
           b-one : Dec (o ≡ b) → single fb 0 b w o ≡ 0
           b-one (yes p) =
               let h : 1 ≤ b = omega arith in
-              let l : 1 ≤ cnt n r b = cnt-has n r y b hy (eo ∙ p) h in
+              let l : 1 ≤ rowCount n r b = rowCount-has n r y b hy (eo ∙ p) h in
               single-here fb 0 b w o p ∙ when-no fb 0 w (λ z. omega (arith, hb h))
           b-one (no p) = single-other fb 0 b w o p
 
       -- the law
-      pub share-change : (c : ℕ) → 1 ≤ c → shareOf (cnt n (place r x b)) w o c ≡ shareOf (cnt n r) w o c +ℤ delta a b fa fb w o c
+      pub share-change : (c : ℕ) → 1 ≤ c → shareOf (rowCount n (place r x b)) w o c ≡ shareOf (rowCount n r) w o c +ℤ delta a b fa fb w o c
       unfolding shareOf
       share-change c hc = rw (ne-eqb o 0 (λ z. omega arith)) (by (ℕ-discrete c o))
         where
-          by : Dec (c ≡ o) → cond (eqb c o) (pos 0) (pos (when (cnt n (place r x b) o) 1 w) -ℤ pos (when (cnt n (place r x b) c) 0 w)) ≡
-              cond (eqb c o) (pos 0) (pos (when (cnt n r o) 1 w) -ℤ pos (when (cnt n r c) 0 w)) +ℤ delta a b fa fb w o c
+          by : Dec (c ≡ o) → cond (eqb c o) (pos 0) (pos (when (rowCount n (place r x b) o) 1 w) -ℤ pos (when (rowCount n (place r x b) c) 0 w)) ≡
+              cond (eqb c o) (pos 0) (pos (when (rowCount n r o) 1 w) -ℤ pos (when (rowCount n r c) 0 w)) +ℤ delta a b fa fb w o c
           by (yes q) = rw (q, eq-eqb o o refl, own-none) refl
           by (no q) = rw (ne-eqb c o q, delta-some a b fa fb w o c ho) (shift _ _ _ _ _ _ _ _ (freed c q) (drawn c hc))

@@ -4,12 +4,14 @@ use Prim.Native.Nat.{ℕ, zero, suc, _+_, _*_, _-_, _<_, _≤_}
 use mathlib.Core.Path.{_≡_, refl, sym, ap, _∙_}
 use mathlib.Core.Bool.{Bool, true, false, cond}
 use mathlib.Core.List.{List}
+use native.Mathlib.Numerals.{add-one}
 use native.Mathlib.Omega.{arith}
 use native.Mathlib.Decide.{ℕ-discrete}
-use borrow.Author.Tests.{eq-eqb, ne-eqb, eqb-true}
-use lib.Dec.{eqb}
+use borrow.Author.Tests.{eq-eqb, ne-eqb, eqb-true, lt-ltb, le-ltb}
+use lib.Dec.{eqb, ltb}
 use lib.ListN.{getD}
-use Rattle.laws.specs.Occurrence.{In}
+use Rattle.laws.specs.Choice.{one}
+use Rattle.laws.specs.Occurrence.{occ, In, occ-at, occ-in}
 
 -- the vertex at a place of a stretch
 abbrev pub vertexAt : List ℕ → ℕ → ℕ → ℕ
@@ -61,6 +63,50 @@ has-iff l l′ f n n′ y y′ a b = by (has l f n y) refl (has l′ f n′ y′
 
 pub has-not : (l : List ℕ) (f n y : ℕ) → (In l f n (y + 1) → ⊥) → has l f n y ≡ false
 has-not l f n y h = sym (has-none l f y n (λ i u e. h (i, u, e)))
+
+-- only the places of the stretch count
+pub has-ext : (l l′ : List ℕ) (f n y : ℕ) → ((i : ℕ) → i < n → getD l′ (f + i) 0 ≡ getD l (f + i) 0) → has l′ f n y ≡ has l f n y
+unfolding has
+has-ext l l′ f zero y h = refl
+has-ext l l′ f (suc n) y h = rw (h n (omega arith), has-ext l l′ f n y (λ i u. h i (omega arith))) refl
+
+-- ---- membership by occurrences
+pub has-yes : (l : List ℕ) (f n y : ℕ) → 1 ≤ occ l f n (y + 1) → has l f n y ≡ true
+has-yes l f n y h = in-has l f n y (occ-in l f n (y + 1) h)
+
+pub has-no : (l : List ℕ) (f n y : ℕ) → occ l f n (y + 1) ≡ 0 → has l f n y ≡ false
+has-no l f n y h = has-not l f n y (λ i. omega (arith, occ-at l f n (i .0) (y + 1) (i .1) (i .2)))
+
+pub has-same : (l l′ : List ℕ) (f n r y : ℕ) → occ l f n (y + 1) ≡ occ l′ f r (y + 1) → has l f n y ≡ has l′ f r y
+has-same l l′ f n r y h = has-iff l l′ f n r y y
+    (λ i. occ-in l′ f r (y + 1) (omega (arith, occ-at l f n (i .0) (y + 1) (i .1) (i .2))))
+    (λ i. occ-in l f n (y + 1) (omega (arith, occ-at l′ f r (i .0) (y + 1) (i .1) (i .2))))
+
+pub has-occ : (l : List ℕ) (f n y : ℕ) → has l f n y ≡ ltb 0 (occ l f n (y + 1))
+has-occ l f n y = go (ℕ-discrete (occ l f n (y + 1)) 0)
+  where
+    go : Dec (occ l f n (y + 1) ≡ 0) → has l f n y ≡ ltb 0 (occ l f n (y + 1))
+    go (yes q) = has-no l f n y q ∙ sym (le-ltb 0 (occ l f n (y + 1)) (omega arith))
+    go (no q) = has-yes l f n y (omega arith) ∙ sym (lt-ltb 0 (occ l f n (y + 1)) (omega arith))
+
+pub has-is : (l : List ℕ) (f n y : ℕ) (b : Bool) → occ l f n (y + 1) ≡ one b → has l f n y ≡ b
+has-is l f n y true q = has-yes l f n y (omega arith)
+has-is l f n y false q = has-no l f n y q
+
+-- ---- one place more
+pub has-empty : (pins : List ℕ) (first y : ℕ) → has pins first 0 y ≡ false
+unfolding has
+has-empty pins first y = refl
+
+has-more : (pins : List ℕ) (first p y : ℕ) → has pins first (p + 1) y ≡ cond (eqb (getD pins (first + p) 0) (y + 1)) true (has pins first p y)
+unfolding has
+has-more pins first p y = rw add-one
+
+pub has-here : (pins : List ℕ) (first p y : ℕ) → getD pins (first + p) 0 ≡ y + 1 → has pins first (p + 1) y ≡ true
+has-here pins first p y e = rw (has-more pins first p y, eq-eqb (getD pins (first + p) 0) (y + 1) e)
+
+pub has-there : (pins : List ℕ) (first p y : ℕ) → (getD pins (first + p) 0 ≡ y + 1 → ⊥) → has pins first (p + 1) y ≡ has pins first p y
+has-there pins first p y ne = rw (has-more pins first p y, ne-eqb (getD pins (first + p) 0) (y + 1) ne)
 
 -- ---- rows of 16
 

@@ -1,45 +1,45 @@
--- Laws of a row and of its counts, and the row that a pin list gives. Assumes nothing.
-use Prim.Native.Nat.{ℕ, zero, suc, _+_, _*_, _-_, _<_, _≤_}
+-- Laws of a matrix' row and of its counts, and the row that a pin list gives. Rests on Matrix and Listed.
+use Prim.Native.Nat.{ℕ, zero, suc, _+_, _-_, _<_, _≤_}
 use mathlib.Core.Path.{_≡_, refl, sym, ap, _∙_}
 use mathlib.Core.Bool.{Bool, true, false, cond}
 use mathlib.Core.List.{List}
 use native.Mathlib.Omega.{arith}
 use native.Mathlib.Decide.{ℕ-discrete}
-use native.Mathlib.Numerals.{add-one}
-use borrow.Author.Tests.{eq-eqb, ne-eqb, eqb-true, eqb-false}
+use borrow.Author.Tests.{eq-eqb, ne-eqb}
 use lib.Dec.{eqb}
-use lib.ListN.{getD, length}
-use lib.IntN.{ℤ, pos, natAbs, _-ℤ_}
+use lib.ListN.{getD, set}
+use lib.Seq.{getD-set-other}
+use lib.IntN.{pos, natAbs, _-ℤ_}
 use Rattle.laws.specs.Choice.{one}
 use Rattle.laws.specs.Sum.{countBelow, count-change, count-le, sum-ext}
 use Rattle.laws.specs.Integer.{natAbs-diff}
 use Rattle.laws.specs.Place.{place, place-at, place-off}
-use Rattle.connectivity.specs.Share.{when, share}
-use Rattle.connectivity.specs.Listed.{has, has-none}
-use Rattle.connectivity.specs.Matrix.{cnt, shareOf, upd}
+use Rattle.connectivity.specs.Share.{when, when-le, share}
+use Rattle.connectivity.specs.Listed.{has, has-none, has-empty, has-here, has-there}
+use Rattle.connectivity.specs.Matrix.{rowCount, shareOf, setPin}
 
-pub upd-here : (Q : ℕ → ℕ → ℕ) (e x b : ℕ) → upd Q e x b e ≡ place (Q e) x b
-unfolding upd
-upd-here Q e x b = rw (eq-eqb e e refl)
+pub setPin-here : (Q : ℕ → ℕ → ℕ) (e x b : ℕ) → setPin Q e x b e ≡ place (Q e) x b
+unfolding setPin
+setPin-here Q e x b = rw (eq-eqb e e refl)
 
-pub upd-there : (Q : ℕ → ℕ → ℕ) (e x b d : ℕ) → (d ≡ e → ⊥) → upd Q e x b d ≡ Q d
-unfolding upd
-upd-there Q e x b d ne = rw (ne-eqb d e ne)
+pub setPin-there : (Q : ℕ → ℕ → ℕ) (e x b d : ℕ) → (d ≡ e → ⊥) → setPin Q e x b d ≡ Q d
+unfolding setPin
+setPin-there Q e x b d ne = rw (ne-eqb d e ne)
 
 -- the law of counts
-pub cnt-put : (n : ℕ) (r : ℕ → ℕ) (x b c : ℕ) → x < n → cnt n (place r x b) c + one (eqb (r x) c) ≡ cnt n r c + one (eqb b c)
-unfolding cnt
-cnt-put n r x b c h =
-    sym (count-change n x (λ y. eqb (r y) c) (λ y. eqb (place r x b y) c) h (λ y l ne. ap (λ (z : ℕ). eqb z c) (sym (place-off r x b y ne)))
-    ∙ ap (λ (z : ℕ). z) refl) ∙ ap (λ (z : ℕ). countBelow n (λ y. eqb (r y) c) + one (eqb z c)) (place-at r x b)
+pub rowCount-place : (n : ℕ) (r : ℕ → ℕ) (x b c : ℕ) → x < n → rowCount n (place r x b) c + one (eqb (r x) c) ≡ rowCount n r c + one (eqb b c)
+unfolding rowCount
+rowCount-place n r x b c h =
+    sym (count-change n x (λ y. eqb (r y) c) (λ y. eqb (place r x b y) c) h (λ y l ne. ap (λ (z : ℕ). eqb z c) (sym (place-off r x b y ne))))
+    ∙ ap (λ (z : ℕ). countBelow n (λ y. eqb (r y) c) + one (eqb z c)) (place-at r x b)
 
-pub cnt-le : (n : ℕ) (r : ℕ → ℕ) (c : ℕ) → cnt n r c ≤ n
-unfolding cnt
-cnt-le n r c = count-le n (λ y. eqb (r y) c)
+pub rowCount-le : (n : ℕ) (r : ℕ → ℕ) (c : ℕ) → rowCount n r c ≤ n
+unfolding rowCount
+rowCount-le n r c = count-le n (λ y. eqb (r y) c)
 
-pub cnt-ext : (n : ℕ) (r r′ : ℕ → ℕ) (c : ℕ) → ((y : ℕ) → y < n → r y ≡ r′ y) → cnt n r c ≡ cnt n r′ c
-unfolding cnt
-cnt-ext n r r′ c h = sum-ext n (λ y. one (eqb (r y) c)) (λ y. one (eqb (r′ y) c)) (λ y l. ap (λ (z : ℕ). one (eqb z c)) (h y l))
+pub rowCount-ext : (n : ℕ) (r r′ : ℕ → ℕ) (c : ℕ) → ((y : ℕ) → y < n → r y ≡ r′ y) → rowCount n r c ≡ rowCount n r′ c
+unfolding rowCount
+rowCount-ext n r r′ c h = sum-ext n (λ y. one (eqb (r y) c)) (λ y. one (eqb (r′ y) c)) (λ y l. ap (λ (z : ℕ). one (eqb z c)) (h y l))
 
 -- the law of shares: they look at two counts
 pub shareOf-ext : (f f′ : ℕ → ℕ) (w a c : ℕ) → (1 ≤ a → f a ≡ f′ a) → f c ≡ f′ c → shareOf f w a c ≡ shareOf f′ w a c
@@ -50,14 +50,6 @@ shareOf-ext f f′ w (suc a) c h e = rw (h (omega arith), e) refl
 pub shareOf-none : (f : ℕ → ℕ) (w c : ℕ) → shareOf f w 0 c ≡ pos 0
 unfolding shareOf
 shareOf-none f w c = refl
-
-when-le : (n want w : ℕ) → when n want w ≤ w
-unfolding when
-when-le n want w = by (eqb n want)
-  where
-    by : (t : Bool) → cond t w 0 ≤ w
-    by true = omega arith
-    by false = omega arith
 
 pub shareOf-le : (f : ℕ → ℕ) (w a c : ℕ) → natAbs (shareOf f w a c) ≤ w
 unfolding shareOf
@@ -92,21 +84,35 @@ row pins blocks first p y = cond (has pins first p y) (getD blocks y 0) 0
 
 module _ (pins blocks : List ℕ) (first : ℕ) where
   pub row-none : (y : ℕ) → row pins blocks first 0 y ≡ 0
-  unfolding row has
-  row-none y = refl
-
-  has-more : (p y : ℕ) → has pins first (p + 1) y ≡ cond (eqb (getD pins (first + p) 0) (y + 1)) true (has pins first p y)
-  unfolding has
-  has-more p y = rw add-one
+  unfolding row
+  row-none y = rw (has-empty pins first y)
 
   pub row-here : (p y : ℕ) → getD pins (first + p) 0 ≡ y + 1 → row pins blocks first (p + 1) y ≡ getD blocks y 0
   unfolding row
-  row-here p y e = rw (has-more p y, eq-eqb (getD pins (first + p) 0) (y + 1) e)
+  row-here p y e = rw (has-here pins first p y e)
 
   pub row-there : (p y : ℕ) → (getD pins (first + p) 0 ≡ y + 1 → ⊥) → row pins blocks first (p + 1) y ≡ row pins blocks first p y
   unfolding row
-  row-there p y ne = rw (has-more p y, ne-eqb (getD pins (first + p) 0) (y + 1) ne)
+  row-there p y ne = rw (has-there pins first p y ne)
 
   pub row-not : (p y : ℕ) → ((i : ℕ) → i < p → getD pins (first + i) 0 ≡ y + 1 → ⊥) → row pins blocks first p y ≡ 0
   unfolding row
   row-not p y h = rw (← has-none pins first y p h)
+
+pub row-yes : (pins blocks : List ℕ) (first p y : ℕ) → has pins first p y ≡ true → row pins blocks first p y ≡ getD blocks y 0
+unfolding row
+row-yes pins blocks first p y e = rw e refl
+
+pub row-no : (pins blocks : List ℕ) (first p y : ℕ) → has pins first p y ≡ false → row pins blocks first p y ≡ 0
+unfolding row
+row-no pins blocks first p y e = rw e refl
+
+-- membership alone counts
+pub row-by : (pins pins′ blocks : List ℕ) (first p r y : ℕ) → has pins first p y ≡ has pins′ first r y → row pins blocks first p y ≡ row pins′ blocks first r y
+unfolding row
+row-by pins pins′ blocks first p r y e = rw e refl
+
+-- another vertex' block is stored
+pub row-set : (pins blocks : List ℕ) (first p v s y : ℕ) → (y ≡ v → ⊥) → row pins blocks first p y ≡ row pins (set blocks v s) first p y
+unfolding row
+row-set pins blocks first p v s y ne = ap (λ (z : ℕ). cond (has pins first p y) z 0) (sym (getD-set-other blocks v y s 0 ne))

@@ -1,4 +1,4 @@
--- What one buyer adds to the gain of a move. Assumes nothing.
+-- What one net adds to the gain of a move, by the table of counts. Blocks count from 0 here. Assumes nothing.
 use Prim.Native.Nat.{ℕ, _+_, _≤_}
 use mathlib.Core.Path.{_≡_, refl}
 use native.Mathlib.Omega.{arith}
@@ -14,7 +14,7 @@ use Rattle.laws.specs.Integer.{natAbs-diff}
 unfoldable pub when : ℕ → ℕ → ℕ → ℕ
 when n want w = cond (eqb n want) w 0
 
--- What a buyer of weight `w`, whose counts start at `crow`, adds to the gain of a vertexAt of the block `own` for the block `x`
+-- what a net of weight `w`, whose counts start at `crow`, adds to the gain of a vertex of the block `own` for the block `x`
 unfoldable pub share : List ℕ → ℕ → ℕ → ℕ → ℕ → ℤ
 share counts crow own w x =
     cond (eqb x own) (pos 0) (pos (when (getD counts (crow + own) 0) 1 w) -ℤ pos (when (getD counts (crow + x) 0) 0 w))
@@ -28,7 +28,7 @@ pub share-off : (counts : List ℕ) (crow own w x f d : ℕ) (a b r : ℤ) → (
 unfolding share
 share-off counts crow own w x f d a b r ne ef ed ea eb er = rw (ne-eqb x own ne) (rw (er, ea, eb, ef, ed) refl)
 
-when-le : (n want w : ℕ) → when n want w ≤ w
+pub when-le : (n want w : ℕ) → when n want w ≤ w
 unfolding when
 when-le n want w = by (eqb n want)
   where

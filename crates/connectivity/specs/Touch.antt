@@ -1,7 +1,7 @@
--- One vertex's row and the rows of all other pins, raised by the rules. Assumes nothing.
+-- The rules of the critical counts at one vertex's row, and at the rows of all other pins. Rests on Change and Laid.
 use Prim.Native.Nat.{ℕ, zero, suc, _+_, _*_, _-_, _^_, _<_, _≤_}
 use mathlib.Core.Path.{_≡_, refl, sym, ap, _∙_, subst}
-use mathlib.Core.Bool.{Bool, true, false, cond}
+use mathlib.Core.Bool.{Bool, true, false}
 use mathlib.Core.List.{List}
 use native.Mathlib.Omega.{arith}
 use native.Mathlib.Decide.{ℕ-discrete}
@@ -11,14 +11,12 @@ use lib.IntN.{ℤ, pos, natAbs, _+ℤ_, _-ℤ_, negℤ, +ℤ-idr}
 use lib.Signed.{mag}
 use mir.Syntax.{w32}
 use mir.Val.{toZ, ofZ}
-use Rattle.laws.specs.Integer.{read32, grow, natAbs-add, neg-is, abs-is, pos-is}
+use Rattle.laws.specs.Integer.{read32, grow, natAbs-add, abs-is, pos-is}
 use Rattle.laws.specs.Place.{place, place-at, place-off, place-ext}
-use Rattle.connectivity.specs.Share.{when}
-use Rattle.connectivity.specs.Raised.{Raised, at, raised-none, raised-set}
-use Rattle.connectivity.specs.Listed.{vertexAt}
+use Rattle.connectivity.specs.Raised.{Raised, at}
 use Rattle.connectivity.specs.Row.{row, row-none, row-here, row-there, row-not}
-use Rattle.connectivity.specs.Laid.{Laid, Net, signed, signed-none, laid-none, laid-next, laid-more, laid-ext}
-use Rattle.connectivity.specs.Change.{rowbut, single, delta, delta-none, delta-some, when-yes, rowbut-le, single-le, rowbut-idle, rowbut-other, rowbut-own, rowbut-here, single-idle, single-here, single-other}
+use Rattle.connectivity.specs.Laid.{Laid, Net, signed, signed-none, signed-le, laid-none, laid-next, laid-more, laid-ext}
+use Rattle.connectivity.specs.Change.{rowBut, single, delta, delta-none, delta-some, when-yes, rowBut-le, single-le, rowBut-idle, rowBut-other, rowBut-own, rowBut-here, single-idle, single-here, single-other}
 
 -- the entries of a vertex's row are at most `B`
 abbrev pub Small : ℕ → ℕ → ℕ → List ℤ → Type 0
@@ -29,11 +27,6 @@ pub record Room (g : List ℤ) (q k w : ℕ) : Type 0 where
   pub few : k ≤ 16
   pub weight : w ≤ 1000
   pub small : Small 2010000 q k g
-
-pub signed-le : (t : Bool) (z : ℤ) → natAbs (signed t z) ≤ natAbs z
-unfolding signed
-signed-le true z = omega (arith, neg-is z, abs-is z, abs-is (negℤ z))
-signed-le false z = omega arith
 
 pub pos-abs : (n : ℕ) → natAbs (pos n) ≡ n
 pos-abs n = omega (arith, abs-is (pos n), pos-is n)
@@ -78,25 +71,25 @@ one-set {k} {g} q t f want a w e h l few fit d = rw d (record {
 
 -- ---- a row but one
 abbrev pub But : Bool → ℕ → ℕ → ℕ → ℕ → ℕ → ℕ → ℤ
-But t f want o a w j = signed t (pos (rowbut f want o a w (j + 1)))
+But t f want o a w j = signed t (pos (rowBut f want o a w (j + 1)))
 
 pub but-idle : {row k : ℕ} (t : Bool) (f want o a w : ℕ) (g : List ℤ) → (f ≡ want → ⊥) → Raised (But t f want o a w) row k g g
-but-idle t f want o a w g ne = raised-still g (λ j l. ap (λ (z : ℕ). signed t (pos z)) (rowbut-idle f want o a w (j + 1) ne) ∙ signed-none t)
+but-idle t f want o a w g ne = raised-still g (λ j l. ap (λ (z : ℕ). signed t (pos z)) (rowBut-idle f want o a w (j + 1) ne) ∙ signed-none t)
 
 pub but-other : {row k : ℕ} (t : Bool) (f want o a w : ℕ) (g : List ℤ) → (o ≡ a → ⊥) → Raised (But t f want o a w) row k g g
-but-other t f want o a w g ne = raised-still g (λ j l. ap (λ (z : ℕ). signed t (pos z)) (rowbut-other f want o a w (j + 1) ne) ∙ signed-none t)
+but-other t f want o a w g ne = raised-still g (λ j l. ap (λ (z : ℕ). signed t (pos z)) (rowBut-other f want o a w (j + 1) ne) ∙ signed-none t)
 
 -- what is added at the block `j`
 pub record Amount (j a w r : ℕ) : Type 0 where
   pub own : j + 1 ≡ a → r ≡ 0
   pub off : (j + 1 ≡ a → ⊥) → r ≡ w
 
-pub amount-is : (f want o a w j r : ℕ) → f ≡ want → o ≡ a → Amount j a w r → r ≡ rowbut f want o a w (j + 1)
+pub amount-is : (f want o a w j r : ℕ) → f ≡ want → o ≡ a → Amount j a w r → r ≡ rowBut f want o a w (j + 1)
 amount-is f want o a w j r e d m = by (ℕ-discrete (j + 1) a)
   where
-    by : Dec (j + 1 ≡ a) → r ≡ rowbut f want o a w (j + 1)
-    by (yes z) = m .own z ∙ sym (rowbut-own f want o a w (j + 1) z)
-    by (no z) = m .off z ∙ sym (rowbut-here f want o a w (j + 1) d z ∙ when-yes f want w e)
+    by : Dec (j + 1 ≡ a) → r ≡ rowBut f want o a w (j + 1)
+    by (yes z) = m .own z ∙ sym (rowBut-own f want o a w (j + 1) z)
+    by (no z) = m .off z ∙ sym (rowBut-here f want o a w (j + 1) d z ∙ when-yes f want w e)
 
 -- ---- all four
 pub record Touches (g : List ℤ) (q o a b fa fb k w : ℕ) : Type 0 where
@@ -114,7 +107,7 @@ one-le : (t : Bool) (f want a w : ℕ) → w ≤ 1000 → (j : ℕ) → natAbs (
 one-le t f want a w h j = omega (arith, signed-le t (pos (single f want a w (j + 1))), pos-abs (single f want a w (j + 1)), single-le f want a w (j + 1))
 
 but-le : (t : Bool) (f want o a w : ℕ) → w ≤ 1000 → (j : ℕ) → natAbs (But t f want o a w j) ≤ 1000
-but-le t f want o a w h j = omega (arith, signed-le t (pos (rowbut f want o a w (j + 1))), pos-abs (rowbut f want o a w (j + 1)), rowbut-le f want o a w (j + 1))
+but-le t f want o a w h j = omega (arith, signed-le t (pos (rowBut f want o a w (j + 1))), pos-abs (rowBut f want o a w (j + 1)), rowBut-le f want o a w (j + 1))
 
 module _ {g : List ℤ} {q o a b fa fb k w : ℕ} (c : Touches g q o a b fa fb k w) where
   pub room-0 : Room g q k w
@@ -169,7 +162,7 @@ pub delta-idle : (a b fa fb w o c : ℕ) → 2 < fa → 1 < fb → delta a b fa 
 delta-idle a b fa fb w zero c ha hb = delta-none a b fa fb w c
 delta-idle a b fa fb w (suc o) c ha hb =
     delta-some a b fa fb w (suc o) c (omega arith)
-    ∙ zero-sum (rowbut-idle fa 2 (suc o) a w c (λ z. omega arith)) (rowbut-idle fb 1 (suc o) b w c (λ z. omega arith)) (single-idle fa 1 a w c (λ z. omega arith)) (single-idle fb 0 b w c (λ z. omega arith))
+    ∙ zero-sum (rowBut-idle fa 2 (suc o) a w c (λ z. omega arith)) (rowBut-idle fb 1 (suc o) b w c (λ z. omega arith)) (single-idle fa 1 a w c (λ z. omega arith)) (single-idle fb 0 b w c (λ z. omega arith))
   where
     zero-sum : {p q s t : ℕ} → p ≡ 0 → q ≡ 0 → s ≡ 0 → t ≡ 0 → ((pos p +ℤ negℤ (pos q)) +ℤ negℤ (pos s)) +ℤ pos t ≡ pos 0
     zero-sum e f g h = rw (e, f, g, h) refl
@@ -200,17 +193,17 @@ module _ {g : List ℤ} {pins blocks : List ℕ} {n k first p x a b fa fb w : �
 
   module _ {i q : ℕ} (hi : i < p) (eq : q ≡ getD pins (first + i) 0) where
     pub pin-in : (1 ≤ q) × (q ≤ n) × (q ≤ length blocks) × (16 * q ≤ length g)
-    pin-in = omega (arith, c .net .vertices i hi, c .blocks-fit, c .gains-fit)
+    pin-in = omega (arith, c .net .in-range i hi, c .blocks-fit, c .gains-fit)
 
     pub home-in : {s : ℕ} → s ≡ getD blocks (q - 1) 0 → (1 ≤ s) × (s ≤ k)
-    home-in es = omega (arith, es, c .net .homes i hi, ap (λ (z : ℕ). getD blocks (z - 1) 0) eq)
+    home-in es = omega (arith, es, c .net .in-blocks i hi, ap (λ (z : ℕ). getD blocks (z - 1) 0) eq)
 
     fresh : (q - 1 ≡ x → ⊥) → place (row pins blocks first i) x 0 (q - 1) ≡ 0
-    fresh ne = place-off (row pins blocks first i) x 0 (q - 1) ne ∙ row-not pins blocks first i (q - 1) (λ j l s. c .net .once j i l hi (omega (arith, c .net .vertices i hi)))
+    fresh ne = place-off (row pins blocks first i) x 0 (q - 1) ne ∙ row-not pins blocks first i (q - 1) (λ j l s. c .net .once j i l hi (omega (arith, c .net .in-range i hi)))
 
     pub others-skip : {g₁ : List ℤ} → q - 1 ≡ x → Laid (Delta a b fa fb w) (place (row pins blocks first i) x 0) k g g₁ → Laid (Delta a b fa fb w) (place (row pins blocks first (i + 1)) x 0) k g g₁
     others-skip z l = laid-ext none l
-        (λ y. place-ext (row pins blocks first (i + 1)) (row pins blocks first i) x 0 y (λ ne. row-there pins blocks first i y (λ s. ne (omega (arith, c .net .vertices i hi)))))
+        (λ y. place-ext (row pins blocks first (i + 1)) (row pins blocks first i) x 0 y (λ ne. row-there pins blocks first i y (λ s. ne (omega (arith, c .net .in-range i hi)))))
 
     pub others-touch : {g₁ : List ℤ} {s : ℕ} → (q - 1 ≡ x → ⊥) → s ≡ getD blocks (q - 1) 0 → Laid (Delta a b fa fb w) (place (row pins blocks first i) x 0) k g g₁ → Touches g₁ (q - 1) s a b fa fb k w
     others-touch ne es l = record {
@@ -228,8 +221,8 @@ module _ {g : List ℤ} {pins blocks : List ℕ} {n k first p x a b fa fb w : �
     pub others-more : {g₁ g₂ : List ℤ} {s : ℕ} → (q - 1 ≡ x → ⊥) → s ≡ getD blocks (q - 1) 0 → Laid (Delta a b fa fb w) (place (row pins blocks first i) x 0) k g g₁ →
         Raised (Delta a b fa fb w s) (16 * (q - 1)) k g₁ g₂ → Laid (Delta a b fa fb w) (place (row pins blocks first (i + 1)) x 0) k g g₂
     others-more {s} ne es l u = laid-more none (c .few) l (fresh ne)
-        (place-off (row pins blocks first (i + 1)) x 0 (q - 1) ne ∙ row-here pins blocks first i (q - 1) (omega (arith, c .net .vertices i hi)) ∙ sym es)
-        (λ y d. place-ext (row pins blocks first (i + 1)) (row pins blocks first i) x 0 y (λ f. row-there pins blocks first i y (λ v. d (omega (arith, c .net .vertices i hi)))))
+        (place-off (row pins blocks first (i + 1)) x 0 (q - 1) ne ∙ row-here pins blocks first i (q - 1) (omega (arith, c .net .in-range i hi)) ∙ sym es)
+        (λ y d. place-ext (row pins blocks first (i + 1)) (row pins blocks first i) x 0 y (λ f. row-there pins blocks first i y (λ v. d (omega (arith, c .net .in-range i hi)))))
         u
 
 -- ---- the stores of `shift_at`

@@ -13,7 +13,7 @@ ghost use Rattle.connectivity.specs.Row.{row};
 ghost use Rattle.connectivity.specs.Laid.{Laid, given, signed};
 ghost use Rattle.connectivity.specs.Set.{Sets, Set};
 ghost use Rattle.connectivity.specs.Touch.{Room, One, But, Amount, Touches, Others, Delta};
-ghost use Rattle.connectivity.specs.Fast.{CountAt, OwnRow};
+ghost use Rattle.connectivity.specs.Steps.{CountAt, OwnRow};
 use counts::arrive;
 use counts::depart;
 use shares::add_at;
@@ -21,12 +21,14 @@ use shares::share_row;
 use shares::sub_at;
 use shares::wide;
 
+// A table's number as an index.
 fn index(x: u16) -> usize
     ensures { λ r. ⌜ r ≡ x ⌝ }
 {
     x as usize
 }
 
+// Adds a weight to an entry, or takes it from it.
 fn shift_at(g: &mut [i32], i: usize, w: u16, take: bool)
     requires { ⌜ i < length (now g) ⌝ }
     requires { ⌜ natAbs (at (now g) i) ≤ 2010000 ⌝ }
@@ -52,6 +54,7 @@ fn one_entry(gains: &mut [i32], q: usize, a: usize, f: u16, want: u16, k: usize,
     shift_at(gains, 16 * q + (a - 1), w, take);
 }
 
+// The weight at each block but `a`; blocks from 0 against `a` from 1.
 fn amount(j: usize, a: usize, w: u16) -> u16
     requires { ⌜ j < 16 ⌝ }
     ensures { λ r. ⌜ Amount j a w r ⌝ }

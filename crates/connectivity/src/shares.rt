@@ -23,7 +23,7 @@ pub fn wide(x: u16) -> i32
     x as i32
 }
 
-// Adds to an entry, and takes from it.
+// Adds to an entry.
 pub fn add_at(g: &mut [i32], i: usize, s: i32)
     requires { ⌜ i < length (now g) ⌝ }
     requires { ⌜ SFits w32 (getD (now g) i (pos 0) +ℤ s) ⌝ }
@@ -32,6 +32,7 @@ pub fn add_at(g: &mut [i32], i: usize, s: i32)
     g[i] = g[i] + s;
 }
 
+// Takes from an entry.
 pub fn sub_at(g: &mut [i32], i: usize, s: i32)
     requires { ⌜ i < length (now g) ⌝ }
     requires { ⌜ SFits w32 (getD (now g) i (pos 0) -ℤ s) ⌝ }
@@ -63,7 +64,7 @@ fn share_of(counts: &[u16], crow: usize, own: usize, w: u16, x: usize) -> i32
 }
 
 // Adds to the `k` gains at `row`, of a vertex of the block `own`, the shares of a net of weight `w` whose counts start at `crow`.
-pub fn put_share(
+fn put_share(
     gains: &mut [i32],
     counts: &[u16],
     row: usize,
@@ -84,7 +85,7 @@ pub fn put_share(
 }
 
 // Takes from the `k` gains at `row`, of a vertex of the block `own`, the shares of a net of weight `w` whose counts start at `crow`.
-pub fn take_share(
+fn take_share(
     gains: &mut [i32],
     counts: &[u16],
     row: usize,

@@ -2,24 +2,19 @@
 -- Rests on Word.
 use mathlib.Core.Path.{_≡_, refl, sym, ap, _∙_}
 use mathlib.Core.List.{List}
-use Prim.Native.Nat.{ℕ, zero, suc, _+_, _-_, _*_, _/_, _%_, _^_, _≤_, _<_, max}
+use Prim.Native.Nat.{ℕ, _+_, _-_, _*_, _/_, _%_, _^_, _≤_, _<_, max}
 use native.Mathlib.Nat.{div-one, add-zero}
 use native.Mathlib.Decide.{decLt, ℕ-discrete}
 use native.Mathlib.Omega.{arith}
-use lib.Dec.{eqb}
 use lib.ListN.{length, getD, set, length-set, replicate, length-replicate, getD-replicate, List·getD-eq-default}
 use lib.Seq.{getD-set-same, getD-set-other}
 use lib.Bits.{bitOr}
-use Rattle.laws.specs.Bit.{bit, bit-lt, Made}
+use Rattle.laws.specs.Bit.{bit, Made}
 use Rattle.incidence.specs.Word.{Lowest, bit-or-max, bit-shr, bit-of-zero, bit-high}
 
 -- 1 where vertex x is a pin of net e, below 1,024; else 0
 unfoldable pub on : List ℕ → ℕ → ℕ → ℕ
 on l x e = bit (getD l (16 * x + e / 64) 0) (e % 64)
-
-pub on-lt : (l : List ℕ) (x e : ℕ) → on l x e < 2
-unfolding on
-on-lt l x e = bit-lt (getD l (16 * x + e / 64) 0) (e % 64)
 
 pub on-is : (l : List ℕ) (x e : ℕ) → on l x e ≡ bit (getD l (16 * x + e / 64) 0) (e % 64)
 unfolding on

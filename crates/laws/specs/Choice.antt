@@ -1,5 +1,5 @@
 -- A choice by a test (the library's cond), 1 for true, and the laws of both and of &&. Assumes nothing.
--- one: one-le, one-full, one-eqb · cond: cond-yes, cond-no, cond-zero, cond-or, cond-le · &&: and-left, and-right · eqb-sym
+-- one: one-le, one-full, one-none, one-eqb · cond: cond-yes, cond-no, cond-zero, cond-or, cond-le · &&: and-left, and-right · eqb-sym
 use Prim.Native.Nat.{ℕ, zero, suc, _+_, _≤_}
 use native.Mathlib.Decide.{ℕ-discrete}
 use native.Mathlib.Omega.{arith}
@@ -20,6 +20,10 @@ one-le false = omega arith
 pub one-full : (b : Bool) → 1 ≤ one b → b ≡ true
 one-full true l = refl
 one-full false l = absurd (omega arith)
+
+pub one-none : (b : Bool) → one b ≡ 0 → b ≡ false
+one-none true q = absurd (omega arith)
+one-none false q = refl
 
 -- a choice by an equation that holds, and by one that fails
 pub cond-yes : {A : Type 0} (x y : ℕ) (a b : A) → x ≡ y → cond (eqb x y) a b ≡ a

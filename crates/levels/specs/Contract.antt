@@ -1,230 +1,243 @@
--- A vertex `v` is contracted into `u` in one net: the contract, and the steps of its proof. Assumes nothing.
-use Prim.Native.Nat.{ℕ, zero, suc, _+_, _*_, _-_, _<_, _≤_}
-use mathlib.Core.Path.{_≡_, refl, sym, ap, _∙_, subst}
-use mathlib.Core.Bool.{Bool, true, false, cond}
+-- v contracted into u in every net that has v, found by the bitset; the incidence follows at the end. Rests on ContractNet and on pins' Board.
+use Prim.Native.Nat.{ℕ, _+_, _-_, _<_, _≤_}
+use mathlib.Core.Path.{_≡_, refl, sym, ap, _∙_}
+use mathlib.Core.Bool.{Bool, true, false}
 use mathlib.Core.Logic.{⊎-elim, _⊎_, inl, inr}
-use mathlib.Core.List.{List}
+use mathlib.Core.List.{List, _∷_}
 use native.Mathlib.Omega.{arith}
-use native.Mathlib.Decide.{ℕ-discrete}
-use borrow.Author.Tests.{eq-eqb, ne-eqb, eqb-true, eqb-false}
-use lib.Dec.{eqb}
-use lib.ListN.{length, getD}
+use native.Mathlib.Decide.{ℕ-discrete, decLt}
+use lib.ListN.{length, getD, set, length-set}
+use lib.Seq.{getD-set-same, getD-set-other}
 use lib.IntN.{ℤ}
-use Rattle.laws.specs.Integer.{le-or-lt}
-use Rattle.laws.specs.Occurrence.{occ, In, Distinct}
-use Rattle.laws.specs.Place.{place, place-at, place-off}
-use Rattle.connectivity.specs.Listed.{has, vertexAt, has-at, has-none, in-has, has-in, has-iff, has-not}
-use Rattle.pins.specs.Link.{Contracted, Becomes}
-use Rattle.connectivity.specs.Matrix.{upd, Stands, Kept}
-use Rattle.connectivity.specs.Row.{row, upd-here, upd-there}
-use Rattle.connectivity.specs.Laid.{Net}
+use Rattle.laws.specs.Choice.{one, one-full, one-none}
+use Rattle.laws.specs.Occurrence.{at}
+use Rattle.model.specs.Measure.{Contraction}
+use Rattle.guarantees.specs.Climbs.{Sound}
+use Rattle.connectivity.specs.Listed.{has, in-has, has-ext, has-is}
+use Rattle.incidence.specs.On.{on, Next, Joined}
+use Rattle.connectivity.specs.Matrix.{Kept}
+use Rattle.connectivity.specs.Row.{row, row-by}
+use Rattle.connectivity.specs.Laid.{Net, net-ext}
 use Rattle.connectivity.specs.Law.{stands-ext}
-use Rattle.connectivity.specs.Set.{Frame, Seen, Sets, Set}
-use Rattle.levels.specs.Half.{frame-kept, kept-trans}
+use Rattle.connectivity.specs.Set.{frame-kept, kept-trans, kept-none}
+use Rattle.levels.specs.World.{mat, World}
+use Rattle.levels.specs.ContractNet.{setRow, setRow-here, setRow-there, ContractNetNeeds, ContractNetDoes}
+use Rattle.pins.specs.Stack.{row as stackRow, present-on, row-into, row-other, one-or}
+use Rattle.pins.specs.Stretch.{Stretch, stretch-ext, stretch-in, skip-on, stretch-contract}
+use Rattle.pins.specs.Board.{join, half, half-below, half-from, Board, Room, KeptLists, room-kept}
 
--- the matrix with the row `r` for the net `e`
-unfoldable pub setRow : (ℕ → ℕ → ℕ) → ℕ → (ℕ → ℕ) → ℕ → ℕ → ℕ
-setRow Q e r d = cond (eqb d e) r (Q d)
-
--- what `contract_net` needs
-pub record Contracts (weights counts visited pins blocks : List ℕ) (gains : List ℤ) (n m k first p e u v : ℕ) : Type 0 where
-  pub Q : ℕ → ℕ → ℕ
-  pub stands : Stands Q n m k weights counts visited gains
-  pub seen : (y : ℕ) → y < n → Q e y ≡ row pins blocks first p y
-  pub frame : Frame weights counts visited gains n m k
-  pub net : Net pins blocks first p n k
-  pub blocks-fit : n ≤ length blocks
-  pub e-in : e < m
+-- what the loop needs: (u, v) may go on the stack `cs` that the lists and the tables stand for
+pub record ContractsAll (weights counts visited pins blocks firsts sizes bits : List ℕ) (gains : List ℤ) (n m k u v : ℕ) : Type 0 where
+  pub world : World weights counts visited pins blocks firsts sizes gains n m k
+  pub own : ℕ → ℕ → Bool
+  pub cs : List Contraction
+  pub loaded : List ℕ
+  pub sound : Sound (join u v ∷ cs)
+  pub board : Board own (λ _. cs) pins firsts sizes loaded bits n m
+  pub room : Room pins firsts sizes loaded bits n m
   pub u-in : u < n
   pub v-in : v < n
-  pub two : u ≡ v → ⊥
   pub together : getD blocks u 0 ≡ getD blocks v 0
-  pub has-v : has pins first p v ≡ true
+
+-- each net's stretch is what its stack says
+pub record Nets (own : ℕ → ℕ → Bool) (st : ℕ → List Contraction) (pins firsts sizes loaded : List ℕ) (m : ℕ) : Type 0 where
+  pub net : (e : ℕ) → e < m → Stretch (own e) (st e) pins (getD firsts e 0) (getD sizes e 0) (getD loaded e 0)
+
+-- the nets below e are done; the incidence waits
+pub record Contracting (weights blocks firsts bits : List ℕ) (n m k u v e : ℕ) (pins pins′ sizes sizes′ cs cs′ vs vs′ : List ℕ) (g g′ : List ℤ) : Type 0 where
+  pub world : World weights cs′ vs′ pins′ blocks firsts sizes′ g′ n m k
+  pub kept : Kept n m k cs cs′ vs vs′ g g′
+  pub nets : (own : ℕ → ℕ → Bool) (st : List Contraction) (loaded : List ℕ) → Sound (join u v ∷ st) → Room pins firsts sizes loaded bits n m → Board own (λ _. st) pins firsts sizes loaded bits n m →
+      Nets own (half e (join u v ∷ st) st) pins′ firsts sizes′ loaded m
+  pub pins-len : length pins′ ≡ length pins
+  pub sizes-len : length sizes′ ≡ length sizes
+  pub pins-past : (i : ℕ) → ((d : ℕ) → d < m → (i < getD firsts d 0) ⊎ (getD firsts d 0 + getD sizes d 0 ≤ i)) → getD pins′ i 0 ≡ getD pins i 0
+  pub sizes-past : (d : ℕ) → m ≤ d → getD sizes′ d 0 ≡ getD sizes d 0
+  pub shorter : (d : ℕ) → d < m → getD sizes′ d 0 ≤ getD sizes d 0
 
 -- what it does
-pub record Contraction (weights blocks : List ℕ) (n m k first p e u v r : ℕ) (pins pins′ cs cs′ vs vs′ : List ℕ) (g g′ : List ℤ) : Type 0 where
-  pub linked : Contracted pins pins′ first p r (u + 1) (v + 1)
-  pub pins-len : length pins′ ≡ length pins
-  pub shorter : r ≤ p
-  pub net : Net pins′ blocks first r n k
-  pub stands : (Q : ℕ → ℕ → ℕ) → Stands Q n m k weights cs vs g → ((y : ℕ) → y < n → Q e y ≡ row pins blocks first p y) →
-      Stands (setRow Q e (row pins′ blocks first r)) n m k weights cs′ vs′ g′
+pub record ContractedAll (weights blocks firsts : List ℕ) (n m k u v : ℕ) (pins pins′ sizes sizes′ bits bits′ cs cs′ vs vs′ : List ℕ) (g g′ : List ℤ) : Type 0 where
+  pub world : World weights cs′ vs′ pins′ blocks firsts sizes′ g′ n m k
   pub kept : Kept n m k cs cs′ vs vs′ g g′
+  pub board : (own : ℕ → ℕ → Bool) (st : List Contraction) (loaded : List ℕ) → Sound (join u v ∷ st) → Room pins firsts sizes loaded bits n m → Board own (λ _. st) pins firsts sizes loaded bits n m →
+      Board own (λ _. join u v ∷ st) pins′ firsts sizes′ loaded bits′ n m
+  pub room : (loaded : List ℕ) → Room pins firsts sizes loaded bits n m → Room pins′ firsts sizes′ loaded bits′ n m
+  pub kept-lists : (own : ℕ → ℕ → Bool) (st : List Contraction) (loaded : List ℕ) → Board own (λ _. st) pins firsts sizes loaded bits n m → KeptLists firsts loaded m pins pins′ sizes sizes′
 
-pub setRow-here : (Q : ℕ → ℕ → ℕ) (e : ℕ) (r : ℕ → ℕ) → setRow Q e r e ≡ r
-unfolding setRow
-setRow-here Q e r = rw (eq-eqb e e refl)
-
-pub setRow-there : (Q : ℕ → ℕ → ℕ) (e : ℕ) (r : ℕ → ℕ) (d : ℕ) → (d ≡ e → ⊥) → setRow Q e r d ≡ Q d
-unfolding setRow
-setRow-there Q e r d ne = rw (ne-eqb d e ne)
-
-pub row-by : (pins pins′ blocks : List ℕ) (first p r y : ℕ) → has pins first p y ≡ has pins′ first r y → row pins blocks first p y ≡ row pins′ blocks first r y
-unfolding row
-row-by pins pins′ blocks first p r y e = rw e refl
-
-row-yes : (pins blocks : List ℕ) (first p y : ℕ) → has pins first p y ≡ true → row pins blocks first p y ≡ getD blocks y 0
-unfolding row
-row-yes pins blocks first p y e = rw e refl
-
-row-no : (pins blocks : List ℕ) (first p y : ℕ) → has pins first p y ≡ false → row pins blocks first p y ≡ 0
-unfolding row
-row-no pins blocks first p y e = rw e refl
-
--- ---- what `relink` does to the row
-module _ {pins pins′ : List ℕ} {first p r u v : ℕ} (c : Contracted pins pins′ first p r (u + 1) (v + 1)) (ne : u ≡ v → ⊥) (hv : has pins first p v ≡ true) where
-  pub gone-v : has pins′ first r v ≡ false
-  gone-v = has-not pins′ first r v (λ i. let q = c .members (v + 1) .0 i in ⊎-elim (λ b. b .1 (b .0)) (λ b. ne (omega (arith, b .1))) (q .2))
-
-  pub come-u : has pins′ first r u ≡ true
-  come-u = in-has pins′ first r u (c .members (u + 1) .1 (v + 1, has-in pins first p v hv, inr (refl, refl)))
-
-  pub same-y : (y : ℕ) → (y ≡ u → ⊥) → (y ≡ v → ⊥) → has pins first p y ≡ has pins′ first r y
-  same-y y nu nv = has-iff pins pins′ first p r y y
-      (λ i. c .members (y + 1) .1 (y + 1, i, inl (refl, λ z. nv (omega arith))))
-      (λ i. let q = c .members (y + 1) .0 i in ⊎-elim (λ b. subst (In pins first p) (b .0) (q .1)) (λ b. absurd (nu (omega (arith, b .1)))) (q .2))
-
--- ---- the steps of `contract_net`
-module _ {weights cs vs pins blocks : List ℕ} {g : List ℤ} {n m k first p e u v : ℕ} (o : Contracts weights cs vs pins blocks g n m k first p e u v) {s : ℕ} (es : s ≡ getD blocks v 0) where
-  seen-v : (Q : ℕ → ℕ → ℕ) → ((y : ℕ) → y < n → Q e y ≡ row pins blocks first p y) → Seen (Q e) pins blocks first p n v s
-  seen-v Q f y l = f y l ∙ by (ℕ-discrete y v)
+-- ---- the pin lists
+module _ {own : ℕ → ℕ → Bool} {pins firsts sizes loaded : List ℕ} {m : ℕ} (st : List Contraction) (u v e : ℕ) (so : Sound (join u v ∷ st))
+    (b : Nets own (half e (join u v ∷ st) st) pins firsts sizes loaded m) where
+  -- nets that v is no pin of
+  nets-skip : (e′ : ℕ) → e ≤ e′ → e′ ≤ m → ((d : ℕ) → e ≤ d → d < e′ → stackRow (own d) st (v + 1) ≡ false) → Nets own (half e′ (join u v ∷ st) st) pins firsts sizes loaded m
+  nets-skip e′ le high none = record { net = λ d l. net d l (decLt d e) (decLt d e′) }
     where
-      by : Dec (y ≡ v) → row pins blocks first p y ≡ place (row pins blocks first p) v s y
-      by (yes q) = rw q (row-yes pins blocks first p v (o .has-v) ∙ sym es ∙ sym (place-at (row pins blocks first p) v s))
-      by (no q) = sym (place-off (row pins blocks first p) v s y q)
+      net : (d : ℕ) → d < m → Dec (d < e) → Dec (d < e′) → Stretch (own d) (half e′ (join u v ∷ st) st d) pins (getD firsts d 0) (getD sizes d 0) (getD loaded d 0)
+      net d l (yes h) k = rw (half-below e′ (join u v ∷ st) st d (omega arith)) (rw (half-below e (join u v ∷ st) st d h) at (b .net d l))
+      net d l (no h) (yes k) = rw (half-below e′ (join u v ∷ st) st d k) (skip-on (own d) st (join u v) so pins _ _ _ (none d (omega arith) k) (rw (half-from e (join u v ∷ st) st d (omega arith)) at (b .net d l)))
+      net d l (no h) (no k) = rw (half-from e′ (join u v ∷ st) st d (omega arith)) (rw (half-from e (join u v ∷ st) st d (omega arith)) at (b .net d l))
 
-  home : (1 ≤ s) × (s ≤ k)
-  home =
-      let i = has-in pins first p v (o .has-v) in
-      let q : vertexAt pins first (i .0) ≡ v = omega (arith, i .2) in
-      omega (arith, es, o .net .homes (i .0) (i .1), ap (λ (z : ℕ). getD blocks z 0) q)
+  stretch-e : e < m → Stretch (own e) st pins (getD firsts e 0) (getD sizes e 0) (getD loaded e 0)
+  stretch-e he = rw (half-from e (join u v ∷ st) st e (omega arith)) at (b .net e he)
 
-  pub contract-sets : Sets weights cs vs pins blocks g n m k first p e v s 0
-  contract-sets = record {
-    Q = o .Q;
-    stands = o .stands;
-    seen = seen-v (o .Q) (o .seen);
-    frame = o .frame;
-    net = o .net;
-    blocks-fit = o .blocks-fit;
-    e-in = o .e-in;
-    x-in = o .v-in;
-    a-in = home .1;
-    b-in = omega arith;
+  -- one net more
+  nets-more : {pins′ : List ℕ} {r : ℕ} → e < length sizes → (he : e < m) → ((d : ℕ) → d < m → (d ≡ e → ⊥) → (i : ℕ) → i < getD loaded d 0 → at pins′ (getD firsts d 0) i ≡ at pins (getD firsts d 0) i) →
+      Stretch (own e) (join u v ∷ st) pins′ (getD firsts e 0) r (getD loaded e 0) → Nets own (half (e + 1) (join u v ∷ st) st) pins′ firsts (set sizes e r) loaded m
+  nets-more {pins′} {r} fit he far new = record { net = λ d l. net d l (ℕ-discrete d e) (decLt d e) }
+    where
+      size-e : getD (set sizes e r) e 0 ≡ r
+      size-e = getD-set-same sizes e r 0 fit
+
+      same-d : (d : ℕ) → d < m → (d ≡ e → ⊥) → (s : List Contraction) → Stretch (own d) s pins (getD firsts d 0) (getD sizes d 0) (getD loaded d 0) → Stretch (own d) s pins′ (getD firsts d 0) (getD (set sizes e r) d 0) (getD loaded d 0)
+      same-d d l ne s q = rw (getD-set-other sizes e d r 0 ne) (stretch-ext (own d) s pins pins′ _ _ _ (far d l ne) q)
+
+      net : (d : ℕ) → d < m → Dec (d ≡ e) → Dec (d < e) → Stretch (own d) (half (e + 1) (join u v ∷ st) st d) pins′ (getD firsts d 0) (getD (set sizes e r) d 0) (getD loaded d 0)
+      net d l (yes q) k = rw (half-below (e + 1) (join u v ∷ st) st d (omega arith), q, size-e) new
+      net d l (no q) (yes k) = rw (half-below (e + 1) (join u v ∷ st) st d (omega arith)) (same-d d l q (join u v ∷ st) (rw (half-below e (join u v ∷ st) st d k) at (b .net d l)))
+      net d l (no q) (no k) = rw (half-from (e + 1) (join u v ∷ st) st d (omega arith)) (same-d d l q st (rw (half-from e (join u v ∷ st) st d (omega arith)) at (b .net d l)))
+
+module _ {weights cs₀ vs₀ pins₀ blocks firsts sizes₀ bits : List ℕ} {g₀ : List ℤ} {n m k u v : ℕ} (o : ContractsAll weights cs₀ vs₀ pins₀ blocks firsts sizes₀ bits g₀ n m k u v) where
+  -- v's row, whatever the stack
+  row-of : (own : ℕ → ℕ → Bool) (st : List Contraction) (loaded : List ℕ) → Board own (λ _. st) pins₀ firsts sizes₀ loaded bits n m → (d : ℕ) → d < m → on bits v d ≡ one (stackRow (own d) st (v + 1))
+  row-of own st loaded b d l = b .marked v d (o .v-in) l
+
+  nets-start : (own : ℕ → ℕ → Bool) (st : List Contraction) (loaded : List ℕ) → Board own (λ _. st) pins₀ firsts sizes₀ loaded bits n m → Nets own (half 0 (join u v ∷ st) st) pins₀ firsts sizes₀ loaded m
+  nets-start own st loaded b = record { net = λ d l. rw (half-from 0 (join u v ∷ st) st d (omega arith)) (b .nets d l) }
+
+  pub contracting-none : {e : ℕ} → Next bits v 0 m e → Contracting weights blocks firsts bits n m k u v e pins₀ pins₀ sizes₀ sizes₀ cs₀ cs₀ vs₀ vs₀ g₀ g₀
+  contracting-none {e} w = record {
+    world = o .world;
+    kept = kept-none cs₀ vs₀ g₀;
+    nets = λ own st loaded so ro b. nets-skip st u v 0 so (nets-start own st loaded b) e (omega arith) (w .high)
+        (λ d l h. one-none _ (sym (row-of own st loaded b d (omega (arith, w .high))) ∙ w .passed d l h));
+    pins-len = refl;
+    sizes-len = refl;
+    pins-past = λ i h. refl;
+    sizes-past = λ d l. refl;
+    shorter = λ d l. omega arith;
   }
 
-  module _ {cs₁ vs₁ : List ℕ} {g₁ : List ℤ} (d : Set weights pins blocks n m k first p e v s 0 cs cs₁ vs vs₁ g g₁)
-      {pins′ : List ℕ} {r : ℕ} (c : Contracted pins pins′ first p r (u + 1) (v + 1)) (hl : length pins′ ≡ length pins) (hr : r ≤ p) where
-    -- the new stretch is whole
-    net-linked : Net pins′ blocks first r n k
-    net-linked = record {
-      pins-fit = omega (arith, hl, hr, o .net .pins-fit);
-      vertices = λ j l. lot-in j l;
-      homes = λ j l. home-in j l;
-      once = λ i j l h q. let z = c .distinct i j (omega arith) h q in omega (arith, z);
+  module _ {cs vs pins sizes : List ℕ} {g : List ℤ} {e : ℕ} (he : e < m) (here : on bits v e ≡ 1)
+      (c : Contracting weights blocks firsts bits n m k u v e pins₀ pins sizes₀ sizes cs₀ cs vs₀ vs g₀ g)
+      {f p : ℕ} (ef : f ≡ getD firsts e 0) (ep : p ≡ getD sizes e 0) where
+    nets-now : Nets (o .own) (half e (join u v ∷ o .cs) (o .cs)) pins firsts sizes (o .loaded) m
+    nets-now = c .nets (o .own) (o .cs) (o .loaded) (o .sound) (o .room) (o .board)
+
+    has-v : has pins f p v ≡ true
+    has-v = rw (ef, ep) (in-has pins (getD firsts e 0) (getD sizes e 0) v (stretch-in (o .own e) (o .cs) pins _ _ _ (stretch-e (o .cs) u v e (o .sound) nets-now he) (v + 1) (o .sound .0 .gone-on)
+        (one-full _ (omega (arith, row-of (o .own) (o .cs) (o .loaded) (o .board) e he, here)))))
+
+    marked-u : on bits u e ≡ one (has pins f p u)
+    marked-u = rw (ef, ep) (o .board .marked u e (o .u-in) he
+        ∙ ap one (sym (has-is pins (getD firsts e 0) (getD sizes e 0) u (stackRow (o .own e) (o .cs) (u + 1)) (stretch-e (o .cs) u v e (o .sound) nets-now he .pins (u + 1) ∙ present-on (o .own e) (o .cs) (u + 1) (o .sound .0 .into-on)))))
+
+    pub contracting-contracts : ContractNetNeeds weights cs vs pins blocks bits g n m k f p e u v
+    contracting-contracts = record {
+      Q = mat pins blocks firsts sizes;
+      stands = c .world .stands;
+      seen = λ y l. rw (ef, ep) refl;
+      frame = c .world .frame;
+      net = rw (ef, ep) (c .world .lists .nets e he);
+      blocks-fit = c .world .lists .blocks-fit;
+      e-in = he;
+      u-in = o .u-in;
+      v-in = o .v-in;
+      two = λ q. o .sound .0 .two (ap (λ (z : ℕ). z + 1) q);
+      together = o .together;
+      has-v = has-v;
+      marked = marked-u;
+      bits-fit = omega (arith, o .room .bits-fit, o .u-in);
     }
-      where
-        back : (j : ℕ) → j < r → (y : ℕ) × (In pins first p y) × (Becomes (u + 1) (v + 1) y (getD pins′ (first + j) 0))
-        back j l = c .members (getD pins′ (first + j) 0) .0 (j, l, refl)
 
-        lot-in : (j : ℕ) → j < r → (1 ≤ getD pins′ (first + j) 0) × (getD pins′ (first + j) 0 ≤ n)
-        lot-in j l = let q = back j l in ⊎-elim
-            (λ b. omega (arith, b .0, q .1 .2, o .net .vertices (q .1 .0) (q .1 .1)))
-            (λ b. omega (arith, b .1, o .u-in)) (q .2)
+    module _ {cs₁ vs₁ pins₁ : List ℕ} {g₁ : List ℤ} {r : ℕ} (t : ContractNetDoes weights blocks n m k f p e u v r pins pins₁ cs cs₁ vs vs₁ g g₁) where
+      size-e : getD (set sizes e r) e 0 ≡ r
+      size-e = getD-set-same sizes e r 0 (omega (arith, c .world .lists .sizes-fit))
 
-        home-in : (j : ℕ) → j < r → (1 ≤ getD blocks (vertexAt pins′ first j) 0) × (getD blocks (vertexAt pins′ first j) 0 ≤ k)
-        home-in j l = let q = back j l in ⊎-elim
-            (λ b.
-            let z : vertexAt pins first (q .1 .0) ≡ vertexAt pins′ first j = omega (arith, b .0, q .1 .2) in
-            omega (arith, o .net .homes (q .1 .0) (q .1 .1), ap (λ (i : ℕ). getD blocks i 0) z))
-            (λ b.
-            let z : vertexAt pins′ first j ≡ u = omega (arith, b .1) in
-            omega (arith, home, es, o .together, ap (λ (i : ℕ). getD blocks i 0) z))
-            (q .2)
+      size-d : (d : ℕ) → (d ≡ e → ⊥) → getD (set sizes e r) d 0 ≡ getD sizes d 0
+      size-d d ne = getD-set-other sizes e d r 0 ne
 
-    after : (Q : ℕ → ℕ → ℕ) → Stands Q n m k weights cs vs g → ((y : ℕ) → y < n → Q e y ≡ row pins blocks first p y) → Stands (upd Q e v 0) n m k weights cs₁ vs₁ g₁
-    after Q t f = d .stands Q t (seen-v Q f)
+      -- the other nets' places stand as they stood
+      far : (own : ℕ → ℕ → Bool) (st : List Contraction) (loaded : List ℕ) → Room pins₀ firsts sizes₀ loaded bits n m → Nets own (half e (join u v ∷ st) st) pins firsts sizes loaded m →
+          (d : ℕ) → d < m → (d ≡ e → ⊥) → (i : ℕ) → i < getD loaded d 0 → at pins₁ (getD firsts d 0) i ≡ at pins (getD firsts d 0) i
+      far own st loaded ro b d hd ne i l = t .linked .counted .outside (getD firsts d 0 + i) (⊎-elim
+          (λ q. inl (omega (arith, q, ef)))
+          (λ q. inr (omega (arith, q, ef, ep, b .net e he .whole)))
+          (ro .apart d e hd he ne))
 
-    -- `u` was a pin already
-    pub contract-both : has pins first p u ≡ true → Contraction weights blocks n m k first p e u v r pins pins′ cs cs₁ vs vs₁ g g₁
-    contract-both hu = record {
-      linked = c;
-      pins-len = hl;
-      shorter = hr;
-      net = net-linked;
-      stands = λ Q t f. stands-ext (λ i y l h. by Q f i y h (ℕ-discrete i e)) (after Q t f);
-      kept = d .kept;
-    }
-      where
-        at-e : (Q : ℕ → ℕ → ℕ) → ((y : ℕ) → y < n → Q e y ≡ row pins blocks first p y) → (y : ℕ) → y < n → Dec (y ≡ v) → Dec (y ≡ u) → place (Q e) v 0 y ≡ row pins′ blocks first r y
-        at-e Q f y h (yes q) z = rw q (place-at (Q e) v 0 ∙ sym (row-no pins′ blocks first r v (gone-v c (o .two) (o .has-v))))
-        at-e Q f y h (no q) (yes z) = place-off (Q e) v 0 y q ∙ f y h ∙ row-by pins pins′ blocks first p r y (rw z (hu ∙ sym (come-u c (o .two) (o .has-v))))
-        at-e Q f y h (no q) (no z) = place-off (Q e) v 0 y q ∙ f y h ∙ row-by pins pins′ blocks first p r y (same-y c (o .two) (o .has-v) y z q)
+      apart : (d : ℕ) → d < m → (d ≡ e → ⊥) → (i : ℕ) → i < getD sizes d 0 → getD pins₁ (getD firsts d 0 + i) 0 ≡ getD pins (getD firsts d 0 + i) 0
+      apart d hd ne i l = far (o .own) (o .cs) (o .loaded) (o .room) nets-now d hd ne i (omega (arith, nets-now .net d hd .whole))
 
-        by : (Q : ℕ → ℕ → ℕ) → ((y : ℕ) → y < n → Q e y ≡ row pins blocks first p y) → (i y : ℕ) → y < n → Dec (i ≡ e) → upd Q e v 0 i y ≡ setRow Q e (row pins′ blocks first r) i y
-        by Q f i y h (yes q) = rw (q, upd-here, setRow-here) (at-e Q f y h (ℕ-discrete y v) (ℕ-discrete y u))
-        by Q f i y h (no q) = ap (λ (w : ℕ → ℕ). w y) (upd-there Q e v 0 i q ∙ sym (setRow-there Q e (row pins′ blocks first r) i q))
-
-    -- `u` comes in its place
-    module _ (hu : has pins first p u ≡ false) where
-      seen-u : (Q : ℕ → ℕ → ℕ) → ((y : ℕ) → y < n → Q e y ≡ row pins blocks first p y) → Seen (upd Q e v 0 e) pins′ blocks first r n u 0
-      seen-u Q f y l = rw upd-here (by (ℕ-discrete y v) (ℕ-discrete y u))
+      values : (d y : ℕ) → d < m → y < n → setRow (mat pins blocks firsts sizes) e (row pins₁ blocks f r) d y ≡ mat pins₁ blocks firsts (set sizes e r) d y
+      values d y hd hy = by (ℕ-discrete d e)
         where
-          by : Dec (y ≡ v) → Dec (y ≡ u) → place (Q e) v 0 y ≡ place (row pins′ blocks first r) u 0 y
-          by (yes q) z = rw q (place-at (Q e) v 0 ∙ sym (place-off (row pins′ blocks first r) u 0 v (λ i. o .two (sym i)) ∙ row-no pins′ blocks first r v (gone-v c (o .two) (o .has-v))))
-          by (no q) (yes z) = rw z (place-off (Q e) v 0 u (o .two) ∙ f u (o .u-in) ∙ row-no pins blocks first p u hu ∙ sym (place-at (row pins′ blocks first r) u 0))
-          by (no q) (no z) =
-              place-off (Q e) v 0 y q ∙ f y l ∙ row-by pins pins′ blocks first p r y (same-y c (o .two) (o .has-v) y z q) ∙ sym (place-off (row pins′ blocks first r) u 0 y z)
+          has-d : (d ≡ e → ⊥) → has pins (getD firsts d 0) (getD sizes d 0) y ≡ has pins₁ (getD firsts d 0) (getD (set sizes e r) d 0) y
+          has-d ne = sym (rw (size-d d ne) (has-ext pins pins₁ (getD firsts d 0) (getD sizes d 0) y (apart d hd ne)))
 
-      pub contract-sets-2 : Sets weights cs₁ vs₁ pins′ blocks g₁ n m k first r e u 0 s
-      contract-sets-2 = record {
-        Q = upd (o .Q) e v 0;
-        stands = after (o .Q) (o .stands) (o .seen);
-        seen = seen-u (o .Q) (o .seen);
-        frame = frame-kept (o .frame) (d .kept);
-        net = net-linked;
-        blocks-fit = o .blocks-fit;
-        e-in = o .e-in;
-        x-in = o .u-in;
-        a-in = omega arith;
-        b-in = home .1;
+          by : Dec (d ≡ e) → setRow (mat pins blocks firsts sizes) e (row pins₁ blocks f r) d y ≡ mat pins₁ blocks firsts (set sizes e r) d y
+          by (yes q) = rw (q, setRow-here, size-e, ef) refl
+          by (no q) = ap (λ (w : ℕ → ℕ). w y) (setRow-there (mat pins blocks firsts sizes) e (row pins₁ blocks f r) d q)
+              ∙ row-by pins pins₁ blocks (getD firsts d 0) (getD sizes d 0) (getD (set sizes e r) d 0) y (has-d q)
+
+      net-at : (d : ℕ) → d < m → Dec (d ≡ e) → Net pins₁ blocks (getD firsts d 0) (getD (set sizes e r) d 0) n k
+      net-at d l (yes q) = rw (q, size-e, ← ef) (t .net)
+      net-at d l (no q) = rw (size-d d q) (net-ext (t .pins-len) (apart d l q) (c .world .lists .nets d l))
+
+      new : (own : ℕ → ℕ → Bool) (st : List Contraction) (loaded : List ℕ) → Sound (join u v ∷ st) → Board own (λ _. st) pins₀ firsts sizes₀ loaded bits n m → Nets own (half e (join u v ∷ st) st) pins firsts sizes loaded m →
+          Stretch (own e) (join u v ∷ st) pins₁ (getD firsts e 0) r (getD loaded e 0)
+      new own st loaded so b q = stretch-contract (own e) st (join u v) so pins (getD firsts e 0) (getD sizes e 0) (getD loaded e 0) (one-full _ (omega (arith, row-of own st loaded b e he, here))) pins₁ r
+          (stretch-e st u v e so q he) (rw (ef, ep) at (t .linked .counted))
+
+      smaller : (d : ℕ) → d < m → Dec (d ≡ e) → getD (set sizes e r) d 0 ≤ getD sizes₀ d 0
+      smaller d l (yes q) = rw q (omega (arith, size-e, t .shorter, ep, c .shorter e he))
+      smaller d l (no q) = omega (arith, size-d d q, c .shorter d l)
+
+      pub contracting-more : {e′ : ℕ} → Next bits v (e + 1) m e′ → Contracting weights blocks firsts bits n m k u v e′ pins₀ pins₁ sizes₀ (set sizes e r) cs₀ cs₁ vs₀ vs₁ g₀ g₁
+      contracting-more {e′} w = record {
+        world = record {
+          stands = stands-ext (λ d y l q. values d y l q) (t .stands (mat pins blocks firsts sizes) (c .world .stands) (λ y l. rw (ef, ep) refl));
+          frame = frame-kept (c .world .frame) (t .kept);
+          lists = record {
+            nets = λ d l. net-at d l (ℕ-discrete d e);
+            blocks-fit = c .world .lists .blocks-fit;
+            firsts-fit = c .world .lists .firsts-fit;
+            sizes-fit = omega (arith, length-set sizes e r, c .world .lists .sizes-fit);
+          };
+        };
+        kept = kept-trans (c .kept) (t .kept);
+        nets = λ own st loaded so ro b. let q = c .nets own st loaded so ro b in
+            nets-skip st u v (e + 1) so (nets-more st u v e so q (omega (arith, c .world .lists .sizes-fit)) he (far own st loaded ro q) (new own st loaded so b q)) e′ (w .low) (w .high)
+            (λ d l h. one-none _ (sym (row-of own st loaded b d (omega (arith, w .high))) ∙ w .passed d l h));
+        pins-len = t .pins-len ∙ c .pins-len;
+        sizes-len = length-set sizes e r ∙ c .sizes-len;
+        pins-past = λ i h. t .linked .counted .outside i (⊎-elim (λ q. inl (omega (arith, q, ef))) (λ q. inr (omega (arith, q, ef, ep, c .shorter e he))) (h e he)) ∙ c .pins-past i h;
+        sizes-past = λ d l. size-d d (λ q. omega arith) ∙ c .sizes-past d l;
+        shorter = λ d l. smaller d l (ℕ-discrete d e);
       }
 
-      pub contract-new : {cs₂ vs₂ : List ℕ} {g₂ : List ℤ} → Set weights pins′ blocks n m k first r e u 0 s cs₁ cs₂ vs₁ vs₂ g₁ g₂ → Contraction weights blocks n m k first p e u v r pins pins′ cs cs₂ vs vs₂ g g₂
-      contract-new t = record {
-        linked = c;
-        pins-len = hl;
-        shorter = hr;
-        net = net-linked;
-        stands = λ Q q f. stands-ext (λ i y l h. by Q f i y h (ℕ-discrete i e)) (t .stands (upd Q e v 0) (after Q q f) (seen-u Q f));
-        kept = kept-trans (d .kept) (t .kept);
-      }
-        where
-          at-e : (Q : ℕ → ℕ → ℕ) → ((y : ℕ) → y < n → Q e y ≡ row pins blocks first p y) → (y : ℕ) → y < n → Dec (y ≡ u) → place (upd Q e v 0 e) u s y ≡ row pins′ blocks first r y
-          at-e Q f y h (yes z) = rw z (place-at (upd Q e v 0 e) u s ∙ es ∙ sym (o .together) ∙ sym (row-yes pins′ blocks first r u (come-u c (o .two) (o .has-v))))
-          at-e Q f y h (no z) = place-off (upd Q e v 0 e) u s y z ∙ seen-u Q f y h ∙ place-off (row pins′ blocks first r) u 0 y z
-
-          by : (Q : ℕ → ℕ → ℕ) → ((y : ℕ) → y < n → Q e y ≡ row pins blocks first p y) → (i y : ℕ) → y < n → Dec (i ≡ e) → upd (upd Q e v 0) e u s i y ≡ setRow Q e (row pins′ blocks first r) i y
-          by Q f i y h (yes q) = rw (q, setRow-here) (ap (λ (w : ℕ → ℕ). w y) (upd-here (upd Q e v 0) e u s) ∙ at-e Q f y h (ℕ-discrete y u))
-          by Q f i y h (no q) = ap (λ (w : ℕ → ℕ). w y) (upd-there (upd Q e v 0) e u s i q ∙ upd-there Q e v 0 i q ∙ sym (setRow-there Q e (row pins′ blocks first r) i q))
-
--- ---- what `relink` needs and says, by the pins that the code passes
-pub linked-of : {pins pins′ : List ℕ} {first p r a b : ℕ} (u v : ℕ) → a ≡ u + 1 → b ≡ v + 1 → Contracted pins pins′ first p r a b → Contracted pins pins′ first p r (u + 1) (v + 1)
-linked-of {pins} {pins′} {first} {p} {r} {a} {b} u v ea eb c =
-    subst (λ (z : ℕ). Contracted pins pins′ first p r (u + 1) z) eb (subst (λ (z : ℕ). Contracted pins pins′ first p r z b) ea c)
-
-pub linked-le : {pins pins′ : List ℕ} {first p r u v : ℕ} → Contracted pins pins′ first p r u v → r ≤ p
-linked-le {pins} {pins′} {first} {p} {r} {u} c = ⊎-elim
-    (λ l. omega (arith, c .counted .removed l))
-    (λ l. omega (arith, c .counted .replaced (omega arith)))
-    (le-or-lt 1 (occ pins first p u))
-
-module _ {weights cs vs pins blocks : List ℕ} {g : List ℤ} {n m k first p e u v : ℕ} (o : Contracts weights cs vs pins blocks g n m k first p e u v) where
-  pub distinct : Distinct pins first p
-  distinct i j hi hj q = ⊎-elim
-      (λ l. ⊎-elim (λ h. omega arith) (λ h. absurd (o .net .once i j h hj q)) (le-or-lt j i))
-      (λ l. absurd (o .net .once j i l hi (sym q)))
-      (le-or-lt i j)
-
-  pub in-v : {b : ℕ} → b ≡ v + 1 → In pins first p b
-  in-v eb = rw eb (has-in pins first p v (o .has-v))
+  pub contracting-done : {cs vs pins sizes bits′ : List ℕ} {g : List ℤ} {e : ℕ} → e ≡ m → Contracting weights blocks firsts bits n m k u v e pins₀ pins sizes₀ sizes cs₀ cs vs₀ vs g₀ g → Joined bits bits′ u v →
+      ContractedAll weights blocks firsts n m k u v pins₀ pins sizes₀ sizes bits bits′ cs₀ cs vs₀ vs g₀ g
+  contracting-done {pins} {sizes} {bits′} {e} q c j = record {
+    world = c .world;
+    kept = c .kept;
+    board = λ own st loaded so ro b. record {
+      nets = λ d l. rw (half-below e (join u v ∷ st) st d (omega arith)) at (c .nets own st loaded so ro b .net d l);
+      marked = λ x d k l. bit-after own st loaded b x d k l (ℕ-discrete x u);
+    };
+    room = λ loaded ro. room-kept (c .pins-len) (c .sizes-len) (j .len) ro;
+    kept-lists = λ own st loaded b. record {
+      pins-len = c .pins-len;
+      sizes-len = c .sizes-len;
+      pins-past = λ i h. c .pins-past i (λ d l. ⊎-elim (λ q. inl q) (λ q. inr (omega (arith, q, b .nets d l .whole))) (h d l));
+      sizes-past = c .sizes-past;
+    };
+  }
+    where
+      bit-after : (own : ℕ → ℕ → Bool) (st : List Contraction) (loaded : List ℕ) → Board own (λ _. st) pins₀ firsts sizes₀ loaded bits n m → (x d : ℕ) → x < n → d < m → Dec (x ≡ u) → on bits′ x d ≡ one (stackRow (own d) (join u v ∷ st) (x + 1))
+      bit-after own st loaded b x d xn l (yes z) = rw z (omega (
+        arith,
+        j .here d (omega (arith, o .room .few-nets)),
+        b .marked u d (o .u-in) l,
+        b .marked v d (o .v-in) l,
+        ap one (row-into (own d) st (join u v)),
+        one-or (stackRow (own d) st (u + 1)) (stackRow (own d) st (v + 1)),
+      ))
+      bit-after own st loaded b x d xn l (no z) = j .elsewhere x d (omega (arith, o .room .few-nets)) z ∙ b .marked x d xn l ∙ ap one (sym (row-other (own d) st (join u v) (x + 1) (λ q. z (omega arith))))

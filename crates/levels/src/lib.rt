@@ -4,20 +4,19 @@ mod numbers;
 
 ghost use Prim.Native.Nat.{ℕ, _+_, _<_, _≤_};
 ghost use mathlib.Core.Path.{_≡_};
-ghost use Rattle.levels.specs.World.{Moves, Moved};
-ghost use Rattle.levels.specs.Rows.{Folds, Folded};
-ghost use Rattle.levels.specs.Undo.{Undoes, Undone};
-ghost use Rattle.levels.specs.Refine.{Rejoins, Rejoined};
+ghost use Rattle.levels.specs.Running.{running};
+ghost use Rattle.levels.specs.Contract.{ContractsAll, ContractedAll};
+ghost use Rattle.levels.specs.Uncontract.{UncontractsAll, UncontractedAll};
+ghost use Rattle.levels.specs.Operations.{MoveNeeds, MoveDoes, ContractNeeds, ContractDoes, UncontractNeeds, UncontractDoes};
 use connectivity::set_pin;
 use incidence::copy_or;
 use incidence::next_net;
 use nets::contract_net;
-use nets::holds;
 use nets::split_net;
 use numbers::index;
 use numbers::narrow;
 
-// Moves the vertex `u` to the block `t`.
+// Moves the vertex `u`, which is on the board, to the block `t`.
 pub fn move_vertex(
     counts: &mut [u16],
     visited: &mut [u16],
@@ -27,47 +26,46 @@ pub fn move_vertex(
     pins: &[u16],
     firsts: &[u16],
     sizes: &[u16],
+    bits: &[u64],
     n: usize,
     m: usize,
     k: usize,
     u: usize,
     t: u16,
 )
-    requires { ⌜ Moves (now weights) (now counts) (now visited) (now pins) (now blocks) (now firsts) (now sizes) (now gains) n m k u t ⌝ }
-    ensures { λ _. ⌜ Moved (now (weights .entry)) (now (pins .entry)) (now (firsts .entry)) (now (sizes .entry)) n m k u t (now (blocks .entry)) (now (blocks .exit)) (now (counts .entry)) (now (counts .exit)) (now (visited .entry)) (now (visited .exit)) (now (gains .entry)) (now (gains .exit)) ⌝ }
+    requires { ⌜ MoveNeeds (running (now counts) (now visited) (now gains) (now pins) (now sizes) (now bits) (now blocks) (now weights) (now firsts)) n m k u t ⌝ }
+    ensures { λ _. ⌜ MoveDoes (running (now (counts .entry)) (now (visited .entry)) (now (gains .entry)) (now (pins .entry)) (now (sizes .entry)) (now (bits .entry)) (now (blocks .entry)) (now (weights .entry)) (now (firsts .entry))) (running (now (counts .exit)) (now (visited .exit)) (now (gains .exit)) (now (pins .entry)) (now (sizes .entry)) (now (bits .entry)) (now (blocks .exit)) (now (weights .entry)) (now (firsts .entry))) n m k u t ⌝ }
 {
     let s = index(blocks[u]);
     let b = index(t);
-    let mut e = 0;
+    let mut e = next_net(bits, u, 0, m);
     while e < m {
         let first = index(firsts[e]);
         let p = index(sizes[e]);
-        if holds(pins, first, p, u) {
-            set_pin(
-                counts,
-                visited,
-                gains,
-                weights,
-                pins,
-                blocks,
-                n,
-                m,
-                k,
-                first,
-                p,
-                e,
-                u,
-                s,
-                b,
-            );
-        }
-        e += 1;
+        set_pin(
+            counts,
+            visited,
+            gains,
+            weights,
+            pins,
+            blocks,
+            n,
+            m,
+            k,
+            first,
+            p,
+            e,
+            u,
+            s,
+            b,
+        );
+        e = next_net(bits, u, e + 1, m);
     }
     blocks[u] = t;
 }
 
-// Contracts `v` into `u`, of the same block, in every net that `v` is a pin of.
-pub fn contract(
+// ContractNetNeeds `v` into `u`, of the same block, in every net that has `v`.
+fn contract_nets(
     counts: &mut [u16],
     visited: &mut [u16],
     gains: &mut [i32],
@@ -83,8 +81,8 @@ pub fn contract(
     u: usize,
     v: usize,
 )
-    requires { ⌜ Folds (now weights) (now counts) (now visited) (now pins) (now blocks) (now firsts) (now sizes) (now bits) (now gains) n m k u v ⌝ }
-    ensures { λ _. ⌜ Folded (now (weights .entry)) (now (blocks .entry)) (now (firsts .entry)) n m k u v (now (pins .entry)) (now (pins .exit)) (now (sizes .entry)) (now (sizes .exit)) (now (bits .entry)) (now (bits .exit)) (now (counts .entry)) (now (counts .exit)) (now (visited .entry)) (now (visited .exit)) (now (gains .entry)) (now (gains .exit)) ⌝ }
+    requires { ⌜ ContractsAll (now weights) (now counts) (now visited) (now pins) (now blocks) (now firsts) (now sizes) (now bits) (now gains) n m k u v ⌝ }
+    ensures { λ _. ⌜ ContractedAll (now (weights .entry)) (now (blocks .entry)) (now (firsts .entry)) n m k u v (now (pins .entry)) (now (pins .exit)) (now (sizes .entry)) (now (sizes .exit)) (now (bits .entry)) (now (bits .exit)) (now (counts .entry)) (now (counts .exit)) (now (visited .entry)) (now (visited .exit)) (now (gains .entry)) (now (gains .exit)) ⌝ }
 {
     let mut e = next_net(bits, v, 0, m);
     while e < m {
@@ -95,6 +93,7 @@ pub fn contract(
             visited,
             gains,
             pins,
+            bits,
             weights,
             blocks,
             n,
@@ -112,8 +111,47 @@ pub fn contract(
     copy_or(bits, u, v);
 }
 
-// Splits `v` from `u`, of the same block, in every net that `v` was a pin of.
-pub fn uncontract_nets(
+// ContractNetNeeds `v` into `u`, of the same block: `v` leaves the board.
+pub fn contract(
+    counts: &mut [u16],
+    visited: &mut [u16],
+    gains: &mut [i32],
+    pins: &mut [u16],
+    sizes: &mut [u16],
+    bits: &mut [u64],
+    blocks: &mut [u16],
+    weights: &[u16],
+    firsts: &[u16],
+    n: usize,
+    m: usize,
+    k: usize,
+    u: usize,
+    v: usize,
+)
+    requires { ⌜ ContractNeeds (running (now counts) (now visited) (now gains) (now pins) (now sizes) (now bits) (now blocks) (now weights) (now firsts)) n m k u v ⌝ }
+    ensures { λ _. ⌜ ContractDoes (running (now (counts .entry)) (now (visited .entry)) (now (gains .entry)) (now (pins .entry)) (now (sizes .entry)) (now (bits .entry)) (now (blocks .entry)) (now (weights .entry)) (now (firsts .entry))) (running (now (counts .exit)) (now (visited .exit)) (now (gains .exit)) (now (pins .exit)) (now (sizes .exit)) (now (bits .exit)) (now (blocks .exit)) (now (weights .entry)) (now (firsts .entry))) n m k u v ⌝ }
+{
+    contract_nets(
+        counts,
+        visited,
+        gains,
+        pins,
+        sizes,
+        bits,
+        weights,
+        blocks,
+        firsts,
+        n,
+        m,
+        k,
+        u,
+        v,
+    );
+    blocks[v] = 0;
+}
+
+// Splits `v` from `u`, of the same block, in every net that had `v`.
+fn uncontract_nets(
     counts: &mut [u16],
     visited: &mut [u16],
     gains: &mut [i32],
@@ -130,8 +168,8 @@ pub fn uncontract_nets(
     u: usize,
     v: usize,
 )
-    requires { ⌜ Undoes (now weights) (now counts) (now visited) (now pins) (now blocks) (now firsts) (now sizes) (now loaded) (now bits) (now gains) n m k u v ⌝ }
-    ensures { λ _. ⌜ Undone (now (weights .entry)) (now (blocks .entry)) (now (firsts .entry)) (now (loaded .entry)) n m k u v (now (pins .entry)) (now (pins .exit)) (now (sizes .entry)) (now (sizes .exit)) (now (bits .entry)) (now (bits .exit)) (now (counts .entry)) (now (counts .exit)) (now (visited .entry)) (now (visited .exit)) (now (gains .entry)) (now (gains .exit)) ⌝ }
+    requires { ⌜ UncontractsAll (now weights) (now counts) (now visited) (now pins) (now blocks) (now firsts) (now sizes) (now loaded) (now bits) (now gains) n m k u v ⌝ }
+    ensures { λ _. ⌜ UncontractedAll (now (weights .entry)) (now (blocks .entry)) (now (firsts .entry)) (now (loaded .entry)) n m k u v (now (pins .entry)) (now (pins .exit)) (now (sizes .entry)) (now (sizes .exit)) (now (bits .entry)) (now (bits .exit)) (now (counts .entry)) (now (counts .exit)) (now (visited .entry)) (now (visited .exit)) (now (gains .entry)) (now (gains .exit)) ⌝ }
 {
     let mut e = next_net(bits, v, 0, m);
     while e < m {
@@ -161,7 +199,7 @@ pub fn uncontract_nets(
     }
 }
 
-// Splits `v` from `u`, in whose present block it returns.
+// Undoes the latest contraction, of `v` into `u`: `v` returns in the present block of `u`.
 pub fn uncontract(
     counts: &mut [u16],
     visited: &mut [u16],
@@ -179,8 +217,8 @@ pub fn uncontract(
     u: usize,
     v: usize,
 )
-    requires { ⌜ Rejoins (now weights) (now counts) (now visited) (now pins) (now blocks) (now firsts) (now sizes) (now loaded) (now bits) (now gains) n m k u v ⌝ }
-    ensures { λ _. ⌜ Rejoined (now (weights .entry)) (now (firsts .entry)) (now (loaded .entry)) n m k u v (now (pins .entry)) (now (pins .exit)) (now (blocks .entry)) (now (blocks .exit)) (now (sizes .entry)) (now (sizes .exit)) (now (bits .entry)) (now (bits .exit)) (now (counts .exit)) (now (visited .exit)) (now (gains .exit)) ⌝ }
+    requires { ⌜ UncontractNeeds (now loaded) (running (now counts) (now visited) (now gains) (now pins) (now sizes) (now bits) (now blocks) (now weights) (now firsts)) n m k u v ⌝ }
+    ensures { λ _. ⌜ UncontractDoes (now (loaded .entry)) (running (now (counts .entry)) (now (visited .entry)) (now (gains .entry)) (now (pins .entry)) (now (sizes .entry)) (now (bits .entry)) (now (blocks .entry)) (now (weights .entry)) (now (firsts .entry))) (running (now (counts .exit)) (now (visited .exit)) (now (gains .exit)) (now (pins .exit)) (now (sizes .exit)) (now (bits .exit)) (now (blocks .exit)) (now (weights .entry)) (now (firsts .entry))) n m k u v ⌝ }
 {
     blocks[v] = blocks[u];
     uncontract_nets(

@@ -1,39 +1,22 @@
-// Contraction and uncontraction in one net: its pin list, its counts and its shares in the gains.
+// ContractNetDoes and uncontraction in one net: its pin list, its counts and its shares in the gains.
 ghost use Prim.Native.Nat.{ℕ, _+_, _<_, _≤_};
 ghost use mathlib.Core.Path.{_≡_};
-ghost use lib.ListN.{length};
-ghost use Rattle.connectivity.specs.Listed.{has};
-ghost use Rattle.levels.specs.Contract.{Contracts, Contraction};
-ghost use Rattle.levels.specs.Part.{Parts, Parted};
+ghost use Rattle.levels.specs.ContractNet.{ContractNetNeeds, ContractNetDoes};
+ghost use Rattle.levels.specs.SplitNet.{SplitNetNeeds, SplitNetDoes};
 use crate::numbers::index;
 use crate::numbers::number;
 use connectivity::set_pin;
+use incidence::is_pin;
 use pins::relink;
 use pins::uncontract_net;
 
-// Whether the vertex `u`, counted from 0, is among the `p` pins from `first`.
-pub fn holds(pins: &[u16], first: usize, p: usize, u: usize) -> bool
-    requires { ⌜ first + p ≤ length (now pins) ⌝ }
-    requires { ⌜ u < 65535 ⌝ }
-    ensures { λ r. ⌜ r ≡ has (now (pins .entry)) first p u ⌝ }
-{
-    let mut i = 0;
-    while i < p {
-        let q = index(pins[first + i]);
-        if q == u + 1 {
-            return true;
-        }
-        i += 1;
-    }
-    false
-}
-
-// Contracts `v`, a pin of the net `e`, into `u`, of the same block. The answer is the new number of pins.
+// ContractNetNeeds `v`, a pin of the net `e`, into `u`, of the same block. The answer is the new number of pins.
 pub fn contract_net(
     counts: &mut [u16],
     visited: &mut [u16],
     gains: &mut [i32],
     pins: &mut [u16],
+    bits: &[u64],
     weights: &[u16],
     blocks: &[u16],
     n: usize,
@@ -45,8 +28,8 @@ pub fn contract_net(
     u: usize,
     v: usize,
 ) -> usize
-    requires { ⌜ Contracts (now weights) (now counts) (now visited) (now pins) (now blocks) (now gains) n m k first p e u v ⌝ }
-    ensures { λ r. ⌜ Contraction (now (weights .entry)) (now (blocks .entry)) n m k first p e u v r (now (pins .entry)) (now (pins .exit)) (now (counts .entry)) (now (counts .exit)) (now (visited .entry)) (now (visited .exit)) (now (gains .entry)) (now (gains .exit)) ⌝ }
+    requires { ⌜ ContractNetNeeds (now weights) (now counts) (now visited) (now pins) (now blocks) (now bits) (now gains) n m k first p e u v ⌝ }
+    ensures { λ r. ⌜ ContractNetDoes (now (weights .entry)) (now (blocks .entry)) n m k first p e u v r (now (pins .entry)) (now (pins .exit)) (now (counts .entry)) (now (counts .exit)) (now (visited .entry)) (now (visited .exit)) (now (gains .entry)) (now (gains .exit)) ⌝ }
 {
     let s = index(blocks[v]);
     set_pin(
@@ -66,9 +49,9 @@ pub fn contract_net(
         s,
         0,
     );
-    let both = holds(pins, first, p, u);
-    let r = relink(pins, first, p, number(u), number(v));
-    if both {
+    let both = is_pin(bits, u, e);
+    let r = relink(pins, first, p, number(u), number(v), both);
+    if r < p {
         return r;
     }
     set_pin(
@@ -110,8 +93,8 @@ pub fn split_net(
     u: usize,
     v: usize,
 ) -> usize
-    requires { ⌜ Parts (now weights) (now counts) (now visited) (now pins) (now blocks) (now bits) (now gains) n m k first p loaded e u v ⌝ }
-    ensures { λ r. ⌜ Parted (now (weights .entry)) (now (blocks .entry)) n m k first p loaded e u v r (now (pins .entry)) (now (pins .exit)) (now (bits .entry)) (now (bits .exit)) (now (counts .entry)) (now (counts .exit)) (now (visited .entry)) (now (visited .exit)) (now (gains .entry)) (now (gains .exit)) ⌝ }
+    requires { ⌜ SplitNetNeeds (now weights) (now counts) (now visited) (now pins) (now blocks) (now bits) (now gains) n m k first p loaded e u v ⌝ }
+    ensures { λ r. ⌜ SplitNetDoes (now (weights .entry)) (now (blocks .entry)) n m k first p loaded e u v r (now (pins .entry)) (now (pins .exit)) (now (bits .entry)) (now (bits .exit)) (now (counts .entry)) (now (counts .exit)) (now (visited .entry)) (now (visited .exit)) (now (gains .entry)) (now (gains .exit)) ⌝ }
 {
     let s = index(blocks[v]);
     set_pin(

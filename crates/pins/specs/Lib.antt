@@ -3,7 +3,10 @@
 -- Stack    what the contraction stack says of a net: its pins, and those removed, the last removed first
 -- Stretch  one net's list against the stack
 -- Board    all nets' lists and the incidence against a stack for each net
+-- Split    a contraction undone in one net; Uncontract in all nets
 pub mod Link
 pub mod Stack
 pub mod Stretch
 pub mod Board
+pub mod Split
+pub mod Uncontract

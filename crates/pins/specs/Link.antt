@@ -1,14 +1,13 @@
--- The contracts of `pins`, and that `unlink` undoes `relink`. Assumes nothing.
+-- One net's stretch of pins: a vertex found in it, replaced or removed by a contraction, put back by the undo. Rests on laws of occurrences.
 use mathlib.Core.Path.{_≡_, refl, sym, ap, _∙_}
-use mathlib.Core.Logic.{_⊎_, inl, inr, ⊎-elim, _↔_}
+use mathlib.Core.Logic.{_⊎_, inl, inr, _↔_}
 use mathlib.Core.List.{List}
-use Prim.Native.Nat.{ℕ, zero, suc, _+_, _-_, _≤_, _<_, max}
-use native.Mathlib.Nat.{eq-zero-or-pos}
+use Prim.Native.Nat.{ℕ, _+_, _-_, _≤_, _<_, max}
 use native.Mathlib.Decide.{ℕ-discrete, decLt}
 use native.Mathlib.Omega.{arith}
 use lib.ListN.{length, getD, set, length-set}
 use lib.Seq.{getD-set-same, getD-set-other}
-use Rattle.laws.specs.Occurrence.{at, same, occ, In, Distinct, same-yes, same-no, same-le, occ-suc, occ-step, occ-none, occ-at, occ-in, occ-set, occ-split, occ-ext, distinct-occ, occ-distinct}
+use Rattle.laws.specs.Occurrence.{at, same, occ, In, Distinct, same-yes, same-no, same-le, occ-step, occ-at, occ-in, occ-set, distinct-occ, occ-distinct}
 
 -- r is a place of the stretch that holds x, or n where x is in none
 pub record Found (l : List ℕ) (f n x r : ℕ) : Type 0 where
@@ -154,58 +153,3 @@ unput-law l f n N u v i b k e not = record {
   replaced = λ h. (refl, put-counts l f n v u b i k e v);
   outside = put-outside l f n v u b i k e v;
 }
-
--- ---- `unlink` undoes `relink`
-
--- Between the two calls, contractions that were undone may have moved what stands in the stretch: it is the same as a set, and the places past it stand as they stood.
--- `past`: when v was contracted, the place just past the stretch did not hold v.
-module _ (l l₁ l₂ l₃ : List ℕ) (f n n₁ n₃ N u v : ℕ) (b : n ≤ N) (past : n < N → at l f n ≡ v → ⊥)
-    (re : Relinked l l₁ f n n₁ u v) (sets : (x : ℕ) → occ l₂ f n₁ x ≡ occ l₁ f n₁ x) (after : n₁ < N → at l₂ f n₁ ≡ at l₁ f n₁)
-    (un : Unlinked l₂ l₃ f n₁ N n₃ u v) where
-  undo-removed : 1 ≤ occ l f n u → (n₃ ≡ n) × ((x : ℕ) → occ l₃ f n x ≡ occ l f n x)
-  undo-removed some =
-      let r : (n₁ + 1 ≡ n) × (at l₁ f n₁ ≡ v) = re .removed some in
-      let e : at l₂ f n₁ ≡ v = after (omega arith) ∙ r .1 in
-      let k = un .restored (omega arith) e in
-      (omega arith, λ x. go x r e (k .1) (ℕ-discrete u x))
-    where
-      go : (x : ℕ) → (n₁ + 1 ≡ n) × (at l₁ f n₁ ≡ v) → at l₂ f n₁ ≡ v → l₃ ≡ l₂ → Dec (u ≡ x) → occ l₃ f n x ≡ occ l f n x
-      go x r e q (yes o) = omega (arith, ap (λ (z : List ℕ). occ z f n x) q, rw (r .0) at (occ-step l₂ f n₁ x), ap (λ (z : ℕ). same z x) e, sets x, re .counts x, ap (occ l f n) o, same-le u x)
-      go x r e q (no o) = omega (arith, ap (λ (z : List ℕ). occ z f n x) q, rw (r .0) at (occ-step l₂ f n₁ x), ap (λ (z : ℕ). same z x) e, sets x, re .counts x, same-no u x o)
-
-  undo-replaced : occ l f n u ≡ 0 → (n₃ ≡ n) × ((x : ℕ) → occ l₃ f n x ≡ occ l f n x)
-  undo-replaced none =
-      let r : n₁ ≡ n = re .replaced none in
-      let far : at l₁ f n₁ ≡ at l f n = re .outside (f + n₁) (inr (omega arith)) ∙ ap (at l f) r in
-      let k = un .replaced (λ h. past (omega (arith, h .0)) (sym far ∙ sym (after (h .0)) ∙ h .1)) in
-      (omega arith, λ x. go x r (k .1 x) (ℕ-discrete u x))
-    where
-      go : (x : ℕ) → n₁ ≡ n → occ l₃ f n₁ x + same u x ≡ occ l₂ f n₁ x + same v x → Dec (u ≡ x) → occ l₃ f n x ≡ occ l f n x
-      go x r k (yes o) = omega (arith, ap (λ (z : ℕ). occ l₃ f z x) r, k, sets x, re .counts x, ap (occ l f n) o, same-yes u x o)
-      go x r k (no o) = omega (arith, ap (λ (z : ℕ). occ l₃ f z x) r, k, sets x, re .counts x, same-no u x o)
-
-  pub undone : (n₃ ≡ n) × ((x : ℕ) → occ l₃ f n x ≡ occ l f n x)
-  undone = ⊎-elim undo-replaced undo-removed (eq-zero-or-pos (occ l f n u))
-
--- where all that was loaded is distinct, the place past the stretch does not hold what is in the stretch
-pub past-law : (l : List ℕ) (f n N v : ℕ) → Distinct l f N → In l f n v → n < N → at l f n ≡ v → ⊥
-past-law l f n N v d i k e = omega (arith, i .1, d (i .0) n (omega (arith, i .1)) k (i .2 ∙ sym e))
-
--- and it stays distinct where u does not stand past the stretch
-pub loaded-distinct : (l l′ : List ℕ) (f n m r u v : ℕ) → Distinct l f (n + m) → occ l (f + n) m u ≡ 0 → Relinked l l′ f n r u v → Distinct l′ f (n + m)
-loaded-distinct l l′ f n m r u v d none re =
-    occ-distinct l′ f (n + m) (λ x. go x (ℕ-discrete u x) (eq-zero-or-pos (occ l f n u)))
-  where
-    tail : (x : ℕ) → occ l′ (f + n) m x ≡ occ l (f + n) m x
-    tail x = occ-ext l l′ (f + n) m x (λ i k. re .outside (f + n + i) (inr (omega arith)))
-
-    -- what r places and v make, n places make
-    head : (x : ℕ) → (occ l f n u ≡ 0) ⊎ (0 < occ l f n u) → occ l′ f n x ≤ max (occ l f n x) (same u x)
-    head x (inl z) = omega (arith, re .counts x, ap (λ (y : ℕ). occ l′ f y x) (re .replaced z))
-    head x (inr z) =
-        let q : (r + 1 ≡ n) × (at l′ f r ≡ v) = re .removed z in
-        omega (arith, re .counts x, rw (q .0) at (occ-step l′ f r x), ap (λ (y : ℕ). same y x) (q .1))
-
-    go : (x : ℕ) → Dec (u ≡ x) → (occ l f n u ≡ 0) ⊎ (0 < occ l f n u) → occ l′ f (n + m) x ≤ 1
-    go x (yes o) z = omega (arith, occ-split l′ f n m x, tail x, head x z, same-le u x, ap (occ l (f + n) m) o, distinct-occ l f (n + m) d x, occ-split l f n m x)
-    go x (no o) z = omega (arith, occ-split l′ f n m x, tail x, head x z, same-no u x o, distinct-occ l f (n + m) d x, occ-split l f n m x)

@@ -1,19 +1,19 @@
--- One net's stretch against the contraction stack, and the steps of contraction and its undo. Assumes nothing.
+-- One net's list against the contraction stack, through a contraction and its undo. Rests on Link and Stack.
 use Prim.Native.Nat.{ℕ, zero, suc, _+_, _-_, _≤_, _<_, max}
-use native.Mathlib.Nat.{add-zero, add-suc}
-use native.Mathlib.Decide.{ℕ-discrete, decLt}
+use native.Mathlib.Nat.{add-zero}
+use native.Mathlib.Decide.{ℕ-discrete}
 use native.Mathlib.Omega.{arith}
-use mathlib.Core.Path.{_≡_, refl, sym, ap, ap₂, _∙_, subst}
-use mathlib.Core.Bool.{Bool, true, false, _||_, _&&_}
-use mathlib.Core.Logic.{_⊎_, inl, inr}
-use mathlib.Core.List.{List, [], _∷_}
+use mathlib.Core.Path.{_≡_, refl, sym, ap, _∙_}
+use mathlib.Core.Bool.{Bool, true, false}
+use mathlib.Core.Logic.{inr}
+use mathlib.Core.List.{List, _∷_}
 use lib.ListN.{length, getD}
 use Rattle.laws.specs.Choice.{one}
 use Rattle.laws.specs.Occurrence.{at, same, occ, In, Distinct, same-yes, same-no, occ-step, occ-in, occ-ext, occ-distinct}
 use Rattle.model.specs.Measure.{Contraction, above}
-use Rattle.guarantees.specs.Climbs.{Joins, Sound}
-use Rattle.pins.specs.Link.{Outside, Relinked, Unlinked}
-use Rattle.pins.specs.Stack.{row, past, present, present-on, present-le, present-gone, present-into, present-other, past-both, past-new, past-skip, past-off, row-skip}
+use Rattle.guarantees.specs.Climbs.{Sound}
+use Rattle.pins.specs.Link.{Relinked, Unlinked}
+use Rattle.pins.specs.Stack.{row, past, present, present-on, present-le, present-gone, present-into, present-other, past-both, past-new, past-skip, past-off}
 
 -- the stretch of n places from f on has each pin on the board once and nothing else; the places after it, up to N, are what was taken out
 pub record Stretch (own : ℕ → Bool) (cs : List Contraction) (l : List ℕ) (f n N : ℕ) : Type 0 where

@@ -1,129 +1,59 @@
-use Prim.Native.Nat.{_≤_, _<_, _-_}
 use native.Mathlib.Omega.{arith}
 use mathlib.Core.Path.{_≡_, sym, _∙_, ap}
 use denote.Ref.{now}
 use borrow.Author.Needs.{needs}
-use Rattle.incidence.specs.On.{on}
-use Rattle.levels.specs.Rows.{Folding, fold-none, fold-contracts, fold-more, fold-done}
+use Rattle.levels.specs.Operations.{contract-needs, contract-does}
 use Rattle.levels.proofs.contract.Statement.{statement}
 use Rattle.levels.proofs.contract.Tie as tie
 use Rattle.levels.proofs.contract.Reads as reads
 use Rattle.levels.proofs.contract.Lts as lts
-use Rattle.levels.proofs.nets.contract_net.Reads as contract-net-reads
-use Rattle.levels.proofs.numbers.index.Reads as index-reads
-use Rattle.levels.proofs.numbers.narrow.Reads as narrow-reads
-use Rattle.incidence.proofs.copy_or.Reads as copy-or-reads
-use Rattle.incidence.proofs.next_net.Reads as next-net-reads
+use Rattle.levels.proofs.contract_nets.Reads as contract-nets-reads
 
-abbrev Inv-loop : tie.InvT-loop
-Inv-loop counts₀ visited₀ gains₀ pins₀ sizes₀ bits weights blocks firsts n m k u v e₀ counts visited gains pins sizes e =
-    (e ≤ m) × (e < m → on bits v e ≡ 1) × Folding weights blocks firsts bits n m k u v e pins₀ pins sizes₀ sizes counts₀ counts visited₀ visited gains₀ gains
+contract-nets-requires : tie.Need-contract-nets-requires
+contract-nets-requires c κs = contract-needs (c .before .before .before .before .before .before .before .before .before .before .before .before .before .before .before .pre)
 
-abbrev μ-loop : tie.MeasureT-loop
-μ-loop counts₀ visited₀ gains₀ pins₀ sizes₀ bits weights blocks firsts n m k u v e₀ counts visited gains pins sizes e =
-    m - e
+mul-blocks : tie.Need-mul-blocks
+mul-blocks c = search needs
 
-next-net-requires : tie.Need-next-net-requires Inv-loop μ-loop
-next-net-requires c κs = omega (arith, c .before .before .before .before .before .before .before .before .before .pre .room .bits-fit, c .before .before .before .before .before .before .before .before .before .pre .room .few-nets, c .before .before .before .before .before .before .before .before .before .pre .v-in)
+slice-write-blocks : tie.Need-slice-write-blocks
+slice-write-blocks c = let S = c .before .before .before .before .before .before .before .before .before .before .before .before .before .before .before .before .before .before .before .before .before .before .before .before .before .before .before in omega (arith, S .pre .v-in, S .pre .follows .world .lists .blocks-fit)
 
-loop-holds : tie.Need-loop-holds Inv-loop μ-loop
-loop-holds c = (c .next-net .ensures .high, c .next-net .ensures .found, fold-none (c .before .before .before .before .before .before .before .before .before .before .pre) (c .next-net .ensures))
+same-length : tie.Need-same-length
+same-length c = search needs
 
-mul-index : tie.Need-mul-index Inv-loop μ-loop
-mul-index c = omega arith
+same-length-2 : tie.Need-same-length-2
+same-length-2 c = search needs
 
-shared-slice-read-index : tie.Need-shared-slice-read-index Inv-loop μ-loop
-shared-slice-read-index c = omega (arith, c .before .before .before .before .before .before .before .before .before .before .before .before .before .pre .room .firsts-fit)
+same-length-3 : tie.Need-same-length-3
+same-length-3 c = search needs
 
-index-requires : tie.Need-index-requires Inv-loop μ-loop
-index-requires c κs = search needs
+same-length-4 : tie.Need-same-length-4
+same-length-4 c = search needs
 
-mul-index-2 : tie.Need-mul-index-2 Inv-loop μ-loop
-mul-index-2 c = omega arith
+same-length-5 : tie.Need-same-length-5
+same-length-5 c = search needs
 
-slice-read-index : tie.Need-slice-read-index Inv-loop μ-loop
-slice-read-index c = omega (arith, c .before .before .before .before .loop .inv .2 .world .lists .sizes-fit)
+same-length-6 : tie.Need-same-length-6
+same-length-6 c = search needs
 
-index-requires-2 : tie.Need-index-requires-2 Inv-loop μ-loop
-index-requires-2 c κs = search needs
+same-length-7 : tie.Need-same-length-7
+same-length-7 c = search needs
 
-contract-net-requires : tie.Need-contract-net-requires Inv-loop μ-loop
-contract-net-requires c κs =
-    fold-contracts (c .before .before .before .before .before .before .before .before .before .before .before .before .before .before .before .before .before .before .before .before .pre) (c .before .before .before .before .before .before .before .before .loop-test .taken) (c .before .before .before .before .before .before .before .before .before .loop .inv .1 (c .before .before .before .before .before .before .before .before .loop-test .taken)) (c .before .before .before .before .before .before .before .before .before .loop .inv .2) (c .before .before .before .before .before .before .index .ensures) (c .before .before .before .before .index2 .ensures)
-
-narrow-requires : tie.Need-narrow-requires Inv-loop μ-loop
-narrow-requires c κs = omega (arith, c .before .before .before .before .before .before .before .contract-net .ensures .shorter, c .before .before .before .before .before .before .before .before .before .before .before .before .index2 .ensures, c .before .before .before .before .before .before .before .before .before .before .before .before .before .slice-known6 .given (c .before .before .before .before .before .before .before .before .before .before .before .before .before .before .before .before .before .loop .e))
-
-mul-sizes : tie.Need-mul-sizes Inv-loop μ-loop
-mul-sizes c = omega arith
-
-slice-write-sizes : tie.Need-slice-write-sizes Inv-loop μ-loop
-slice-write-sizes c = omega (arith, c .before .before .before .before .before .before .before .before .before .before .before .before .before .before .before .before .before .before .loop .inv .2 .world .lists .sizes-fit)
-
-add-next-net : tie.Need-add-next-net Inv-loop μ-loop
-add-next-net c = omega arith
-
-next-net-requires-2 : tie.Need-next-net-requires-2 Inv-loop μ-loop
-next-net-requires-2 c κs = omega (arith, c .before .before .before .before .before .before .before .before .before .before .before .before .before .before .before .before .before .before .before .before .before .before .before .before .before .before .before .before .before .before .pre .room .bits-fit, c .before .before .before .before .before .before .before .before .before .before .before .before .before .before .before .before .before .before .before .before .before .before .before .before .before .before .before .before .before .before .pre .room .few-nets, c .before .before .before .before .before .before .before .before .before .before .before .before .before .before .before .before .before .before .before .before .before .before .before .before .before .before .before .before .before .before .pre .v-in)
-
-loop-less : tie.Need-loop-less Inv-loop μ-loop
-loop-less c = omega (arith, c .next-net2 .ensures .low, c .next-net2 .ensures .high)
-
-loop-again : tie.Need-loop-again Inv-loop μ-loop
-loop-again c =
-    (c .next-net2 .ensures .high, c .next-net2 .ensures .found, rw (c .before .before .narrow .ensures) (fold-more (c .before .before .before .before .before .before .before .before .before .before .before .before .before .before .before .before .before .before .before .before .before .before .before .before .before .before .before .before .before .before .before .pre) (c .before .before .before .before .before .before .before .before .before .before .before .before .before .before .before .before .before .before .before .loop-test .taken) (c .before .before .before .before .before .before .before .before .before .before .before .before .before .before .before .before .before .before .before .before .loop .inv .1 (c .before .before .before .before .before .before .before .before .before .before .before .before .before .before .before .before .before .before .before .loop-test .taken)) (c .before .before .before .before .before .before .before .before .before .before .before .before .before .before .before .before .before .before .before .before .loop .inv .2) (c .before .before .before .before .before .before .before .before .before .before .before .before .before .before .before .before .before .index .ensures) (c .before .before .before .before .before .before .before .before .before .before .before .before .before .before .before .index2 .ensures) (c .before .before .before .before .before .before .before .before .before .before .contract-net .ensures) (c .next-net2 .ensures)))
-
-copy-or-requires : tie.Need-copy-or-requires Inv-loop μ-loop
-copy-or-requires c κs = omega (arith, c .before .before .before .before .before .before .before .before .before .before .before .before .before .pre .room .bits-fit, c .before .before .before .before .before .before .before .before .before .before .before .before .before .pre .u-in, c .before .before .before .before .before .before .before .before .before .before .before .before .before .pre .v-in)
-
-same-length : tie.Need-same-length Inv-loop μ-loop
-same-length c = c .before .before .before .before .before .loop .inv .2 .kept .of-tally .counts-len
-
-same-length-2 : tie.Need-same-length-2 Inv-loop μ-loop
-same-length-2 c = c .before .before .before .before .before .loop .inv .2 .kept .of-tally .masks-len
-
-same-length-3 : tie.Need-same-length-3 Inv-loop μ-loop
-same-length-3 c = c .before .before .before .before .before .loop .inv .2 .kept .of-gains .gains-len
-
-same-length-4 : tie.Need-same-length-4 Inv-loop μ-loop
-same-length-4 c = c .before .before .before .before .before .loop .inv .2 .pins-len
-
-same-length-5 : tie.Need-same-length-5 Inv-loop μ-loop
-same-length-5 c = c .before .before .before .before .before .loop .inv .2 .sizes-len
-
-same-length-6 : tie.Need-same-length-6 Inv-loop μ-loop
-same-length-6 c = c .before .before .copy-or .ensures .len
-
-returns : tie.Need-returns Inv-loop μ-loop
-returns c = fold-done (c .before .before .before .before .before .before .before .before .before .before .before .before .before .before .before .before .pre) (omega arith) (c .before .before .before .before .before .loop .inv .2) (c .before .before .copy-or .ensures)
+returns : tie.Need-returns
+returns c = contract-does (c .before .before .before .before .before .before .before .before .before .before .before .before .before .before .before .before .before .before .before .before .before .before .before .before .before .before .before .pre) (c .before .before .before .before .before .before .before .before .before .before .before .contract-nets .ensures)
 
 pub contract-spec : {M : Type 1} → statement M
 contract-spec =
     tie.close
     (tie.spec
-    Inv-loop
-    μ-loop
-    next-net-requires
-    loop-holds
-    mul-index
-    shared-slice-read-index
-    index-requires
-    mul-index-2
-    slice-read-index
-    index-requires-2
-    contract-net-requires
-    narrow-requires
-    mul-sizes
-    slice-write-sizes
-    add-next-net
-    next-net-requires-2
-    loop-less
-    loop-again
-    copy-or-requires
+    contract-nets-requires
+    mul-blocks
+    slice-write-blocks
     same-length
     same-length-2
     same-length-3
     same-length-4
     same-length-5
     same-length-6
+    same-length-7
     returns)

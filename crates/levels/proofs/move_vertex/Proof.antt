@@ -1,31 +1,32 @@
-use Prim.Native.Nat.{_≤_, _-_}
-use mathlib.Core.Logic.{⊎-elim}
+use Prim.Native.Nat.{_≤_, _<_, _-_}
 use native.Mathlib.Omega.{arith}
-use mathlib.Core.Path.{_≡_, refl, sym, _∙_, ap}
+use mathlib.Core.Path.{_≡_, sym, _∙_, ap}
 use denote.Ref.{now}
 use borrow.Author.Needs.{needs}
-use Rattle.levels.specs.Half.{Sofar, sofar-none, sofar-sets, sofar-more, sofar-skip, sofar-done}
+use Rattle.incidence.specs.On.{on}
+use Rattle.levels.specs.Move.{Moving, moving-none, moving-sets, moving-more, moving-done}
+use Rattle.levels.specs.Operations.{move-needs, move-does}
 use Rattle.levels.proofs.move_vertex.Statement.{statement}
 use Rattle.levels.proofs.move_vertex.Tie as tie
 use Rattle.levels.proofs.move_vertex.Reads as reads
 use Rattle.levels.proofs.move_vertex.Lts as lts
 use Rattle.connectivity.proofs.set_pin.Reads as set-pin-reads
-use Rattle.levels.proofs.nets.holds.Reads as holds-reads
+use Rattle.incidence.proofs.next_net.Reads as next-net-reads
 use Rattle.levels.proofs.numbers.index.Reads as index-reads
 
 abbrev Inv-loop : tie.InvT-loop
-Inv-loop counts₀ visited₀ gains₀ blocks weights pins firsts sizes n m k u t s b e₀ counts visited gains e =
-    (e ≤ m) × Sofar weights pins blocks firsts sizes n m k u t e counts₀ counts visited₀ visited gains₀ gains
+Inv-loop counts₀ visited₀ gains₀ blocks weights pins firsts sizes bits n m k u t s b e₀ counts visited gains e =
+    (e ≤ m) × (e < m → on bits u e ≡ 1) × Moving weights pins blocks firsts sizes n m k u t e counts₀ counts visited₀ visited gains₀ gains
 
 abbrev μ-loop : tie.MeasureT-loop
-μ-loop counts₀ visited₀ gains₀ blocks weights pins firsts sizes n m k u t s b e₀ counts visited gains e =
+μ-loop counts₀ visited₀ gains₀ blocks weights pins firsts sizes bits n m k u t s b e₀ counts visited gains e =
     m - e
 
 mul-index : tie.Need-mul-index Inv-loop μ-loop
 mul-index c = omega arith
 
 slice-read-index : tie.Need-slice-read-index Inv-loop μ-loop
-slice-read-index c = let S = c .before .before .before .before .before .before .before .before in omega (arith, S .pre .u-in, S .pre .world .lists .blocks-fit)
+slice-read-index c = let S = c .before .before .before .before .before .before .before .before .before in omega (arith, S .pre .u-in, S .pre .follows .world .lists .blocks-fit)
 
 index-requires : tie.Need-index-requires Inv-loop μ-loop
 index-requires c κs = search needs
@@ -33,14 +34,17 @@ index-requires c κs = search needs
 index-requires-2 : tie.Need-index-requires-2 Inv-loop μ-loop
 index-requires-2 c κs = search needs
 
+next-net-requires : tie.Need-next-net-requires Inv-loop μ-loop
+next-net-requires c κs = let S = c .before .before .before .before .before .before .before .before .before .before .before in omega (arith, move-needs (S .pre) .bits-fit, S .pre .follows .room .few-nets)
+
 loop-holds : tie.Need-loop-holds Inv-loop μ-loop
-loop-holds c = (omega arith, sofar-none (c .before .before .before .before .before .before .before .before .before .before .pre))
+loop-holds c = (c .next-net .ensures .high, c .next-net .ensures .found, moving-none (move-needs (c .before .before .before .before .before .before .before .before .before .before .before .before .pre)) (c .next-net .ensures))
 
 mul-index-2 : tie.Need-mul-index-2 Inv-loop μ-loop
 mul-index-2 c = omega arith
 
 shared-slice-read-index : tie.Need-shared-slice-read-index Inv-loop μ-loop
-shared-slice-read-index c = let S = c .before .before .before .before .before .before .before .before .before .before .before .before .before in omega (arith, S .pre .world .lists .firsts-fit)
+shared-slice-read-index c = let S = c .before .before .before .before .before .before .before .before .before .before .before .before .before .before .before in omega (arith, S .pre .follows .world .lists .firsts-fit)
 
 index-requires-3 : tie.Need-index-requires-3 Inv-loop μ-loop
 index-requires-3 c κs = search needs
@@ -49,69 +53,52 @@ mul-index-3 : tie.Need-mul-index-3 Inv-loop μ-loop
 mul-index-3 c = omega arith
 
 shared-slice-read-index-2 : tie.Need-shared-slice-read-index-2 Inv-loop μ-loop
-shared-slice-read-index-2 c = let S = c .before .before .before .before .before .before .before .before .before .before .before .before .before .before .before in omega (arith, S .pre .world .lists .sizes-fit)
+shared-slice-read-index-2 c = let S = c .before .before .before .before .before .before .before .before .before .before .before .before .before .before .before .before .before in omega (arith, S .pre .follows .world .lists .sizes-fit)
 
 index-requires-4 : tie.Need-index-requires-4 Inv-loop μ-loop
 index-requires-4 c κs = search needs
 
-holds-requires : tie.Need-holds-requires Inv-loop μ-loop
-holds-requires c κs =
-    let I = c .before .before .before .before in
-    let S = I .before .before .before .before .before .before .before .before .before .before .before .before in
-    (omega (arith, S .pre .world .lists .nets (I .before .loop .e) (I .loop-test .taken) .pins-fit, c .before .before .index3 .ensures, c .index4 .ensures), omega (arith, S .pre .u-in, S .pre .world .frame .vertices))
-
 set-pin-requires : tie.Need-set-pin-requires Inv-loop μ-loop
 set-pin-requires c κs =
-    let H = c .before .before .before .before .before in
-    let I = H .before .before .before .before .before in
-    let X = I .before .before in
-    sofar-sets (X .before .before .before .before .before .before .before .before .before .before .pre) (I .loop-test .taken) (I .before .loop .inv .1) (H .before .before .before .index3 .ensures) (H .before .index4 .ensures) (X .before .index .ensures) (X .index2 .ensures)
-    (sym (H .holds .ensures) ∙ c .before .before .before .before .if1 .taken)
+    let I = c .before .before .before .before .before .before .before .before .before .loop .inv in
+    let test = c .before .before .before .before .before .before .before .before .loop-test .taken in
+    moving-sets (move-needs (c .before .before .before .before .before .before .before .before .before .before .before .before .before .before .before .before .before .before .before .before .before .before .pre)) test (I .1 test) (I .2) (c .before .before .before .before .before .before .index3 .ensures) (c .before .before .before .before .index4 .ensures) (c .before .before .before .before .before .before .before .before .before .before .before .before .index .ensures) (c .before .before .before .before .before .before .before .before .before .before .before .index2 .ensures)
 
-add-e : tie.Need-add-e Inv-loop μ-loop
-add-e c = omega arith
+add-next-net : tie.Need-add-next-net Inv-loop μ-loop
+add-next-net c = omega (arith, c .before .before .before .before .before .before .before .before .before .before .before .before .before .before .loop-test .taken, c .before .before .before .before .before .before .before .before .before .before .before .before .before .before .before .before .before .before .before .before .before .before .before .before .before .before .before .before .pre .follows .room .few-nets)
+
+next-net-requires-2 : tie.Need-next-net-requires-2 Inv-loop μ-loop
+next-net-requires-2 c κs = let S = c .before .before .before .before .before .before .before .before .before .before .before .before .before .before .before .before .before .before .before .before .before .before .before .before .before .before .before .before in omega (arith, move-needs (S .pre) .bits-fit, S .pre .follows .room .few-nets, c .before .before .before .before .before .before .before .before .before .before .before .before .before .before .loop-test .taken)
 
 loop-less : tie.Need-loop-less Inv-loop μ-loop
-loop-less c = omega arith
+loop-less c = omega (arith, c .next-net2 .ensures .low, c .next-net2 .ensures .high)
 
 loop-again : tie.Need-loop-again Inv-loop μ-loop
 loop-again c =
-    let H = c .before in
-    let I = H .before .before .before .before .before in
-    let X = I .before .before in
-    ⊎-elim
-    (λ v. (
-      omega arith,
-      rw (v .11, v .12, v .13) (sofar-more (X .before .before .before .before .before .before .before .before .before .before .pre) (I .loop-test .taken) (I .before .loop .inv .1) (H .before .before .before .index3 .ensures) (H .before .index4 .ensures) (X .before .index .ensures) (X .index2 .ensures)
-          (sym (H .holds .ensures) ∙ v .0 .taken) (v .5 .ensures)),
-    ))
-    (λ v. (
-      omega arith,
-      rw (v .1, v .2, v .3) (sofar-skip (X .before .before .before .before .before .before .before .before .before .before .pre) (I .loop-test .taken) (I .before .loop .inv .1) (H .before .before .before .index3 .ensures) (H .before .index4 .ensures) (X .before .index .ensures) (X .index2 .ensures)
-          (sym (H .holds .ensures) ∙ v .0 .left)),
-    ))
-    (c .if1 .came)
+    let I = c .before .before .before .before .before .before .before .before .before .before .before .before .before .before .before .before .loop .inv in
+    let test = c .before .before .before .before .before .before .before .before .before .before .before .before .before .before .before .loop-test .taken in
+    (c .next-net2 .ensures .high, c .next-net2 .ensures .found, moving-more (move-needs (c .before .before .before .before .before .before .before .before .before .before .before .before .before .before .before .before .before .before .before .before .before .before .before .before .before .before .before .before .before .pre)) test (I .1 test) (I .2) (c .before .before .before .before .before .before .before .before .before .before .before .before .before .index3 .ensures) (c .before .before .before .before .before .before .before .before .before .before .before .index4 .ensures) (c .before .before .before .before .before .before .before .before .before .before .before .before .before .before .before .before .before .before .before .index .ensures) (c .before .before .before .before .before .before .before .before .before .before .before .before .before .before .before .before .before .before .index2 .ensures) (c .before .before .before .before .before .before .set-pin .ensures) (c .next-net2 .ensures))
 
 mul-blocks : tie.Need-mul-blocks Inv-loop μ-loop
 mul-blocks c = omega arith
 
 slice-write-blocks : tie.Need-slice-write-blocks Inv-loop μ-loop
-slice-write-blocks c = let S = c .before .before .before .before .before .before .before .before .before .before .before .before in omega (arith, S .pre .u-in, S .pre .world .lists .blocks-fit)
+slice-write-blocks c = let S = c .before .before .before .before .before .before .before .before .before .before .before .before .before .before in omega (arith, S .pre .u-in, S .pre .follows .world .lists .blocks-fit)
 
 same-length : tie.Need-same-length Inv-loop μ-loop
-same-length c = c .before .loop .inv .1 .kept .of-tally .counts-len
+same-length c = c .before .loop .inv .2 .kept .of-tally .counts-len
 
 same-length-2 : tie.Need-same-length-2 Inv-loop μ-loop
-same-length-2 c = c .before .loop .inv .1 .kept .of-tally .masks-len
+same-length-2 c = c .before .loop .inv .2 .kept .of-tally .masks-len
 
 same-length-3 : tie.Need-same-length-3 Inv-loop μ-loop
-same-length-3 c = c .before .loop .inv .1 .kept .of-gains .gains-len
+same-length-3 c = c .before .loop .inv .2 .kept .of-gains .gains-len
 
 same-length-4 : tie.Need-same-length-4 Inv-loop μ-loop
 same-length-4 c = search needs
 
 returns : tie.Need-returns Inv-loop μ-loop
-returns c = sofar-done (c .before .before .before .before .before .before .before .before .before .before .before .before .pre) (omega arith) (c .before .loop .inv .1)
+returns c = move-does (c .before .before .before .before .before .before .before .before .before .before .before .before .before .before .pre) (moving-done (move-needs (c .before .before .before .before .before .before .before .before .before .before .before .before .before .before .pre)) (omega arith) (c .before .loop .inv .2))
 
 pub move-vertex-spec : {M : Type 1} → statement M
 move-vertex-spec =
@@ -123,6 +110,7 @@ move-vertex-spec =
     slice-read-index
     index-requires
     index-requires-2
+    next-net-requires
     loop-holds
     mul-index-2
     shared-slice-read-index
@@ -130,9 +118,9 @@ move-vertex-spec =
     mul-index-3
     shared-slice-read-index-2
     index-requires-4
-    holds-requires
     set-pin-requires
-    add-e
+    add-next-net
+    next-net-requires-2
     loop-less
     loop-again
     mul-blocks

@@ -2,7 +2,7 @@ use mathlib.Core.Path.{refl, _≡_, sym, _∙_, ap}
 use native.Mathlib.Omega.{arith}
 use denote.Ref.{now}
 use borrow.Author.Needs.{needs}
-use Rattle.levels.specs.Refine.{undoes, rejoined}
+use Rattle.levels.specs.Operations.{uncontract-needs, uncontract-does}
 use Rattle.levels.proofs.uncontract.Statement.{statement}
 use Rattle.levels.proofs.uncontract.Tie as tie
 use Rattle.levels.proofs.uncontract.Reads as reads
@@ -22,7 +22,7 @@ slice-write-blocks : tie.Need-slice-write-blocks
 slice-write-blocks c = search needs
 
 uncontract-nets-requires : tie.Need-uncontract-nets-requires
-uncontract-nets-requires c κs = undoes (c .before .before .before .before .before .before .before .before .before .before .before .before .before .before .before .before .before .pre) _ refl
+uncontract-nets-requires c κs = uncontract-needs (c .before .before .before .before .before .before .before .before .before .before .before .before .before .before .before .before .before .pre) _ refl
 
 same-length : tie.Need-same-length
 same-length c = search needs
@@ -46,7 +46,7 @@ same-length-7 : tie.Need-same-length-7
 same-length-7 c = search needs
 
 returns : tie.Need-returns
-returns c = rejoined (c .before .before .before .before .before .before .before .before .before .before .before .before .before .before .before .before .before .before .before .before .before .before .before .before .before .before .before .before .before .pre) _ refl (c .before .before .before .before .before .before .before .before .before .before .before .uncontract-nets .ensures)
+returns c = uncontract-does (c .before .before .before .before .before .before .before .before .before .before .before .before .before .before .before .before .before .before .before .before .before .before .before .before .before .before .before .before .before .pre) _ refl (c .before .before .before .before .before .before .before .before .before .before .before .uncontract-nets .ensures)
 
 pub uncontract-spec : {M : Type 1} → statement M
 uncontract-spec =

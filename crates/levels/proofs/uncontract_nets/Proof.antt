@@ -4,7 +4,7 @@ use mathlib.Core.Path.{_≡_, sym, _∙_, ap}
 use denote.Ref.{now}
 use borrow.Author.Needs.{needs}
 use Rattle.incidence.specs.On.{on}
-use Rattle.levels.specs.Undo.{Undoing, undo-none, undo-parts, undo-more, undo-done}
+use Rattle.levels.specs.Uncontract.{UncontractingAll, uncontracting-none, uncontracting-splits, uncontracting-more, uncontracting-done}
 use Rattle.levels.proofs.uncontract_nets.Statement.{statement}
 use Rattle.levels.proofs.uncontract_nets.Tie as tie
 use Rattle.levels.proofs.uncontract_nets.Reads as reads
@@ -16,7 +16,7 @@ use Rattle.levels.proofs.nets.split_net.Reads as split-net-reads
 
 abbrev Inv-loop : tie.InvT-loop
 Inv-loop counts₀ visited₀ gains₀ pins₀ sizes₀ bits₀ weights blocks firsts loaded n m k u v e₀ counts visited gains pins sizes bits e =
-    (e ≤ m) × (e < m → on bits v e ≡ 1) × Undoing weights blocks firsts loaded n m k u v e pins₀ pins sizes₀ sizes bits₀ bits counts₀ counts visited₀ visited gains₀ gains
+    (e ≤ m) × (e < m → on bits v e ≡ 1) × UncontractingAll weights blocks firsts loaded n m k u v e pins₀ pins sizes₀ sizes bits₀ bits counts₀ counts visited₀ visited gains₀ gains
 
 abbrev μ-loop : tie.MeasureT-loop
 μ-loop counts₀ visited₀ gains₀ pins₀ sizes₀ bits₀ weights blocks firsts loaded n m k u v e₀ counts visited gains pins sizes bits e =
@@ -26,7 +26,7 @@ next-net-requires : tie.Need-next-net-requires Inv-loop μ-loop
 next-net-requires c κs = omega (arith, c .before .before .before .before .before .before .before .before .before .before .pre .lists .room .bits-fit, c .before .before .before .before .before .before .before .before .before .before .pre .lists .room .few-nets, c .before .before .before .before .before .before .before .before .before .before .pre .lists .v-in)
 
 loop-holds : tie.Need-loop-holds Inv-loop μ-loop
-loop-holds c = (c .next-net .ensures .high, c .next-net .ensures .found, undo-none (c .before .before .before .before .before .before .before .before .before .before .before .pre) (c .next-net .ensures))
+loop-holds c = (c .next-net .ensures .high, c .next-net .ensures .found, uncontracting-none (c .before .before .before .before .before .before .before .before .before .before .before .pre) (c .next-net .ensures))
 
 mul-index : tie.Need-mul-index Inv-loop μ-loop
 mul-index c = omega arith
@@ -57,7 +57,7 @@ index-requires-3 c κs = search needs
 
 split-net-requires : tie.Need-split-net-requires Inv-loop μ-loop
 split-net-requires c κs =
-    undo-parts (c .before .before .before .before .before .before .before .before .before .before .before .before .before .before .before .before .before .before .before .before .before .before .before .before .pre) (c .before .before .before .before .before .before .before .before .before .before .before .loop-test .taken) (c .before .before .before .before .before .before .before .before .before .before .before .before .loop .inv .1 (c .before .before .before .before .before .before .before .before .before .before .before .loop-test .taken)) (c .before .before .before .before .before .before .before .before .before .before .before .before .loop .inv .2) (c .before .before .before .before .before .before .before .before .before .index .ensures) (c .before .before .before .before .before .before .before .index2 .ensures) (c .before .before .before .before .before .index3 .ensures)
+    uncontracting-splits (c .before .before .before .before .before .before .before .before .before .before .before .before .before .before .before .before .before .before .before .before .before .before .before .before .pre) (c .before .before .before .before .before .before .before .before .before .before .before .loop-test .taken) (c .before .before .before .before .before .before .before .before .before .before .before .before .loop .inv .1 (c .before .before .before .before .before .before .before .before .before .before .before .loop-test .taken)) (c .before .before .before .before .before .before .before .before .before .before .before .before .loop .inv .2) (c .before .before .before .before .before .before .before .before .before .index .ensures) (c .before .before .before .before .before .before .before .index2 .ensures) (c .before .before .before .before .before .index3 .ensures)
 
 narrow-requires : tie.Need-narrow-requires Inv-loop μ-loop
 narrow-requires c κs = omega (arith, c .before .before .before .before .before .before .before .before .before .split-net .ensures .split .small, c .before .before .before .before .before .before .before .before .before .before .before .before .before .before .before .index3 .ensures, c .before .before .before .before .before .before .before .before .before .before .before .before .before .before .before .before .shared-slice-known6 .given (c .before .before .before .before .before .before .before .before .before .before .before .before .before .before .before .before .before .before .before .before .before .before .loop .e))
@@ -79,7 +79,7 @@ loop-less c = omega (arith, c .next-net2 .ensures .low, c .next-net2 .ensures .h
 
 loop-again : tie.Need-loop-again Inv-loop μ-loop
 loop-again c =
-    (c .next-net2 .ensures .high, c .next-net2 .ensures .found, rw (c .before .before .narrow .ensures) (undo-more (c .before .before .before .before .before .before .before .before .before .before .before .before .before .before .before .before .before .before .before .before .before .before .before .before .before .before .before .before .before .before .before .before .before .before .before .before .before .pre) (c .before .before .before .before .before .before .before .before .before .before .before .before .before .before .before .before .before .before .before .before .before .before .before .before .loop-test .taken) (c .before .before .before .before .before .before .before .before .before .before .before .before .before .before .before .before .before .before .before .before .before .before .before .before .before .loop .inv .1 (c .before .before .before .before .before .before .before .before .before .before .before .before .before .before .before .before .before .before .before .before .before .before .before .before .loop-test .taken)) (c .before .before .before .before .before .before .before .before .before .before .before .before .before .before .before .before .before .before .before .before .before .before .before .before .before .loop .inv .2) (c .before .before .before .before .before .before .before .before .before .before .before .before .before .before .before .before .before .before .before .before .before .before .index .ensures) (c .before .before .before .before .before .before .before .before .before .before .before .before .before .before .before .before .before .before .before .before .index2 .ensures) (c .before .before .before .before .before .before .before .before .before .before .before .before .before .before .before .before .before .before .index3 .ensures) (c .before .before .before .before .before .before .before .before .before .before .before .before .split-net .ensures) (c .next-net2 .ensures)))
+    (c .next-net2 .ensures .high, c .next-net2 .ensures .found, rw (c .before .before .narrow .ensures) (uncontracting-more (c .before .before .before .before .before .before .before .before .before .before .before .before .before .before .before .before .before .before .before .before .before .before .before .before .before .before .before .before .before .before .before .before .before .before .before .before .before .pre) (c .before .before .before .before .before .before .before .before .before .before .before .before .before .before .before .before .before .before .before .before .before .before .before .before .loop-test .taken) (c .before .before .before .before .before .before .before .before .before .before .before .before .before .before .before .before .before .before .before .before .before .before .before .before .before .loop .inv .1 (c .before .before .before .before .before .before .before .before .before .before .before .before .before .before .before .before .before .before .before .before .before .before .before .before .loop-test .taken)) (c .before .before .before .before .before .before .before .before .before .before .before .before .before .before .before .before .before .before .before .before .before .before .before .before .before .loop .inv .2) (c .before .before .before .before .before .before .before .before .before .before .before .before .before .before .before .before .before .before .before .before .before .before .index .ensures) (c .before .before .before .before .before .before .before .before .before .before .before .before .before .before .before .before .before .before .before .before .index2 .ensures) (c .before .before .before .before .before .before .before .before .before .before .before .before .before .before .before .before .before .before .index3 .ensures) (c .before .before .before .before .before .before .before .before .before .before .before .before .split-net .ensures) (c .next-net2 .ensures)))
 
 same-length : tie.Need-same-length Inv-loop μ-loop
 same-length c = c .before .loop .inv .2 .kept .of-tally .counts-len
@@ -91,16 +91,16 @@ same-length-3 : tie.Need-same-length-3 Inv-loop μ-loop
 same-length-3 c = c .before .loop .inv .2 .kept .of-gains .gains-len
 
 same-length-4 : tie.Need-same-length-4 Inv-loop μ-loop
-same-length-4 c = c .before .loop .inv .2 .lists .pins-len
+same-length-4 c = c .before .loop .inv .2 .lists .kept .pins-len
 
 same-length-5 : tie.Need-same-length-5 Inv-loop μ-loop
-same-length-5 c = c .before .loop .inv .2 .lists .sizes-len
+same-length-5 c = c .before .loop .inv .2 .lists .kept .sizes-len
 
 same-length-6 : tie.Need-same-length-6 Inv-loop μ-loop
 same-length-6 c = c .before .loop .inv .2 .lists .bits-len
 
 returns : tie.Need-returns Inv-loop μ-loop
-returns c = undo-done (c .before .before .before .before .before .before .before .before .before .before .before .before .before .pre) (omega arith) (c .before .loop .inv .2)
+returns c = uncontracting-done (c .before .before .before .before .before .before .before .before .before .before .before .before .before .pre) (omega arith) (c .before .loop .inv .2)
 
 pub uncontract-nets-spec : {M : Type 1} → statement M
 uncontract-nets-spec =

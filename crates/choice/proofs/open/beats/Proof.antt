@@ -1,5 +1,4 @@
 use native.Mathlib.Omega.{arith}
-use mathlib.Core.Path.{_≡_, sym, _∙_, ap}
 use denote.Ref.{now}
 use borrow.Author.Needs.{needs}
 use Rattle.choice.specs.OpenLaw.{pick-in, exceeds-read}
@@ -8,7 +7,7 @@ use Rattle.choice.proofs.open.beats.Tie as tie
 use Rattle.choice.proofs.open.beats.Reads as reads
 use Rattle.choice.proofs.open.beats.Lts as lts
 use Rattle.choice.proofs.open.less.Reads as less-reads
-use Rattle.choice.proofs.open.wide.Reads as wide-reads
+use Rattle.choice.proofs.numbers.wide.Reads as wide-reads
 
 enum-told : tie.Need-enum-told
 enum-told c = search needs

@@ -1,8 +1,8 @@
 use native.Mathlib.Omega.{arith}
-use mathlib.Core.Path.{_≡_, sym, _∙_, ap, subst}
+use mathlib.Core.Path.{_≡_, _∙_, ap, subst}
 use denote.Ref.{now}
 use borrow.Author.Needs.{needs}
-use Prim.Native.Nat.{ℕ, _≤_, _<_, _-_, _+_}
+use Prim.Native.Nat.{ℕ, _≤_, _-_, _+_}
 use lib.ListN.{getD}
 use Rattle.choice.specs.Open.{Chosen, bestOf, bestInRow, gainIn, mayGo, considered}
 use Rattle.choice.specs.OpenLaw.{row-none, row-more}

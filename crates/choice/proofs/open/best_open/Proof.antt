@@ -1,8 +1,8 @@
 use native.Mathlib.Omega.{arith}
-use mathlib.Core.Path.{_≡_, sym, _∙_, ap}
+use mathlib.Core.Path.{_≡_}
 use denote.Ref.{now}
 use borrow.Author.Needs.{needs}
-use Prim.Native.Nat.{ℕ, _≤_, _<_, _-_, _+_}
+use Prim.Native.Nat.{_≤_, _<_, _-_, _+_}
 use Rattle.incidence.specs.On.{on}
 use Rattle.choice.specs.Open.{PickIn, bestOf, bestTo, gainIn, openIn}
 use Rattle.choice.specs.OpenLaw.{more-in, first-candidate, next-candidate, all-candidates}

@@ -1,5 +1,5 @@
 use native.Mathlib.Omega.{arith}
-use mathlib.Core.Path.{_≡_, sym, _∙_, ap, subst}
+use mathlib.Core.Path.{subst}
 use denote.Ref.{now}
 use borrow.Author.Needs.{needs}
 use Prim.Native.Nat.{ℕ, _-_, _+_}
@@ -11,7 +11,7 @@ use Rattle.choice.proofs.open.best_with.Tie as tie
 use Rattle.choice.proofs.open.best_with.Reads as reads
 use Rattle.choice.proofs.open.best_with.Lts as lts
 use Rattle.choice.proofs.open.best_in_row.Reads as best-in-row-reads
-use Rattle.choice.proofs.open.wide32.Reads as wide32-reads
+use Rattle.choice.proofs.numbers.wide32.Reads as wide32-reads
 
 mul-best-in-row : tie.Need-mul-best-in-row
 mul-best-in-row c = search needs

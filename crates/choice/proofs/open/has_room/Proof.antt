@@ -1,7 +1,3 @@
-use native.Mathlib.Omega.{arith}
-use mathlib.Core.Path.{_≡_, sym, _∙_, ap}
-use denote.Ref.{now}
-use borrow.Author.Needs.{needs}
 use Rattle.choice.specs.OpenLaw.{room-none, room-some}
 use Rattle.choice.proofs.open.has_room.Statement.{statement}
 use Rattle.choice.proofs.open.has_room.Tie as tie

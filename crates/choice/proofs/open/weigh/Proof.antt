@@ -1,5 +1,4 @@
-use native.Mathlib.Omega.{arith}
-use mathlib.Core.Path.{_≡_, sym, _∙_, ap}
+use mathlib.Core.Path.{sym, _∙_}
 use denote.Ref.{now}
 use borrow.Author.Needs.{needs}
 use Rattle.choice.specs.Open.{gainIn}
@@ -11,7 +10,7 @@ use Rattle.choice.proofs.open.weigh.Reads as reads
 use Rattle.choice.proofs.open.weigh.Lts as lts
 use Rattle.choice.proofs.open.beats.Reads as beats-reads
 use Rattle.choice.proofs.open.has_room.Reads as has-room-reads
-use Rattle.choice.proofs.open.wide.Reads as wide-reads
+use Rattle.choice.proofs.numbers.wide.Reads as wide-reads
 
 wide-requires : tie.Need-wide-requires
 wide-requires c κs = search needs
@@ -40,8 +39,9 @@ cast-t14 c = search needs
 
 returns-3 : tie.Need-returns-3
 returns-3 c =
+    let p = c .before .before .before .before .before .before .pre in
     let a = c .before .before .before .before .before .before .args in
-    weighed-new (gainIn (now (a .gains))) (a .load) (a .own) (a .weight) (a .capacity) (a .v) (a .b) (a .best) (λ e. c .before .before .before .before .if1 .left (c .before .before .before .before .before .wide .ensures ∙ e)) (sym (c .before .before .before .has-room .ensures) ∙ not-false _ (c .before .before .if2 .left)) (sym (c .before .beats .ensures) ∙ c .if3 .taken) (c .before .before .before .before .before .before .pre .v-from) (c .before .before .before .before .before .before .pre .b-from) (c .before .before .before .before .before .before .pre .b-to)
+    weighed-new (gainIn (now (a .gains))) (a .load) (a .own) (a .weight) (a .capacity) (a .v) (a .b) (a .best) (λ e. c .before .before .before .before .if1 .left (c .before .before .before .before .before .wide .ensures ∙ e)) (sym (c .before .before .before .has-room .ensures) ∙ not-false _ (c .before .before .if2 .left)) (sym (c .before .beats .ensures) ∙ c .if3 .taken) (p .v-from) (p .b-from) (p .b-to)
 
 returns-4 : tie.Need-returns-4
 returns-4 c =

@@ -2,7 +2,8 @@ use native.Mathlib.Omega.{arith}
 use mathlib.Core.Path.{_≡_, refl, sym, _∙_, ap}
 use denote.Ref.{now}
 use borrow.Author.Needs.{needs}
-use Rattle.levels.specs.Contract.{contract-sets, contract-sets-2, contract-both, contract-new, linked-of, linked-le, distinct, in-v}
+use Rattle.levels.specs.ContractNet.{contract-sets, contract-sets-2, contract-both, contract-new, linked-of, linked-le, was-pin, was-none, distinct, in-v, both}
+use Rattle.connectivity.specs.Listed.{has-occ}
 use Rattle.levels.proofs.nets.contract_net.Statement.{statement}
 use Rattle.levels.proofs.nets.contract_net.Tie as tie
 use Rattle.levels.proofs.nets.contract_net.Reads as reads
@@ -10,7 +11,7 @@ use Rattle.levels.proofs.nets.contract_net.Lts as lts
 use Rattle.levels.proofs.numbers.index.Reads as index-reads
 use Rattle.levels.proofs.numbers.number.Reads as number-reads
 use Rattle.connectivity.proofs.set_pin.Reads as set-pin-reads
-use Rattle.levels.proofs.nets.holds.Reads as holds-reads
+use Rattle.incidence.proofs.is_pin.Reads as is-pin-reads
 use Rattle.pins.proofs.relink.Reads as relink-reads
 
 mul-index : tie.Need-mul-index
@@ -23,12 +24,10 @@ index-requires : tie.Need-index-requires
 index-requires c κs = search needs
 
 set-pin-requires : tie.Need-set-pin-requires
-set-pin-requires c κs =
-    let X = c .before .before .before .before in
-    contract-sets (X .before .before .before .before .before .before .before .pre) (X .index .ensures)
+set-pin-requires c κs = contract-sets (c .before .before .before .before .before .before .before .before .before .before .before .before .pre) (c .before .before .before .before .index .ensures)
 
-holds-requires : tie.Need-holds-requires
-holds-requires c κs = search needs
+is-pin-requires : tie.Need-is-pin-requires
+is-pin-requires c κs = search needs
 
 number-requires : tie.Need-number-requires
 number-requires c κs = search needs
@@ -38,9 +37,13 @@ number-requires-2 c κs = search needs
 
 relink-requires : tie.Need-relink-requires
 relink-requires c κs =
-    let M = c .before in
-    let S = M .before .before .before .before .before .before .before .before .before .before .before .before .before .before .before .before .before .before .before .before .before in
-    (S .pre .net .pins-fit, (λ q. S .pre .two (omega (arith, M .number .ensures, c .number2 .ensures)), (distinct (S .pre), in-v (S .pre) (c .number2 .ensures))))
+    let S = c .before .before .before .before .before .before .before .before .before .before .before .before .before .before .before .before .before .before .before .before .before .before in (
+      S .pre .net .pins-fit,
+      (
+        λ q. S .pre .two (omega (arith, c .before .number .ensures, c .number2 .ensures)),
+        (distinct (S .pre), (in-v (S .pre) (c .number2 .ensures), rw (c .before .number .ensures) (c .before .before .before .is-pin .ensures ∙ both (S .pre) ∙ has-occ _ _ _ (S .args .u)))),
+      ),
+    )
 
 same-length : tie.Need-same-length
 same-length c = search needs
@@ -56,27 +59,15 @@ same-length-4 c = search needs
 
 returns : tie.Need-returns
 returns c =
-    let K = c .before .before .before in
-    let N = K .before in
-    let M = N .before in
-    let H = M .before .before in
-    let P = H .before .before .before .before .before .before .before in
-    let X = P .before .before .before .before .before in
-    let S = X .before .before .before .before .before .before .before in
-    let L = linked-of (S .args .u) (S .args .v) (M .number .ensures) (N .number2 .ensures) (K .relink .ensures) in
-    contract-both (S .pre) (X .index .ensures) (P .set-pin .ensures) L (omega arith) (linked-le (K .relink .ensures)) (sym (H .holds .ensures) ∙ c .if1 .taken)
+    let S = c .before .before .before .before .before .before .before .before .before .before .before .before .before .before .before .before .before .before .before .before .before .before .before .before .before .before in
+    let link = linked-of (S .args .u) (S .args .v) (c .before .before .before .before .before .number .ensures) (c .before .before .before .before .number2 .ensures) (c .before .before .before .relink .ensures) in
+    contract-both (S .pre) (c .before .before .before .before .before .before .before .before .before .before .before .before .before .before .before .before .before .before .index .ensures) (c .before .before .before .before .before .before .before .before .before .before .before .before .before .set-pin .ensures) link (omega arith) (linked-le (c .before .before .before .relink .ensures)) (was-pin (S .args .u) link (c .if1 .taken))
 
 set-pin-requires-2 : tie.Need-set-pin-requires-2
 set-pin-requires-2 c κs =
-    let K = c .before .before .before .before .before .before .before in
-    let N = K .before in
-    let M = N .before in
-    let H = M .before .before in
-    let P = H .before .before .before .before .before .before .before in
-    let X = P .before .before .before .before .before in
-    let S = X .before .before .before .before .before .before .before in
-    let L = linked-of (S .args .u) (S .args .v) (M .number .ensures) (N .number2 .ensures) (K .relink .ensures) in
-    contract-sets-2 (S .pre) (X .index .ensures) (P .set-pin .ensures) L (omega arith) (linked-le (K .relink .ensures)) (sym (H .holds .ensures) ∙ c .before .before .before .before .if1 .left)
+    let S = c .before .before .before .before .before .before .before .before .before .before .before .before .before .before .before .before .before .before .before .before .before .before .before .before .before .before .before .before .before .before in
+    let link = linked-of (S .args .u) (S .args .v) (c .before .before .before .before .before .before .before .before .before .number .ensures) (c .before .before .before .before .before .before .before .before .number2 .ensures) (c .before .before .before .before .before .before .before .relink .ensures) in
+    contract-sets-2 (S .pre) (c .before .before .before .before .before .before .before .before .before .before .before .before .before .before .before .before .before .before .before .before .before .before .index .ensures) (c .before .before .before .before .before .before .before .before .before .before .before .before .before .before .before .before .before .set-pin .ensures) link (omega arith) (linked-le (c .before .before .before .before .before .before .before .relink .ensures)) (was-none (S .args .u) link (c .before .before .before .before .if1 .left))
 
 same-length-5 : tie.Need-same-length-5
 same-length-5 c = search needs
@@ -92,16 +83,9 @@ same-length-8 c = search needs
 
 returns-2 : tie.Need-returns-2
 returns-2 c =
-    let Z = c .before .before .before .before .before in
-    let K = Z .before .before .before .before .before .before .before .before in
-    let N = K .before in
-    let M = N .before in
-    let H = M .before .before in
-    let P = H .before .before .before .before .before .before .before in
-    let X = P .before .before .before .before .before in
-    let S = X .before .before .before .before .before .before .before in
-    let L = linked-of (S .args .u) (S .args .v) (M .number .ensures) (N .number2 .ensures) (K .relink .ensures) in
-    contract-new (S .pre) (X .index .ensures) (P .set-pin .ensures) L (omega arith) (linked-le (K .relink .ensures)) (sym (H .holds .ensures) ∙ Z .before .before .before .before .before .if1 .left) (Z .set-pin2 .ensures)
+    let S = c .before .before .before .before .before .before .before .before .before .before .before .before .before .before .before .before .before .before .before .before .before .before .before .before .before .before .before .before .before .before .before .before .before .before .before .before in
+    let link = linked-of (S .args .u) (S .args .v) (c .before .before .before .before .before .before .before .before .before .before .before .before .before .before .before .number .ensures) (c .before .before .before .before .before .before .before .before .before .before .before .before .before .before .number2 .ensures) (c .before .before .before .before .before .before .before .before .before .before .before .before .before .relink .ensures) in
+    contract-new (S .pre) (c .before .before .before .before .before .before .before .before .before .before .before .before .before .before .before .before .before .before .before .before .before .before .before .before .before .before .before .before .index .ensures) (c .before .before .before .before .before .before .before .before .before .before .before .before .before .before .before .before .before .before .before .before .before .before .before .set-pin .ensures) link (omega arith) (linked-le (c .before .before .before .before .before .before .before .before .before .before .before .before .before .relink .ensures)) (was-none (S .args .u) link (c .before .before .before .before .before .before .before .before .before .before .if1 .left)) (c .before .before .before .before .before .set-pin2 .ensures)
 
 pub contract-net-spec : {M : Type 1} → statement M
 contract-net-spec =
@@ -111,7 +95,7 @@ contract-net-spec =
     shared-slice-read-index
     index-requires
     set-pin-requires
-    holds-requires
+    is-pin-requires
     number-requires
     number-requires-2
     relink-requires

@@ -2,7 +2,7 @@ use native.Mathlib.Omega.{arith}
 use mathlib.Core.Path.{_≡_, sym, _∙_, ap}
 use denote.Ref.{now}
 use borrow.Author.Needs.{needs}
-use Rattle.levels.specs.Part.{part-sets, part-sets-2, part-both, part-new}
+use Rattle.levels.specs.SplitNet.{split-sets, split-sets-2, split-both, split-new}
 use Rattle.levels.proofs.nets.split_net.Statement.{statement}
 use Rattle.levels.proofs.nets.split_net.Tie as tie
 use Rattle.levels.proofs.nets.split_net.Reads as reads
@@ -21,7 +21,7 @@ index-requires : tie.Need-index-requires
 index-requires c κs = search needs
 
 set-pin-requires : tie.Need-set-pin-requires
-set-pin-requires c κs = part-sets (c .before .before .before .before .before .before .before .before .before .before .before .before .pre) (c .before .before .before .before .index .ensures)
+set-pin-requires c κs = split-sets (c .before .before .before .before .before .before .before .before .before .before .before .before .pre) (c .before .before .before .before .index .ensures)
 
 uncontract-net-requires : tie.Need-uncontract-net-requires
 uncontract-net-requires c κs = c .before .before .before .before .before .before .before .before .before .before .before .before .before .before .before .before .before .before .before .before .pre .splits
@@ -43,11 +43,11 @@ same-length-5 c = search needs
 
 returns : tie.Need-returns
 returns c =
-    part-both (c .before .before .before .before .before .before .before .before .before .before .before .before .before .before .before .before .before .before .before .before .before .before .before .before .before .before .pre) (c .before .before .before .before .before .before .before .before .before .before .before .before .before .before .before .before .before .before .index .ensures) (c .before .before .before .before .before .before .before .before .before .before .before .before .before .set-pin .ensures) (c .before .before .before .before .before .uncontract-net .ensures) (omega arith)
+    split-both (c .before .before .before .before .before .before .before .before .before .before .before .before .before .before .before .before .before .before .before .before .before .before .before .before .before .before .pre) (c .before .before .before .before .before .before .before .before .before .before .before .before .before .before .before .before .before .before .index .ensures) (c .before .before .before .before .before .before .before .before .before .before .before .before .before .set-pin .ensures) (c .before .before .before .before .before .uncontract-net .ensures) (omega arith)
 
 set-pin-requires-2 : tie.Need-set-pin-requires-2
 set-pin-requires-2 c κs =
-    part-sets-2 (c .before .before .before .before .before .before .before .before .before .before .before .before .before .before .before .before .before .before .before .before .before .before .before .before .before .before .before .before .before .before .pre) (c .before .before .before .before .before .before .before .before .before .before .before .before .before .before .before .before .before .before .before .before .before .before .index .ensures) (c .before .before .before .before .before .before .before .before .before .before .before .before .before .before .before .before .before .set-pin .ensures) (c .before .before .before .before .before .before .before .before .before .uncontract-net .ensures) (omega arith)
+    split-sets-2 (c .before .before .before .before .before .before .before .before .before .before .before .before .before .before .before .before .before .before .before .before .before .before .before .before .before .before .before .before .before .before .pre) (c .before .before .before .before .before .before .before .before .before .before .before .before .before .before .before .before .before .before .before .before .before .before .index .ensures) (c .before .before .before .before .before .before .before .before .before .before .before .before .before .before .before .before .before .set-pin .ensures) (c .before .before .before .before .before .before .before .before .before .uncontract-net .ensures) (omega arith)
 
 same-length-6 : tie.Need-same-length-6
 same-length-6 c = search needs
@@ -66,7 +66,7 @@ same-length-10 c = search needs
 
 returns-2 : tie.Need-returns-2
 returns-2 c =
-    part-new (c .before .before .before .before .before .before .before .before .before .before .before .before .before .before .before .before .before .before .before .before .before .before .before .before .before .before .before .before .before .before .before .before .before .before .before .before .pre) (c .before .before .before .before .before .before .before .before .before .before .before .before .before .before .before .before .before .before .before .before .before .before .before .before .before .before .before .before .index .ensures) (c .before .before .before .before .before .before .before .before .before .before .before .before .before .before .before .before .before .before .before .before .before .before .before .set-pin .ensures) (c .before .before .before .before .before .before .before .before .before .before .before .before .before .before .before .uncontract-net .ensures) (omega arith) (c .before .before .before .before .before .set-pin2 .ensures)
+    split-new (c .before .before .before .before .before .before .before .before .before .before .before .before .before .before .before .before .before .before .before .before .before .before .before .before .before .before .before .before .before .before .before .before .before .before .before .before .pre) (c .before .before .before .before .before .before .before .before .before .before .before .before .before .before .before .before .before .before .before .before .before .before .before .before .before .before .before .before .index .ensures) (c .before .before .before .before .before .before .before .before .before .before .before .before .before .before .before .before .before .before .before .before .before .before .before .set-pin .ensures) (c .before .before .before .before .before .before .before .before .before .before .before .before .before .before .before .uncontract-net .ensures) (omega arith) (c .before .before .before .before .before .set-pin2 .ensures)
 
 pub split-net-spec : {M : Type 1} → statement M
 split-net-spec =

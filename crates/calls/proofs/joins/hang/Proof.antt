@@ -1,0 +1,67 @@
+use native.Mathlib.Omega.{arith}
+use mathlib.Core.Path.{_≡_, refl, sym, _∙_, ap}
+use lib.ListN.{set}
+use denote.Ref.{now}
+use borrow.Author.Needs.{needs}
+use Rattle.calls.proofs.joins.hang.Statement.{statement}
+use Rattle.calls.proofs.joins.hang.Tie as tie
+use Rattle.calls.proofs.joins.hang.Reads as reads
+use Rattle.calls.proofs.joins.hang.Lts as lts
+use Rattle.calls.proofs.joins.number.Reads as number-reads
+
+mul-weights : tie.Need-mul-weights
+mul-weights c = search needs
+
+slice-read-weights : tie.Need-slice-read-weights
+slice-read-weights c = search needs
+
+mul-weights-2 : tie.Need-mul-weights-2
+mul-weights-2 c = search needs
+
+slice-read-weights-2 : tie.Need-slice-read-weights-2
+slice-read-weights-2 c = search needs
+
+add-weights : tie.Need-add-weights
+add-weights c = search needs
+
+mul-weights-3 : tie.Need-mul-weights-3
+mul-weights-3 c = search needs
+
+slice-write-weights : tie.Need-slice-write-weights
+slice-write-weights c = search needs
+
+number-requires : tie.Need-number-requires
+number-requires c κs = search needs
+
+mul-aboves : tie.Need-mul-aboves
+mul-aboves c = search needs
+
+slice-write-aboves : tie.Need-slice-write-aboves
+slice-write-aboves c = search needs
+
+same-length : tie.Need-same-length
+same-length c = search needs
+
+same-length-2 : tie.Need-same-length-2
+same-length-2 c = search needs
+
+returns : tie.Need-returns
+returns c = (refl, ap (set (c .before .before .before .before .before .args .aboves .now) (c .before .before .before .before .before .args .v)) (c .number .ensures))
+
+pub hang-spec : {M : Type 1} → statement M
+hang-spec =
+    tie.close
+    (tie.spec
+    mul-weights
+    slice-read-weights
+    mul-weights-2
+    slice-read-weights-2
+    add-weights
+    mul-weights-3
+    slice-write-weights
+    number-requires
+    mul-aboves
+    slice-write-aboves
+    same-length
+    same-length-2
+    returns)

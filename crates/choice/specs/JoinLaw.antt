@@ -1,0 +1,207 @@
+-- The best pair of all rows, by scores; a row that has none, and a row that is left out since its ratings can't be higher.
+-- Rests on RatingLaw and PartnerLaw. Assumes nothing.
+use mathlib.Core.Path.{_≡_, refl, sym, ap, ap₂, _∙_, subst}
+use mathlib.Core.Bool.{Bool, true, false, _&&_, and-false, cond}
+use mathlib.Core.Logic.{inl}
+use mathlib.Core.List.{List}
+use Prim.Native.Nat.{ℕ, zero, suc, _+_, _-_, _≤_, _<_}
+use native.Mathlib.Decide.{ℕ-discrete, decLt}
+use native.Mathlib.Omega.{arith}
+use native.Mathlib.Numerals.{add-one}
+use borrow.Author.Tests.{ne-eqb, lt-ltb, le-ltb, ltb-true, ltb-false}
+use lib.Dec.{ltb, leb}
+use lib.ListN.{length, getD}
+use Rattle.laws.specs.Choice.{cond-le}
+use Rattle.laws.specs.Occurrence.{at, occ-none}
+use Rattle.choice.specs.Rating.{near, rowOf, metOf, ownSum, scoreIn, scoreOf, TablesOk, SelectOk, Blank, Raised, Swept}
+use Rattle.choice.specs.RatingLaw.{spread-dead, spread-off, over-off, over-nil, row-own}
+use Rattle.choice.specs.PartnerLaw.{Ahead, Leading, FirstMax, Weighed, nobody, cond-none}
+use Rattle.choice.specs.declared.join.Partner.{Partner}
+use Rattle.choice.specs.declared.join.Join.{Join}
+
+-- ---- the best pair
+
+-- one more row, of which p is the best
+unfoldable pub joined : ℕ → Partner → Join → Join
+joined u p b = cond (ltb (b .rating) (p .rating)) (record { rating = p .rating; into = u; gone = p .vertex }) b
+
+pub joined-new : (u : ℕ) (p : Partner) (b : Join) → b .rating < p .rating → record { rating = p .rating; into = u; gone = p .vertex } ≡ joined u p b
+unfolding joined
+joined-new u p b h = rw (lt-ltb (b .rating) (p .rating) h)
+
+pub joined-old : (u : ℕ) (p : Partner) (b : Join) → p .rating ≤ b .rating → b ≡ joined u p b
+unfolding joined
+joined-old u p b h = rw (le-ltb (b .rating) (p .rating) h)
+
+-- the first maximum of score 1 .. score k
+unfoldable pub topTo : (ℕ → ℕ) → ℕ → Partner
+topTo score zero = record { rating = 0; vertex = 0 }
+topTo score (suc k) = cond (ltb (topTo score k .rating) (score (suc k))) (record { rating = score (suc k); vertex = suc k }) (topTo score k)
+
+-- what holds of it
+record TopTo (score : ℕ → ℕ) (k : ℕ) (q : Partner) : Type 0 where
+  ahead : (z : ℕ) → z ≤ k → Ahead (score z) z q
+  real : q .rating ≡ score (q .vertex)
+  plain : q .rating ≡ 0 → q .vertex ≡ 0
+  within : q .vertex ≤ k
+
+top-more : (score : ℕ → ℕ) (k : ℕ) (q : Partner) → TopTo score k q → TopTo score (suc k) (cond (ltb (q .rating) (score (suc k))) (record { rating = score (suc k); vertex = suc k }) q)
+top-more score k q h = go (ltb (q .rating) (score (suc k))) refl
+  where
+    go : (b : Bool) → ltb (q .rating) (score (suc k)) ≡ b → TopTo score (suc k) (cond b (record { rating = score (suc k); vertex = suc k }) q)
+    go true e = let lt : q .rating < score (suc k) = ltb-true _ _ e in record {
+      ahead = λ z l. new z l lt (ℕ-discrete z (suc k));
+      real = refl;
+      plain = λ e. absurd (omega arith);
+      within = omega arith;
+    }
+      where
+        new : (z : ℕ) → z ≤ suc k → q .rating < score (suc k) → Dec (z ≡ suc k) → Ahead (score z) z (record { rating = score (suc k); vertex = suc k })
+        new z l lt (yes e) = record { high = omega (arith, ap score e); first = λ w. omega arith }
+        new z l lt (no n) = let a : score z ≤ q .rating = h .ahead z (omega arith) .high in record { high = omega arith; first = λ w. absurd (omega arith) }
+    go false e = let le : score (suc k) ≤ q .rating = ltb-false _ _ e in record {
+      ahead = λ z l. old z l le (ℕ-discrete z (suc k));
+      real = h .real;
+      plain = h .plain;
+      within = omega (arith, h .within);
+    }
+      where
+        old : (z : ℕ) → z ≤ suc k → score (suc k) ≤ q .rating → Dec (z ≡ suc k) → Ahead (score z) z q
+        old z l le (yes e) = record { high = omega (arith, ap score e); first = λ w. omega (arith, h .within) }
+        old z l le (no n) = h .ahead z (omega arith)
+
+top-is : (score : ℕ → ℕ) → score 0 ≡ 0 → (k : ℕ) → TopTo score k (topTo score k)
+unfolding topTo
+top-is score e zero = record {
+  ahead = λ z l. let q : z ≡ 0 = omega arith in record { high = omega (arith, ap score q); first = λ w. omega arith };
+  real = sym e;
+  plain = λ w. refl;
+  within = omega arith;
+}
+top-is score e (suc k) = top-more score k (topTo score k) (top-is score e k)
+
+pub same-partner : (p q : Partner) → p .rating ≡ q .rating → p .vertex ≡ q .vertex → p ≡ q
+same-partner p q a b = ap₂ {A = ℕ} {B = ℕ} {C = Partner} (λ x y. record { rating = x; vertex = y }) a b
+
+pub top-unique : (score : ℕ → ℕ) (n : ℕ) (p : Partner) → score 0 ≡ 0 → FirstMax score p → p .vertex ≤ n → p ≡ topTo score n
+top-unique score n p e h l = go (topTo score n) (top-is score e n)
+  where
+    go : (q : Partner) → TopTo score n q → p ≡ q
+    go q t =
+        let up : Ahead (score (p .vertex)) (p .vertex) q = t .ahead (p .vertex) l in
+        let down : Ahead (score (q .vertex)) (q .vertex) p = h .ahead (q .vertex) in
+        let r : p .rating ≡ q .rating = omega (arith, up .high, down .high, h .real, t .real) in
+        same-partner p q r (omega (arith, up .first (sym (h .real) ∙ r), down .first (sym (t .real) ∙ sym r)))
+
+-- the contract of `best_partner`
+pub record PartnerOf (score : ℕ → ℕ) (n : ℕ) (l′ : List ℕ) (p : Partner) : Type 0 where
+  pub best : p ≡ topTo score n
+  pub clear : Blank l′
+
+-- accumulated, weighed and cleared
+module _ (bits pins firsts sizes netWeights blocks weights : List ℕ) (m n limit u : ℕ) (ok : TablesOk bits pins firsts sizes netWeights blocks m n) where
+  abbrev whole : ℕ → ℕ
+  whole = rowOf bits pins firsts sizes netWeights blocks u m
+
+  abbrev points : ℕ → ℕ
+  points = scoreIn weights (getD weights (u - 1) 0) limit whole
+
+  unmet : (z : ℕ) → metOf bits pins firsts sizes u m z ≡ 0 → whole z ≡ 0
+  unmet z e = over-off bits (u - 1) m _ _ (λ g h q. spread-off pins (getD firsts g 0) _ _ (getD sizes g 0) z q) e
+
+  outside : (z : ℕ) → (1 ≤ z → z ≤ n → ⊥) → points z ≡ 0
+  outside z no-pin = ap (λ (k : ℕ). cond (leb (getD weights (u - 1) 0 + getD weights (z - 1) 0) limit) k 0) none ∙ cond-none (leb (getD weights (u - 1) 0 + getD weights (z - 1) 0) limit)
+    where
+      none : whole z ≡ 0
+      none = unmet z (over-nil bits (u - 1) m _ (λ g h. occ-none pins (getD firsts g 0) (getD sizes g 0) z (λ i k q. no-pin (omega (arith, ok .pin g h i k .0)) (omega (arith, ok .pin g h i k .1)))))
+
+  pub select-ok : n ≤ length weights → SelectOk bits pins firsts sizes weights m n
+  select-ok h = record {
+    rows = ok .rows;
+    nets = ok .nets;
+    vertices = ok .vertices;
+    in-firsts = ok .in-firsts;
+    in-sizes = ok .in-sizes;
+    in-weights = h;
+    stretch = ok .stretch;
+    pin = λ e k i q. (ok .pin e k i q .0, ok .pin e k i q .1);
+  }
+
+  pub partner-law : (l0 l1 l2 : List ℕ) (p : Partner) → Blank l0 → Raised l0 l1 whole → Swept l1 l2 (metOf bits pins firsts sizes u m) → Weighed weights (getD weights (u - 1) 0) limit l1 l2 nobody p
+      → PartnerOf (scoreOf bits pins firsts sizes netWeights blocks weights m limit u) n l2 p
+  unfolding scoreOf
+  partner-law l0 l1 l2 p c r s w = record {
+    best = top-unique points n p (outside 0 (λ a b. omega arith)) most (inside (ℕ-discrete (p .rating) 0));
+    clear = record { len = s .len; zeros = zeros };
+  }
+    where
+      raised : (z : ℕ) → getD l1 z 0 ≡ whole z
+      raised z = omega (arith, r .here z, c .zeros z)
+
+      zeros : (z : ℕ) → getD l2 z 0 ≡ 0
+      zeros z = go (ℕ-discrete (metOf bits pins firsts sizes u m z) 0)
+        where
+          go : Dec (metOf bits pins firsts sizes u m z ≡ 0) → getD l2 z 0 ≡ 0
+          go (yes e) = s .rest z e ∙ raised z ∙ unmet z e
+          go (no e) = s .gone z (omega arith)
+
+      start : Leading whole points l1 nobody
+      start = record {
+        held = λ z. inl (raised z);
+        ahead = λ z q. subst (λ (k : ℕ). Ahead k z nobody) (sym (ap (λ (k : ℕ). cond (leb (getD weights (u - 1) 0 + getD weights (z - 1) 0) limit) k 0) (sym (raised z) ∙ q) ∙ cond-none (leb (getD weights (u - 1) 0 + getD weights (z - 1) 0) limit))) (record { high = omega arith; first = λ e. omega arith });
+        real = sym (outside 0 (λ a b. omega arith));
+        plain = λ e. refl;
+      }
+
+      end : Leading whole points l2 p
+      end = w whole start
+
+      most : FirstMax points p
+      most = record { ahead = λ z. end .ahead z (zeros z); real = end .real; plain = end .plain }
+
+      inside : Dec (p .rating ≡ 0) → p .vertex ≤ n
+      inside (yes e) = omega (arith, end .plain e)
+      inside (no e) = within (decLt n (p .vertex))
+        where
+          within : Dec (n < p .vertex) → p .vertex ≤ n
+          within (yes q) = absurd (e (end .real ∙ outside (p .vertex) (λ a b. omega arith)))
+          within (no q) = omega arith
+
+  -- a vertex of block 0 has no partner: every pin is in some block
+  pub idle : getD blocks (u - 1) 0 ≡ 0 → (z : ℕ) → points z ≡ 0
+  idle e z = ap (λ (k : ℕ). cond (leb (getD weights (u - 1) 0 + getD weights (z - 1) 0) limit) k 0) none ∙ cond-none (leb (getD weights (u - 1) 0 + getD weights (z - 1) 0) limit)
+    where
+      apart : (y : ℕ) → 1 ≤ getD blocks (y - 1) 0 → near blocks u (getD blocks (u - 1) 0) y ≡ false
+      apart y l = ap (λ (b : Bool). ltb u y && b) (ne-eqb (getD blocks (y - 1) 0) (getD blocks (u - 1) 0) (λ q. omega arith)) ∙ and-false (ltb u y)
+
+      none : whole z ≡ 0
+      none = over-nil bits (u - 1) m _ (λ g h. spread-dead pins (getD firsts g 0) _ _ (getD sizes g 0) z (λ i k. apart (at pins (getD firsts g 0) i) (ok .pin g h i k .2)))
+
+  pub idle-row : (b : Join) → getD blocks (u - 1) 0 ≡ 0 → b ≡ joined u (topTo (scoreOf bits pins firsts sizes netWeights blocks weights m limit u) n) b
+  unfolding scoreOf joined
+  idle-row b e =
+      let t : topTo points n .rating ≡ 0 = top-is points (idle e 0) n .real ∙ idle e (topTo points n .vertex) in
+      sym (ap (λ (k : Bool). cond k (record { rating = topTo points n .rating; into = u; gone = topTo points n .vertex }) b) (le-ltb (b .rating) (topTo points n .rating) (omega arith)))
+
+  -- where the terms of u's own nets sum to no more than the best rating before it, u's row changes nothing
+  pub pruned-row : (b : Join) → ownSum bits sizes netWeights u m ≤ b .rating → b ≡ joined u (topTo (scoreOf bits pins firsts sizes netWeights blocks weights m limit u) n) b
+  unfolding scoreOf
+  pruned-row b l =
+      let t : topTo points n .rating ≡ points (topTo points n .vertex) = top-is points (outside 0 (λ a b. omega arith)) n .real in
+      joined-old u (topTo points n) b (omega (arith, most (topTo points n .vertex)))
+    where
+      most : (z : ℕ) → points z ≤ ownSum bits sizes netWeights u m
+      most z = omega (arith, cond-le (leb (getD weights (u - 1) 0 + getD weights (z - 1) 0) limit) (whole z) (whole z) (omega arith), row-own bits pins firsts sizes netWeights blocks u m n ok z)
+
+-- the best pair of the rows 1 .. k, each of n places
+unfoldable pub joinTo : (ℕ → ℕ → ℕ) → ℕ → ℕ → Join
+joinTo score n zero = record { rating = 0; into = 0; gone = 0 }
+joinTo score n (suc k) = joined (suc k) (topTo (score (suc k)) n) (joinTo score n k)
+
+pub join-none : (score : ℕ → ℕ → ℕ) (n : ℕ) → record { rating = 0; into = 0; gone = 0 } ≡ joinTo score n 0
+unfolding joinTo
+join-none score n = refl
+
+pub join-more : (score : ℕ → ℕ → ℕ) (n k : ℕ) (b r : Join) → b ≡ joinTo score n k → r ≡ joined (k + 1) (topTo (score (k + 1)) n) b → r ≡ joinTo score n (k + 1)
+unfolding joinTo
+join-more score n k b r e = subst (λ (x : ℕ). r ≡ joined x (topTo (score x) n) b → r ≡ joinTo score n x) (sym (add-one k)) (λ h. h ∙ ap (joined (suc k) (topTo (score (suc k)) n)) e)

@@ -1,0 +1,280 @@
+// The pair to contract: the best partner of a vertex by its own nets, and the best of those. `limit` is ⌈W/k⌉, the average weight of a
+// block. The table `acc` is all 0 between calls.
+use crate::numbers::wide;
+use crate::numbers::wide32;
+use crate::rating::accumulate;
+use crate::rating::own_sum;
+use incidence::next_net;
+ghost use mathlib.Core.Path.{_≡_};
+ghost use Prim.Native.Nat.{ℕ, _+_, _-_, _<_, _≤_};
+ghost use mathlib.Core.Bool.{cond};
+ghost use lib.Dec.{leb};
+ghost use lib.ListN.{length, getD};
+ghost use Rattle.laws.specs.Occurrence.{same, occ};
+ghost use Rattle.choice.specs.Rating.{metOf, scoreIn, scoreOf, Swept, TakeOk, TablesOk, SelectOk, Blank};
+ghost use Rattle.choice.specs.PartnerLaw.{Leading, Chose, Weighed, nobody};
+ghost use Rattle.choice.specs.JoinLaw.{PartnerOf, topTo, joined};
+ghost use Rattle.choice.specs.JoinPair.{BestJoin};
+
+// The best partner of a vertex; vertex 0 and rating 0 where there is none.
+pub struct Partner {
+    pub rating: u64,
+    pub vertex: usize,
+}
+
+// A pair and its rating; all 0 where there is none.
+pub struct Join {
+    pub rating: u64,
+    pub into: usize,
+    pub gone: usize,
+}
+
+// The rating, or 0 where the two are too heavy together.
+fn scored(s: u64, a: u64, b: u64, limit: u64) -> u64
+    ensures { λ r. ⌜ r ≡ cond (leb (a + b) limit) s 0 ⌝ }
+{
+    if limit < a {
+        return 0;
+    }
+    if limit - a < b {
+        return 0;
+    }
+    s
+}
+
+// The better of `y`, of rating `s`, and the best before it.
+fn choose(s: u64, y: usize, best: Partner) -> Partner
+    ensures { λ r. ⌜ Chose s y best r ⌝ }
+{
+    let rating = best.rating;
+    let vertex = best.vertex;
+    if rating < s {
+        return Partner {
+            rating: s,
+            vertex: y,
+        };
+    }
+    if s < rating {
+        return best;
+    }
+    if vertex <= y {
+        return best;
+    }
+    Partner {
+        rating: s,
+        vertex: y,
+    }
+}
+
+// Weighs the pin `y`, and clears its place.
+fn take_pin(
+    acc: &mut [u64; 1025],
+    weights: &[u32],
+    a: u64,
+    limit: u64,
+    y: usize,
+    best: Partner,
+) -> Partner
+    requires { ⌜ (length (now acc) ≡ 1025) × (1 ≤ y) × (y ≤ 1024) × (y ≤ length (now weights)) ⌝ }
+    ensures { λ r. ⌜ Swept (now (acc .entry)) (now (acc .exit)) (same y) ⌝ }
+    ensures { λ r. ⌜ ((raw : ℕ → ℕ) → Leading raw (scoreIn (now (weights .entry)) a limit raw) (now (acc .entry)) best → Leading raw (scoreIn (now (weights .entry)) a limit raw) (now (acc .exit)) r) ⌝ }
+{
+    let s = scored(acc[y], a, wide32(weights[y - 1]), limit);
+    acc[y] = 0;
+    choose(s, y, best)
+}
+
+// Weighs and clears the pins of a net.
+fn take_net(
+    acc: &mut [u64; 1025],
+    pins: &[u16],
+    weights: &[u32],
+    a: u64,
+    limit: u64,
+    first: usize,
+    n: usize,
+    before: Partner,
+) -> Partner
+    requires { ⌜ TakeOk (length (now acc)) (now pins) (length (now weights)) first n ⌝ }
+    ensures { λ r. ⌜ Swept (now (acc .entry)) (now (acc .exit)) (occ (now (pins .entry)) first n) ⌝ }
+    ensures { λ r. ⌜ ((raw : ℕ → ℕ) → Leading raw (scoreIn (now (weights .entry)) a limit raw) (now (acc .entry)) before → Leading raw (scoreIn (now (weights .entry)) a limit raw) (now (acc .exit)) r) ⌝ }
+{
+    let mut best = before;
+    let mut i = 0;
+    while i < n {
+        best = take_pin(acc, weights, a, limit, wide(pins[first + i]), best);
+        i += 1;
+    }
+    best
+}
+
+// Weighs the pins of all nets of `u`, and clears the places.
+fn select(
+    acc: &mut [u64; 1025],
+    bits: &[u64],
+    pins: &[u16],
+    firsts: &[u16],
+    sizes: &[u16],
+    weights: &[u32],
+    limit: u64,
+    u: usize,
+    m: usize,
+    n: usize,
+) -> Partner
+    requires { ⌜ SelectOk (now bits) (now pins) (now firsts) (now sizes) (now weights) m n ⌝ }
+    requires { ⌜ (length (now acc) ≡ 1025) × (1 ≤ u) × (u ≤ n) ⌝ }
+    ensures { λ r. ⌜ Swept (now (acc .entry)) (now (acc .exit)) (metOf (now (bits .entry)) (now (pins .entry)) (now (firsts .entry)) (now (sizes .entry)) u m) ⌝ }
+    ensures { λ r. ⌜ Weighed (now (weights .entry)) (getD (now (weights .entry)) (u - 1) 0) limit (now (acc .entry)) (now (acc .exit)) nobody r ⌝ }
+{
+    let a = wide32(weights[u - 1]);
+    let mut best = Partner {
+        rating: 0,
+        vertex: 0,
+    };
+    let mut e = next_net(bits, u - 1, 0, m);
+    while e < m {
+        best = take_net(
+            acc,
+            pins,
+            weights,
+            a,
+            limit,
+            wide(firsts[e]),
+            wide(sizes[e]),
+            best,
+        );
+        e = next_net(bits, u - 1, e + 1, m);
+    }
+    best
+}
+
+// The best partner of `u` among the vertices after it; `acc` is all 0 before and after.
+fn best_partner(
+    acc: &mut [u64; 1025],
+    bits: &[u64],
+    pins: &[u16],
+    firsts: &[u16],
+    sizes: &[u16],
+    netWeights: &[u16],
+    blocks: &[u16],
+    weights: &[u32],
+    limit: u64,
+    u: usize,
+    m: usize,
+    n: usize,
+) -> Partner
+    requires { ⌜ TablesOk (now bits) (now pins) (now firsts) (now sizes) (now netWeights) (now blocks) m n ⌝ }
+    requires { ⌜ Blank (now acc) × (1 ≤ u) × (u ≤ n) × (n ≤ length (now weights)) ⌝ }
+    ensures { λ r. ⌜ PartnerOf (scoreOf (now (bits .entry)) (now (pins .entry)) (now (firsts .entry)) (now (sizes .entry)) (now (netWeights .entry)) (now (blocks .entry)) (now (weights .entry)) m limit u) n (now (acc .exit)) r ⌝ }
+{
+    accumulate(acc, bits, pins, firsts, sizes, netWeights, blocks, u, m, n);
+    select(acc, bits, pins, firsts, sizes, weights, limit, u, m, n)
+}
+
+// The better of a pair of `u` and the best before it.
+fn better(u: usize, p: Partner, best: Join) -> Join
+    ensures { λ r. ⌜ r ≡ joined u p best ⌝ }
+{
+    let new = p.rating;
+    let old = best.rating;
+    if old < new {
+        return Join {
+            rating: p.rating,
+            into: u,
+            gone: p.vertex,
+        };
+    }
+    best
+}
+
+// One more row. A vertex off the board, of block 0, has no partner; and a later vertex wins only by a higher rating, so that one is left
+// out whose own terms sum to no more than the best rating before it.
+fn join_row(
+    acc: &mut [u64; 1025],
+    bits: &[u64],
+    pins: &[u16],
+    firsts: &[u16],
+    sizes: &[u16],
+    netWeights: &[u16],
+    blocks: &[u16],
+    weights: &[u32],
+    limit: u64,
+    u: usize,
+    m: usize,
+    n: usize,
+    best: Join,
+) -> Join
+    requires { ⌜ TablesOk (now bits) (now pins) (now firsts) (now sizes) (now netWeights) (now blocks) m n ⌝ }
+    requires { ⌜ Blank (now acc) × (1 ≤ u) × (u ≤ n) × (n ≤ length (now weights)) ⌝ }
+    ensures { λ r. ⌜ r ≡ joined u (topTo (scoreOf (now (bits .entry)) (now (pins .entry)) (now (firsts .entry)) (now (sizes .entry)) (now (netWeights .entry)) (now (blocks .entry)) (now (weights .entry)) m limit u) n) best ⌝ }
+    ensures { λ r. ⌜ Blank (now (acc .exit)) ⌝ }
+{
+    if blocks[u - 1] == 0 {
+        return best;
+    }
+    let high = best.rating;
+    if own_sum(bits, sizes, netWeights, u, m) <= high {
+        return best;
+    }
+    let p = best_partner(
+        acc,
+        bits,
+        pins,
+        firsts,
+        sizes,
+        netWeights,
+        blocks,
+        weights,
+        limit,
+        u,
+        m,
+        n,
+    );
+    better(u, p, best)
+}
+
+// The pair of highest rating, then lowest u, then lowest v.
+pub fn best_join(
+    acc: &mut [u64; 1025],
+    bits: &[u64],
+    pins: &[u16],
+    firsts: &[u16],
+    sizes: &[u16],
+    netWeights: &[u16],
+    blocks: &[u16],
+    weights: &[u32],
+    limit: u64,
+    m: usize,
+    n: usize,
+) -> Join
+    requires { ⌜ TablesOk (now bits) (now pins) (now firsts) (now sizes) (now netWeights) (now blocks) m n ⌝ }
+    requires { ⌜ Blank (now acc) × (n ≤ length (now weights)) ⌝ }
+    ensures { λ r. ⌜ BestJoin (scoreOf (now (bits .entry)) (now (pins .entry)) (now (firsts .entry)) (now (sizes .entry)) (now (netWeights .entry)) (now (blocks .entry)) (now (weights .entry)) m limit) n r ⌝ }
+    ensures { λ r. ⌜ Blank (now (acc .exit)) ⌝ }
+{
+    let mut best = Join {
+        rating: 0,
+        into: 0,
+        gone: 0,
+    };
+    let mut i = 0;
+    while i < n {
+        best = join_row(
+            acc,
+            bits,
+            pins,
+            firsts,
+            sizes,
+            netWeights,
+            blocks,
+            weights,
+            limit,
+            i + 1,
+            m,
+            n,
+            best,
+        );
+        i += 1;
+    }
+    best
+}

@@ -1,0 +1,136 @@
+use Prim.Native.Nat.{_≤_, _<_, _-_}
+use native.Mathlib.Omega.{arith}
+use mathlib.Core.Path.{_≡_, sym, _∙_, ap}
+use denote.Ref.{now}
+use borrow.Author.Needs.{needs}
+use Rattle.incidence.specs.On.{on}
+use Rattle.levels.specs.Contract.{Contracting, contracting-none, contracting-contracts, contracting-more, contracting-done}
+use Rattle.levels.proofs.contract_nets.Statement.{statement}
+use Rattle.levels.proofs.contract_nets.Tie as tie
+use Rattle.levels.proofs.contract_nets.Reads as reads
+use Rattle.levels.proofs.contract_nets.Lts as lts
+use Rattle.levels.proofs.nets.contract_net.Reads as contract-net-reads
+use Rattle.levels.proofs.numbers.index.Reads as index-reads
+use Rattle.levels.proofs.numbers.narrow.Reads as narrow-reads
+use Rattle.incidence.proofs.copy_or.Reads as copy-or-reads
+use Rattle.incidence.proofs.next_net.Reads as next-net-reads
+
+abbrev Inv-loop : tie.InvT-loop
+Inv-loop counts₀ visited₀ gains₀ pins₀ sizes₀ bits weights blocks firsts n m k u v e₀ counts visited gains pins sizes e =
+    (e ≤ m) × (e < m → on bits v e ≡ 1) × Contracting weights blocks firsts bits n m k u v e pins₀ pins sizes₀ sizes counts₀ counts visited₀ visited gains₀ gains
+
+abbrev μ-loop : tie.MeasureT-loop
+μ-loop counts₀ visited₀ gains₀ pins₀ sizes₀ bits weights blocks firsts n m k u v e₀ counts visited gains pins sizes e =
+    m - e
+
+next-net-requires : tie.Need-next-net-requires Inv-loop μ-loop
+next-net-requires c κs = let S = c .before .before .before .before .before .before .before .before .before in omega (arith, S .pre .room .bits-fit, S .pre .room .few-nets, S .pre .v-in)
+
+loop-holds : tie.Need-loop-holds Inv-loop μ-loop
+loop-holds c = (c .next-net .ensures .high, c .next-net .ensures .found, contracting-none (c .before .before .before .before .before .before .before .before .before .before .pre) (c .next-net .ensures))
+
+mul-index : tie.Need-mul-index Inv-loop μ-loop
+mul-index c = omega arith
+
+shared-slice-read-index : tie.Need-shared-slice-read-index Inv-loop μ-loop
+shared-slice-read-index c = omega (arith, c .before .before .before .before .before .before .before .before .before .before .before .before .before .pre .room .firsts-fit)
+
+index-requires : tie.Need-index-requires Inv-loop μ-loop
+index-requires c κs = search needs
+
+mul-index-2 : tie.Need-mul-index-2 Inv-loop μ-loop
+mul-index-2 c = omega arith
+
+slice-read-index : tie.Need-slice-read-index Inv-loop μ-loop
+slice-read-index c = omega (arith, c .before .before .before .before .loop .inv .2 .world .lists .sizes-fit)
+
+index-requires-2 : tie.Need-index-requires-2 Inv-loop μ-loop
+index-requires-2 c κs = search needs
+
+contract-net-requires : tie.Need-contract-net-requires Inv-loop μ-loop
+contract-net-requires c κs =
+    let I = c .before .before .before .before .before .before .before .before .before .before .loop .inv in
+    let test = c .before .before .before .before .before .before .before .before .before .loop-test .taken in
+    contracting-contracts (c .before .before .before .before .before .before .before .before .before .before .before .before .before .before .before .before .before .before .before .before .before .pre) test (I .1 test) (I .2) (c .before .before .before .before .before .before .before .index .ensures) (c .before .before .before .before .before .index2 .ensures)
+
+narrow-requires : tie.Need-narrow-requires Inv-loop μ-loop
+narrow-requires c κs = omega (arith, c .before .before .before .before .before .before .before .contract-net .ensures .shorter, c .before .before .before .before .before .before .before .before .before .before .before .before .before .index2 .ensures, c .before .before .before .before .before .before .before .before .before .before .before .before .before .before .slice-known6 .given (c .before .before .before .before .before .before .before .before .before .before .before .before .before .before .before .before .before .before .loop .e))
+
+mul-sizes : tie.Need-mul-sizes Inv-loop μ-loop
+mul-sizes c = omega arith
+
+slice-write-sizes : tie.Need-slice-write-sizes Inv-loop μ-loop
+slice-write-sizes c = omega (arith, c .before .before .before .before .before .before .before .before .before .before .before .before .before .before .before .before .before .before .before .loop .inv .2 .world .lists .sizes-fit)
+
+add-next-net : tie.Need-add-next-net Inv-loop μ-loop
+add-next-net c = omega arith
+
+next-net-requires-2 : tie.Need-next-net-requires-2 Inv-loop μ-loop
+next-net-requires-2 c κs = let S = c .before .before .before .before .before .before .before .before .before .before .before .before .before .before .before .before .before .before .before .before .before .before .before .before .before .before .before .before .before .before .before in omega (arith, S .pre .room .bits-fit, S .pre .room .few-nets, S .pre .v-in, c .before .before .before .before .before .before .before .before .before .before .before .before .before .before .before .before .before .before .before .loop-test .taken)
+
+loop-less : tie.Need-loop-less Inv-loop μ-loop
+loop-less c = omega (arith, c .next-net2 .ensures .low, c .next-net2 .ensures .high)
+
+loop-again : tie.Need-loop-again Inv-loop μ-loop
+loop-again c =
+    let I = c .before .before .before .before .before .before .before .before .before .before .before .before .before .before .before .before .before .before .before .before .before .loop .inv in
+    let test = c .before .before .before .before .before .before .before .before .before .before .before .before .before .before .before .before .before .before .before .before .loop-test .taken in (
+      c .next-net2 .ensures .high,
+      c .next-net2 .ensures .found,
+      rw (c .before .before .narrow .ensures) (contracting-more (c .before .before .before .before .before .before .before .before .before .before .before .before .before .before .before .before .before .before .before .before .before .before .before .before .before .before .before .before .before .before .before .before .pre) test (I .1 test) (I .2) (c .before .before .before .before .before .before .before .before .before .before .before .before .before .before .before .before .before .before .index .ensures) (c .before .before .before .before .before .before .before .before .before .before .before .before .before .before .before .before .index2 .ensures) (c .before .before .before .before .before .before .before .before .before .before .contract-net .ensures) (c .next-net2 .ensures)),
+    )
+
+copy-or-requires : tie.Need-copy-or-requires Inv-loop μ-loop
+copy-or-requires c κs = let S = c .before .before .before .before .before .before .before .before .before .before .before .before .before in omega (arith, S .pre .room .bits-fit, S .pre .u-in, S .pre .v-in)
+
+same-length : tie.Need-same-length Inv-loop μ-loop
+same-length c = c .before .before .before .before .before .loop .inv .2 .kept .of-tally .counts-len
+
+same-length-2 : tie.Need-same-length-2 Inv-loop μ-loop
+same-length-2 c = c .before .before .before .before .before .loop .inv .2 .kept .of-tally .masks-len
+
+same-length-3 : tie.Need-same-length-3 Inv-loop μ-loop
+same-length-3 c = c .before .before .before .before .before .loop .inv .2 .kept .of-gains .gains-len
+
+same-length-4 : tie.Need-same-length-4 Inv-loop μ-loop
+same-length-4 c = c .before .before .before .before .before .loop .inv .2 .pins-len
+
+same-length-5 : tie.Need-same-length-5 Inv-loop μ-loop
+same-length-5 c = c .before .before .before .before .before .loop .inv .2 .sizes-len
+
+same-length-6 : tie.Need-same-length-6 Inv-loop μ-loop
+same-length-6 c = c .before .before .copy-or .ensures .len
+
+returns : tie.Need-returns Inv-loop μ-loop
+returns c = contracting-done (c .before .before .before .before .before .before .before .before .before .before .before .before .before .before .before .before .pre) (omega arith) (c .before .before .before .before .before .loop .inv .2) (c .before .before .copy-or .ensures)
+
+pub contract-nets-spec : {M : Type 1} → statement M
+contract-nets-spec =
+    tie.close
+    (tie.spec
+    Inv-loop
+    μ-loop
+    next-net-requires
+    loop-holds
+    mul-index
+    shared-slice-read-index
+    index-requires
+    mul-index-2
+    slice-read-index
+    index-requires-2
+    contract-net-requires
+    narrow-requires
+    mul-sizes
+    slice-write-sizes
+    add-next-net
+    next-net-requires-2
+    loop-less
+    loop-again
+    copy-or-requires
+    same-length
+    same-length-2
+    same-length-3
+    same-length-4
+    same-length-5
+    same-length-6
+    returns)
