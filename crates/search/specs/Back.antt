@@ -97,7 +97,7 @@ rewind-asks T T′ vs bs tried kept j v ok f l q =
     let b = f (ok .aboves) (ok .loaded) .behind (ok .h) (ok .cs) (ok .block) (ok .sound) in
     let x = backs-step (ok .h) (ok .cs) (b .there) vs bs j l (b .backs (ok .backs)) .0 in
     let i : v - 1 + 1 ≡ getD vs (j - 1) 0 = omega (arith, x .vertex-in) in
-    let u-in : v - 1 < T′ (ok .aboves) (ok .loaded) .n = omega (arith, x .vertex-in, b .sound .says .all-vertices) in
+    let u-in : v - 1 < T′ (ok .aboves) (ok .loaded) .n = omega (arith, x .vertex-in, b .sound .follows .says .all-vertices) in
     let o : above (ok .cs) (v - 1 + 1) ≡ 0 = ap (above (ok .cs)) i ∙ x .on in
     let own = own-block (b .sound) (v - 1) u-in o in
     record {
@@ -111,7 +111,7 @@ rewind-asks T T′ vs bs tried kept j v ok f l q =
         open-pair = record {
           u-in = u-in;
           on = omega (arith, own, in-range (b .sound) (v - 1) u-in o .0);
-          t-in = (x .from-in .0, omega (arith, x .from-in .1, b .sound .says .all-blocks));
+          t-in = (x .from-in .0, omega (arith, x .from-in .1, b .sound .follows .says .all-blocks));
           away = λ z. x .away (ap (b .there) (sym i) ∙ sym own ∙ z);
         };
       };

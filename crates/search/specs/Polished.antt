@@ -204,7 +204,7 @@ passing-none T limit {marks} m = record {
       sound = s;
       made-is = refl;
       board = λ x l.
-          m .marks x (omega (arith, s .room .few-vertices))
+          m .marks x (omega (arith, s .follows .room .few-vertices))
           ∙ ap₂ (λ (c d : Bool). c || ((ltb x (T .n) && ltb 0 (getD (T .blocks) x 0)) && not d)) (blank 0 x) (blank 1 x)
           ∙ and-true (ltb x (T .n) && ltb 0 (getD (T .blocks) x 0))
           ∙ ap (λ (c : Bool). c && ltb 0 (getD (T .blocks) x 0)) (lt-ltb x (T .n) l)

@@ -33,14 +33,14 @@ module _ {h : Hypergraph} {cs : List Contraction} {block : ℕ → ℕ} {T : Tab
     where
       go : Dec (above cs x ≡ 0) → above cs x ≡ 0
       go (yes z) = z
-      go (no z) = absurd (omega (arith, present-off (loadedPin (netAt h e)) cs x z, present-pin (netAt h e) cs (s .says .sound) x, ap one q))
+      go (no z) = absurd (omega (arith, present-off (loadedPin (netAt h e)) cs x z, present-pin (netAt h e) cs (s .follows .says .sound) x, ap one q))
 
   bit-is : (u e : ℕ) → u < T .n → e < T .m → above cs (u + 1) ≡ 0 → eqb (on (T .bits) u e) 1 ≡ pin cs (netAt h e) (u + 1)
-  bit-is u e lu le q = ap (λ (z : ℕ). eqb z 1) (s .says .board .marked u e lu le ∙ ap one (row-pin (netAt h e) cs (s .says .sound) (u + 1) q)) ∙ one-eqb (pin cs (netAt h e) (u + 1))
+  bit-is u e lu le q = ap (λ (z : ℕ). eqb z 1) (s .follows .says .board .marked u e lu le ∙ ap one (row-pin (netAt h e) cs (s .follows .says .sound) (u + 1) q)) ∙ one-eqb (pin cs (netAt h e) (u + 1))
 
   both-is : (u x e : ℕ) → u < T .n → e < T .m → above cs (u + 1) ≡ 0
       → (eqb (on (T .bits) u e) 1 && has (T .pins) (getD (T .firsts) e 0) (getD (T .sizes) e 0) x) ≡ (pin cs (netAt h e) (u + 1) && pin cs (netAt h e) (x + 1))
-  both-is u x e lu le q = ap₂ (λ (a b : Bool). a && b) (bit-is u e lu le q) (has-pin (s .says) e le x)
+  both-is u x e lu le q = ap₂ (λ (a b : Bool). a && b) (bit-is u e lu le q) (has-pin (s .follows .says) e le x)
 
   -- those that share a net with u
   pub near-is : (u x : ℕ) → u < T .n → above cs (u + 1) ≡ 0 → near (T .bits) (T .pins) (T .firsts) (T .sizes) u (T .m) x ≡ adjacent h cs (u + 1) (x + 1)
@@ -50,11 +50,11 @@ module _ {h : Hypergraph} {cs : List Contraction} {block : ℕ → ℕ} {T : Tab
       go : (b : Bool) → any (h .nets) (λ e. pin cs e (u + 1) && pin cs e (x + 1)) ≡ b → near (T .bits) (T .pins) (T .firsts) (T .sizes) u (T .m) x ≡ any (h .nets) (λ e. pin cs e (u + 1) && pin cs e (x + 1))
       go true r =
           let w = any-at (h .nets) noNet (λ e. pin cs e (u + 1) && pin cs e (x + 1)) r in
-          let le : w .0 < T .m = omega (arith, w .1, s .says .all-nets) in
+          let le : w .0 < T .m = omega (arith, w .1, s .follows .says .all-nets) in
           let both = both-is u x (w .0) lu le q ∙ w .2 in
           near-yes (T .bits) (T .pins) (T .firsts) (T .sizes) u (T .m) x (w .0) le (eqb-true (on (T .bits) u (w .0)) 1 (and-left (eqb (on (T .bits) u (w .0)) 1) (has (T .pins) (getD (T .firsts) (w .0) 0) (getD (T .sizes) (w .0) 0) x) both)) (and-right (eqb (on (T .bits) u (w .0)) 1) (has (T .pins) (getD (T .firsts) (w .0) 0) (getD (T .sizes) (w .0) 0) x) both) ∙ sym r
       go false r =
-          near-no (T .bits) (T .pins) (T .firsts) (T .sizes) u (T .m) x (λ e le. both-is u x e lu le q ∙ any-not (h .nets) noNet (λ e. pin cs e (u + 1) && pin cs e (x + 1)) r e (omega (arith, s .says .all-nets)))
+          near-no (T .bits) (T .pins) (T .firsts) (T .sizes) u (T .m) x (λ e le. both-is u x e lu le q ∙ any-not (h .nets) noNet (λ e. pin cs e (u + 1) && pin cs e (x + 1)) r e (omega (arith, s .follows .says .all-nets)))
           ∙ sym r
 
   pub near-on : (u x : ℕ) → adjacent h cs u x ≡ true → above cs x ≡ 0
@@ -63,37 +63,37 @@ module _ {h : Hypergraph} {cs : List Contraction} {block : ℕ → ℕ} {T : Tab
 
   pub nets-ok : (u : ℕ) → u < T .n → NetsOk (T .bits) (T .pins) (T .firsts) (T .sizes) (T .m) u
   nets-ok u lu = record {
-    bits-fit = omega (arith, s .room .bits-fit);
-    few = s .room .few-nets;
-    firsts-fit = s .room .firsts-fit;
-    sizes-fit = s .room .sizes-fit;
+    bits-fit = omega (arith, s .follows .room .bits-fit);
+    few = s .follows .room .few-nets;
+    firsts-fit = s .follows .room .firsts-fit;
+    sizes-fit = s .follows .room .sizes-fit;
     nets = λ e le. record {
-      fit = s .world .lists .nets e le .pins-fit;
-      vertices = λ j lj. let r = s .world .lists .nets e le .vertices j lj in (r .0, omega (arith, r .1, s .room .few-vertices));
+      fit = s .follows .world .lists .nets e le .pins-fit;
+      vertices = λ j lj. let r = s .follows .world .lists .nets e le .vertices j lj in (r .0, omega (arith, r .1, s .follows .room .few-vertices));
     };
   }
 
   -- ---- the best open pair
   pub search-ok : (marks : List ℕ) → 16 ≤ length marks → SearchOk (length (T .gains)) (length (T .blocks)) (length (T .weights)) (length marks) (T .n) (T .k)
   search-ok marks l = record {
-    n-to = s .room .few-vertices;
-    k-to = s .world .frame .few;
-    in-gains = s .world .frame .gains-fit;
-    in-blocks = s .world .lists .blocks-fit;
+    n-to = s .follows .room .few-vertices;
+    k-to = s .follows .world .frame .few;
+    in-gains = s .follows .world .frame .gains-fit;
+    in-blocks = s .follows .world .lists .blocks-fit;
     in-weights = s .weights-fit;
     in-candidates = l;
   }
 
   pub holds : (limit : ℕ) → limit ≡ capacity h → Holds h cs block (T .gains) (T .blocks) (T .weights) (T .loads) (T .n) (T .k) limit
   holds limit q = record {
-    n-is = s .says .all-vertices;
-    k-is = s .says .all-blocks;
+    n-is = s .follows .says .all-vertices;
+    k-is = s .follows .says .all-blocks;
     limit-is = q;
     block-is = λ v l u o. own-block s (v - 1) (omega arith) (at-one v l (eqb-true _ _ o)) ∙ ap block (back v l);
     weight-is = λ v l u o. own-weight s (v - 1) (omega arith) (at-one v l (eqb-true _ _ o)) ∙ ap (weight h cs) (back v l);
     load-is = λ b l u. s .bears (b - 1) (omega arith) ∙ ap (blockWeight h cs block) (back b l);
     gain-is = λ v b lv uv lb ub o.
-        reads (s .says) (s .world) .gained (v - 1) (b - 1) (omega arith) (omega arith) (in-range s (v - 1) (omega arith) (at-one v lv (eqb-true _ _ o)) .0)
+        reads (s .follows .says) (s .follows .world) .gained (v - 1) (b - 1) (omega arith) (omega arith) (in-range s (v - 1) (omega arith) (at-one v lv (eqb-true _ _ o)) .0)
         ∙ ap₂ (gain h cs block) (back v lv) (back b lb);
   }
     where

@@ -89,7 +89,7 @@ module _ {h : Hypergraph} {cs : List Contraction} {w : Walk} {T T′ : Tables} {
   sound = subst (λ (y : ℕ). Sound h cs (place (w .block) y b) T′) e (g .sound h cs (w .block) (A .sound))
 
   small : T .n ≤ 1024
-  small = A .sound .room .few-vertices
+  small = A .sound .follows .room .few-vertices
 
   spent : (y : ℕ) → y < T .n → movedBit marks′ y ≡ (eqb v (y + 1) || moved h cs w (y + 1))
   spent y l = sp .moved y (omega (arith, small)) ∙ ap₂ (λ (s t : Bool). s || t) (eqb-next x y v e) (A .spent y l)
@@ -131,9 +131,9 @@ module _ {h : Hypergraph} {cs : List Contraction} {w : Walk} {T T′ : Tables} {
     kept-is = ek ∙ lower (sound .total-is) (A .low-is) tries (A .kept-is);
     low-is = el ∙ lower (sound .total-is) (A .low-is) (sound .total-is) (A .low-is);
     kept-to = omega (arith, ek, least (ltb (T′ .total) low) (A .kept-to));
-    backs = backs-more h cs (w .block) (w .journal) v b (omega (arith, o .u-in, A .sound .says .all-vertices)) on
+    backs = backs-more h cs (w .block) (w .journal) v b (omega (arith, o .u-in, A .sound .follows .says .all-vertices)) on
         (let r = in-range (A .sound) x (o .u-in) on-x in
-        subst (λ (z : ℕ). (1 ≤ w .block z) × (w .block z ≤ h .blocks)) e (r .0, omega (arith, r .1, A .sound .says .all-blocks)))
+        subst (λ (z : ℕ). (1 ≤ w .block z) × (w .block z ≤ h .blocks)) e (r .0, omega (arith, r .1, A .sound .follows .says .all-blocks)))
         (λ q. o .away (own ∙ q)) (A .backs);
     marks-fit = sp .len ∙ A .marks-fit;
     vertices-fit = ap length (p .xs-are) ∙ length-set vs tried v ∙ A .vertices-fit;

@@ -67,10 +67,10 @@ module _ {l l′ : List ℕ} (u v : ℕ) (a : Marked (replicate 32 0) l (λ y. e
     start-at {h} {cs} {block} {vs} {bs} {tried} s lv lb q = record {
       sound = s;
       chosen = λ x k.
-          first-marks x (omega (arith, s .room .few-vertices))
+          first-marks x (omega (arith, s .follows .room .few-vertices))
           ∙ two-on s u v u-in u-on v-in v-on x (eqb (x + 1) (u + 1) || eqb (x + 1) (v + 1)) refl
           ∙ ap (λ (t : Bool). t && onBoard cs (x + 1)) (sym (and-true (eqb (x + 1) (u + 1) || eqb (x + 1) (v + 1))));
-      spent = λ x k. first-moved x (omega (arith, s .room .few-vertices));
+      spent = λ x k. first-moved x (omega (arith, s .follows .room .few-vertices));
       journal-is = sym (ap (journalOf vs bs) q ∙ pairs-none (λ v b. record { vertex = v; from = b }) vs bs);
       tried-is = q;
       kept-is = refl;
@@ -88,7 +88,7 @@ module _ {l l′ : List ℕ} (u v : ℕ) (a : Marked (replicate 32 0) l (λ y. e
       is = λ h cs block e s. record {
         walk = record { block = block; journal = []; candidate = λ x. eqb x (u + 1) || eqb x (v + 1); tried = 0; kept = 0; lowest = metric h cs block };
         at = start-at s lv lb q;
-        same = ap (λ (i : ℕ). walkOn h cs i (record { block = block; journal = []; candidate = λ x. eqb x (u + 1) || eqb x (v + 1); tried = 0; kept = 0; lowest = metric h cs block })) (let z : vertices h ≡ T .n - 0 = omega (arith, s .says .all-vertices) in z);
+        same = ap (λ (i : ℕ). walkOn h cs i (record { block = block; journal = []; candidate = λ x. eqb x (u + 1) || eqb x (v + 1); tried = 0; kept = 0; lowest = metric h cs block })) (let z : vertices h ≡ T .n - 0 = omega (arith, s .follows .says .all-vertices) in z);
       };
       keeps = keeps-none T;
     }
@@ -128,7 +128,7 @@ end-asks ok f on to =
       sound = o .at .sound;
       backs = subst (Backs (ok .h) (ok .cs) (o .walk .block)) (o .at .journal-is) (o .at .backs);
       kept-to = o .at .kept-to;
-      tried-to = omega (arith, ok .sound .room .few-vertices);
+      tried-to = omega (arith, ok .sound .follows .room .few-vertices);
       vs-fit = o .at .vertices-fit;
       bs-fit = o .at .blocks-fit;
     }
