@@ -1,3 +1,4 @@
+-- `own_row`: nothing for no pin, else the row of shares.
 use native.Mathlib.Omega.{arith}
 use mathlib.Core.Path.{_≡_, refl, sym, _∙_, ap}
 use denote.Ref.{now}

@@ -1,3 +1,4 @@
+-- `set_pin` by the steps of Steps: the row of x, the counts, the other pins, the row of x again.
 use native.Mathlib.Omega.{arith}
 use mathlib.Core.Path.{_≡_, refl, sym, _∙_, ap}
 use denote.Ref.{now}

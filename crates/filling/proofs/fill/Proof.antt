@@ -1,3 +1,4 @@
+-- `fill`: the nets below e are filled.
 use Prim.Native.Nat.{_≤_, _-_}
 use native.Mathlib.Omega.{arith}
 use mathlib.Core.Path.{_≡_, sym, _∙_, ap}

@@ -1,3 +1,4 @@
+-- `fill_net`: the first i pins are counted.
 use Prim.Native.Nat.{_≤_, _-_}
 use native.Mathlib.Omega.{arith}
 use mathlib.Core.Path.{_≡_, refl, sym, _∙_, ap}

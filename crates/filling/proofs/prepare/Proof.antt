@@ -1,3 +1,4 @@
+-- `prepare`: blank tables, filled.
 use native.Mathlib.Omega.{arith}
 use mathlib.Core.Path.{_≡_, sym, _∙_, ap}
 use denote.Ref.{now}

@@ -1,3 +1,4 @@
+-- `clear_counts`: the rows below e are 0.
 use Prim.Native.Nat.{_≤_, _-_}
 use native.Mathlib.Omega.{arith}
 use mathlib.Core.Path.{_≡_, sym, _∙_, ap}

@@ -1,3 +1,4 @@
+-- `clear_gain_row`: the first j entries are 0.
 use Prim.Native.Nat.{_≤_, _-_}
 use native.Mathlib.Omega.{arith}
 use lib.IntN.{pos}

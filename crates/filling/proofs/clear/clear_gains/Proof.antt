@@ -1,3 +1,4 @@
+-- `clear_gains`: the rows below y are 0.
 use Prim.Native.Nat.{_≤_, _-_}
 use native.Mathlib.Omega.{arith}
 use lib.IntN.{pos}
