@@ -99,7 +99,7 @@ rewind-asks T T′ vs bs tried kept j v ok f l q =
     let i : v - 1 + 1 ≡ getD vs (j - 1) 0 = omega (arith, x .vertex-in) in
     let u-in : v - 1 < T′ (ok .aboves) (ok .loaded) .n = omega (arith, x .vertex-in, b .sound .follows .says .all-vertices) in
     let o : above (ok .cs) (v - 1 + 1) ≡ 0 = ap (above (ok .cs)) i ∙ x .on in
-    let own = own-block (b .sound) (v - 1) u-in o in
+    let own = own-block (b .sound) (v - 1) u-in in
     record {
       aboves = ok .aboves;
       loaded = ok .loaded;

@@ -1,62 +1,44 @@
 -- What is not in use is untouched by one operation after another. Rests on calls' Keeps. Assumes nothing.
+use Prim.Native.Nat.{ℕ}
 use native.Mathlib.Omega.{arith}
 use mathlib.Core.Path.{_≡_, refl, _∙_}
 use mathlib.Core.List.{List}
-use Prim.Native.Nat.{ℕ}
-use Rattle.calls.specs.Tables.{Tables, Past, Around, Keeps}
+use Rattle.connectivity.specs.Set.{kept-none, kept-trans}
+use Rattle.calls.specs.Tables.{Tables, Past, Keeps}
+use Rattle.calls.specs.Move.{past-same}
 
 past-more : {n n′ : ℕ} {l l′ l″ : List ℕ} → n′ ≡ n → Past n l l′ → Past n′ l′ l″ → Past n l l″
 past-more e a b = record { len = b .len ∙ a .len; past = λ i q. b .past i (omega arith) ∙ a .past i q }
 
-past-none : (n : ℕ) (l : List ℕ) → Past n l l
-past-none n l = record { len = refl; past = λ i q. refl }
-
 pub keeps-none : (T : Tables) → Keeps T T
 keeps-none T = record {
-  kept = record {
-    of-tally = record {
-      counts-len = refl;
-      masks-len = refl;
-      counts-past = λ e j l u. refl;
-      counts-over = λ i l. refl;
-      masks-past = λ e j l. refl;
-      masks-over = λ e l. refl;
-    };
-    of-gains = record { gains-len = refl; gains-past = λ y j l u. refl; gains-over = λ y j l u. refl };
+  running = record {
+    tables = kept-none (T .counts) (T .visited) (T .gains);
+    lists = record { pins-len = refl; sizes-len = refl; pins-past = λ i q. refl; sizes-past = λ e q. refl };
+    blocks-len = refl;
+    blocks-past = λ y q. refl;
   };
-  pins = record { len = refl; around = λ i q. refl };
-  sizes = past-none (T .m) (T .sizes);
-  blocks = past-none (T .n) (T .blocks);
-  weights = past-none (T .n) (T .weights);
-  aboves = past-none (T .n) (T .aboves);
+  weights = past-same (T .n) (T .weights);
+  aboves = past-same (T .n) (T .aboves);
 }
 
 -- where the numbers of vertices, nets and blocks and the loaded stretches are the same
 pub keeps-more : {T T′ T″ : Tables} → T′ .n ≡ T .n → T′ .m ≡ T .m → T′ .k ≡ T .k → T′ .firsts ≡ T .firsts → T′ .loaded ≡ T .loaded → Keeps T T′ → Keeps T′ T″ → Keeps T T″
 keeps-more qn qm qk qf ql a b =
-    let x = a .kept .of-tally in
-    let y = b .kept .of-tally in
-    let v = a .kept .of-gains in
-    let w = b .kept .of-gains in
+    let x = a .running in
+    let y = b .running in
     record {
-      kept = record {
-        of-tally = record {
-          counts-len = y .counts-len ∙ x .counts-len;
-          masks-len = y .masks-len ∙ x .masks-len;
-          counts-past = λ e j l u. y .counts-past e j (omega arith) u ∙ x .counts-past e j l u;
-          counts-over = λ i l. y .counts-over i (omega arith) ∙ x .counts-over i l;
-          masks-past = λ e j l. y .masks-past e j (omega arith) ∙ x .masks-past e j l;
-          masks-over = λ e l. y .masks-over e (omega arith) ∙ x .masks-over e l;
+      running = record {
+        tables = kept-trans (x .tables) (rw (qn, qm, qk) at (y .tables));
+        lists = record {
+          pins-len = y .lists .pins-len ∙ x .lists .pins-len;
+          sizes-len = y .lists .sizes-len ∙ x .lists .sizes-len;
+          pins-past = λ i r. y .lists .pins-past i (λ e l. rw (qf, ql) (r e (omega arith))) ∙ x .lists .pins-past i r;
+          sizes-past = λ e l. y .lists .sizes-past e (omega arith) ∙ x .lists .sizes-past e l;
         };
-        of-gains = record {
-          gains-len = w .gains-len ∙ v .gains-len;
-          gains-past = λ y j l u. w .gains-past y j (omega arith) u ∙ v .gains-past y j l u;
-          gains-over = λ y j l u. w .gains-over y j (omega arith) u ∙ v .gains-over y j l u;
-        };
+        blocks-len = y .blocks-len ∙ x .blocks-len;
+        blocks-past = λ i l. y .blocks-past i (omega arith) ∙ x .blocks-past i l;
       };
-      pins = record { len = b .pins .len ∙ a .pins .len; around = λ i r. b .pins .around i (λ e l. rw (qf, ql) (r e (omega arith))) ∙ a .pins .around i r };
-      sizes = past-more qm (a .sizes) (b .sizes);
-      blocks = past-more qn (a .blocks) (b .blocks);
       weights = past-more qn (a .weights) (b .weights);
       aboves = past-more qn (a .aboves) (b .aboves);
     }

@@ -131,7 +131,7 @@ module _ {T : List ℕ → List ℕ → Tables} {marks : List ℕ} {left moves :
   pass-open =
       let S = T (ok .aboves) (ok .loaded) in
       pair-open (ok .at .sound) marks limit v b (λ x l q. eqb-true _ _ (sym (ok .at .board x l) ∙ q)) pass-in
-      (rise-open (S .n) (S .k) (openIn marks (S .blocks) (S .weights) (S .loads) limit) (gainIn (S .gains)) v b (gainIn (S .gains) v b) (sym (ap (bestOf (gainIn (S .gains))) e) ∙ c .same))
+      (rise-open (openIn marks (S .blocks) (S .weights) (S .loads) limit) (gainIn (S .gains)) v b c e)
 
   pub pass-goes : (x : ℕ) → x ≡ v - 1 → CanGo T x b
   pass-goes x d = record { aboves = ok .aboves; loaded = ok .loaded; goes = record { h = ok .h; cs = ok .cs; block = ok .polish .block; sound = ok .at .sound; open-pair = rw d pass-open } }
@@ -188,7 +188,7 @@ on-table : {h : Hypergraph} {cs : List Contraction} {block : ℕ → ℕ} {T : T
 on-table {cs = cs} {T = T} s x l = go (ℕ-discrete (above cs (x + 1)) 0)
   where
     go : Dec (above cs (x + 1) ≡ 0) → ltb 0 (getD (T .blocks) x 0) ≡ onBoard cs (x + 1)
-    go (yes q) = lt-ltb 0 (getD (T .blocks) x 0) (omega (arith, own-block s x l q, in-range s x l q .0)) ∙ sym (eq-eqb (above cs (x + 1)) 0 q)
+    go (yes q) = lt-ltb 0 (getD (T .blocks) x 0) (omega (arith, own-block s x l, in-range s x l q .0)) ∙ sym (eq-eqb (above cs (x + 1)) 0 q)
     go (no q) = le-ltb 0 (getD (T .blocks) x 0) (off (ℕ-discrete (getD (T .blocks) x 0) 0)) ∙ sym (ne-eqb (above cs (x + 1)) 0 q)
       where
         off : Dec (getD (T .blocks) x 0 ≡ 0) → getD (T .blocks) x 0 ≤ 0

@@ -24,10 +24,8 @@ use Rattle.calls.specs.Move.{Open, Goes, CanGo, Went, on-board, own-block, in-r
 use Rattle.choice.specs.declared.open.Pick.{Pick}
 use Rattle.choice.specs.declared.open.Pick.the-variants.{Move as Step, Nothing}
 use Rattle.choice.specs.Open.{bestOf, PickIn, gainIn, openIn, Chosen}
-use Rattle.choice.specs.OpenLink.{polish-is}
+use Rattle.choice.specs.OpenLaw.{pick-open}
 use Rattle.search.specs.Marks.{candidateBit, movedBit, Marked, marked-none, marked-ext, marked-more}
-use Rattle.search.specs.Tabled.{holds, pair-open, chosen-open}
-use Rattle.search.specs.Keeping.{keeps-none, keeps-more}
 
 -- ---- the vertices on the board
 
@@ -112,14 +110,17 @@ rise-in n k v b gains i e ln lk lg =
     let w : (1 ≤ v) × (v ≤ n) × (1 ≤ b) × (b ≤ k) = rw e at i in
     record { v-in = omega (arith, w .0, w .1); b-in = omega (arith, w .2, w .3); fit = omega (arith, w .1) }
 
--- the pair is open
-pub rise-open : (n k : ℕ) (may : ℕ → ℕ → Bool) (worth : ℕ → ℕ → ℤ) (v b : ℕ) (g : ℤ) → best v b g ≡ rise (bestPair n k may worth) → may v b ≡ true
-rise-open n k may worth v b g q = go (bestPair n k may worth) refl q
+-- a pair that was found is open
+pub rise-open : {n k : ℕ} (may : ℕ → ℕ → Bool) (worth : ℕ → ℕ → ℤ) {r : Pick} (v b : ℕ) → Chosen worth n k r (rise (bestPair n k may worth)) → r ≡ Step v b → may v b ≡ true
+rise-open {n} {k} may worth {r} v b c e = go (bestPair n k may worth) refl (c .same)
   where
-    go : (x : Best) → bestPair n k may worth ≡ x → best v b g ≡ rise x → may v b ≡ true
-    go none e q = let z : _≡_ {A = ℕ} 0 1 = cc in absurd (omega arith)
-    go (best x y f) e q = by (ltZ (pos 0) f) q
+    never : best v b (worth v b) ≡ none → ⊥
+    never q = let z : _≡_ {A = ℕ} 0 1 = cc in omega arith
+
+    go : (x : Best) → bestPair n k may worth ≡ x → bestOf worth r ≡ rise x → may v b ≡ true
+    go none d q = absurd (never (sym (ap (bestOf worth) e) ∙ q))
+    go (best x y f) d q = by (ltZ (pos 0) f) q
       where
-        by : (t : Bool) → best v b g ≡ cond t (best x y f) none → may v b ≡ true
-        by true q = chosen-open n k may worth v b g (q ∙ sym e)
-        by false q = let z : _≡_ {A = ℕ} 0 1 = cc in absurd (omega arith)
+        by : (t : Bool) → bestOf worth r ≡ cond t (best x y f) none → may v b ≡ true
+        by true q = pick-open may worth n k v b r e (record { same = q ∙ sym d; within = c .within })
+        by false q = absurd (never (sym (ap (bestOf worth) e) ∙ q))

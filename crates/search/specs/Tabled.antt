@@ -14,12 +14,12 @@ use Rattle.laws.specs.Choice.{one, one-eqb, and-left, and-right}
 use Rattle.laws.specs.Fold.{any, any-at, any-not}
 use Rattle.model.specs.Catalogue.{Hypergraph, vertices, capacity}
 use Rattle.model.specs.Measure.{Contraction, above, onBoard, pin, weight, blockWeight, gain, adjacent}
-use Rattle.model.specs.Search.{best, bestPair}
-use Rattle.guarantees.specs.Tops.{Top, best-top}
+use Rattle.model.specs.Memory.{noNet}
 use Rattle.pins.specs.Stack.{present-on, present-off, present-pin, loadedPin, row-pin}
 use Rattle.incidence.specs.On.{on}
 use Rattle.connectivity.specs.Listed.{has}
-use Rattle.levels.specs.Link.{netAt, noNet, has-pin, reads}
+use Rattle.levels.specs.Running.{netAt}
+use Rattle.levels.specs.Reading.{has-pin, reads}
 use Rattle.calls.specs.Tables.{Tables, Sound}
 use Rattle.calls.specs.Move.{Open, on-board, own-block, own-weight, in-range}
 use Rattle.choice.specs.Open.{SearchOk, mayGo, roomFor, isCandidate, openIn}
@@ -69,7 +69,7 @@ module _ {h : Hypergraph} {cs : List Contraction} {block : ℕ → ℕ} {T : Tab
     sizes-fit = s .follows .room .sizes-fit;
     nets = λ e le. record {
       fit = s .follows .world .lists .nets e le .pins-fit;
-      vertices = λ j lj. let r = s .follows .world .lists .nets e le .vertices j lj in (r .0, omega (arith, r .1, s .follows .room .few-vertices));
+      vertices = λ j lj. let r = s .follows .world .lists .nets e le .in-range j lj in (r .0, omega (arith, r .1, s .follows .room .few-vertices));
     };
   }
 
@@ -89,11 +89,11 @@ module _ {h : Hypergraph} {cs : List Contraction} {block : ℕ → ℕ} {T : Tab
     n-is = s .follows .says .all-vertices;
     k-is = s .follows .says .all-blocks;
     limit-is = q;
-    block-is = λ v l u o. own-block s (v - 1) (omega arith) (at-one v l (eqb-true _ _ o)) ∙ ap block (back v l);
+    block-is = λ v l u o. own-block s (v - 1) (omega arith) ∙ ap block (back v l);
     weight-is = λ v l u o. own-weight s (v - 1) (omega arith) (at-one v l (eqb-true _ _ o)) ∙ ap (weight h cs) (back v l);
     load-is = λ b l u. s .bears (b - 1) (omega arith) ∙ ap (blockWeight h cs block) (back b l);
     gain-is = λ v b lv uv lb ub o.
-        reads (s .follows .says) (s .follows .world) .gained (v - 1) (b - 1) (omega arith) (omega arith) (in-range s (v - 1) (omega arith) (at-one v lv (eqb-true _ _ o)) .0)
+        reads (s .follows) .gained (v - 1) (b - 1) (omega arith) (omega arith)
         ∙ ap₂ (gain h cs block) (back v lv) (back b lb);
   }
     where
@@ -112,14 +112,7 @@ module _ {h : Hypergraph} {cs : List Contraction} {block : ℕ → ℕ} {T : Tab
       let m = and-right (isCandidate marks v) (mayGo (getD (T .loads) (b - 1) 0) (getD (T .blocks) (v - 1) 0) (getD (T .weights) (v - 1) 0) limit b) o in
       record {
         u-in = u-in;
-        on = omega (arith, own-block s (v - 1) u-in c, in-range s (v - 1) u-in c .0);
+        on = omega (arith, own-block s (v - 1) u-in, in-range s (v - 1) u-in c .0);
         t-in = (i .2, i .3);
         away = eqb-false _ _ (not-true _ (and-left (not (eqb (getD (T .blocks) (v - 1) 0) b)) (roomFor (getD (T .loads) (b - 1) 0) (getD (T .weights) (v - 1) 0) limit) m));
       }
-
--- a pair that was chosen is open
-pub chosen-open : (n k : ℕ) (may : ℕ → ℕ → Bool) (worth : ℕ → ℕ → ℤ) (v b : ℕ) (g : ℤ) → best v b g ≡ bestPair n k may worth → may v b ≡ true
-chosen-open n k may worth v b g q = is-open (subst (Top may worth (λ a c. (1 ≤ a) × (a ≤ n) × (1 ≤ c) × (c ≤ k))) (sym q) (best-top may worth k n))
-  where
-    is-open : Top may worth (λ a c. (1 ≤ a) × (a ≤ n) × (1 ≤ c) × (c ≤ k)) (best v b g) → may v b ≡ true
-    is-open t = t .open-pair

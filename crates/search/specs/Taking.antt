@@ -83,7 +83,7 @@ module _ {h : Hypergraph} {cs : List Contraction} {w : Walk} {T T′ : Tables} {
   on-x = on-board (A .sound) x (o .u-in) (o .on)
 
   own : getD (T .blocks) x 0 ≡ w .block v
-  own = own-block (A .sound) x (o .u-in) on-x ∙ ap (w .block) e
+  own = own-block (A .sound) x (o .u-in) ∙ ap (w .block) e
 
   sound : Sound h cs (place (w .block) v b) T′
   sound = subst (λ (y : ℕ). Sound h cs (place (w .block) y b) T′) e (g .sound h cs (w .block) (A .sound))

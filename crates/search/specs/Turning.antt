@@ -16,7 +16,6 @@ use Rattle.model.specs.Catalogue.{Hypergraph, vertices, capacity}
 use Rattle.model.specs.Measure.{Contraction, above, onBoard, metric}
 use Rattle.model.specs.Machine.{Move}
 use Rattle.model.specs.Search.{Best, none, best, Walk, bestPair, walkBest, walkMove, walkTurn, walkOn, walk, walked, reversed, patience}
-use Rattle.guarantees.specs.Tops.{Top, best-top}
 use Rattle.guarantees.specs.Walks.{moved}
 use Rattle.incidence.specs.On.{on-blank}
 use Rattle.calls.specs.Pairs.{journalOf, pairs-none}
@@ -25,9 +24,10 @@ use Rattle.calls.specs.Move.{Open, on-board, own-block, in-range}
 use Rattle.choice.specs.declared.open.Pick.{Pick}
 use Rattle.choice.specs.declared.open.Pick.the-variants.{Move as Step, Nothing}
 use Rattle.choice.specs.Open.{bestOf, gainIn, mayGo, roomFor, isCandidate, openIn, Chosen}
+use Rattle.choice.specs.OpenLaw.{pick-open}
 use Rattle.choice.specs.OpenLink.{walk-is}
 use Rattle.search.specs.Marks.{candidateBit, movedBit, Marked, marked-more}
-use Rattle.search.specs.Tabled.{holds, pair-open, chosen-open}
+use Rattle.search.specs.Tabled.{holds, pair-open}
 use Rattle.search.specs.Keeping.{keeps-none, keeps-more}
 use Rattle.search.specs.Back.{Backs, backs-none, RewindOk, Rewinds}
 use Rattle.search.specs.Steps.{Locals, locals, At, nextOf, TakeOk, Took, TurnOk, Onward, Turned, WalkOk, Going, Ended, Walks}
@@ -43,11 +43,11 @@ module _ (gains : List ℤ) (blocks weights loads marks : List ℕ) (n k limit t
 
   -- a pair that was found is open
   pub next-open : {r : Pick} (v b : ℕ) → Chosen (gainIn gains) n k r (nextOf gains blocks weights loads marks n k limit tried kept) → r ≡ Step v b → openIn marks blocks weights loads limit v b ≡ true
-  next-open v b c e = go (leb (kept + patience) tried) (sym (ap (bestOf (gainIn gains)) e) ∙ c .same)
+  next-open {r} v b c e = go (leb (kept + patience) tried) (c .same)
     where
-      go : (t : Bool) → best v b (gainIn gains v b) ≡ cond t none (bestPair n k (openIn marks blocks weights loads limit) (gainIn gains)) → openIn marks blocks weights loads limit v b ≡ true
-      go true q = let z : _≡_ {A = ℕ} 0 1 = cc in absurd (omega arith)
-      go false q = chosen-open n k (openIn marks blocks weights loads limit) (gainIn gains) v b (gainIn gains v b) q
+      go : (t : Bool) → bestOf (gainIn gains) r ≡ cond t none (bestPair n k (openIn marks blocks weights loads limit) (gainIn gains)) → openIn marks blocks weights loads limit v b ≡ true
+      go true q = let d : best v b (gainIn gains v b) ≡ none = sym (ap (bestOf (gainIn gains)) e) ∙ q in let z : _≡_ {A = ℕ} 0 1 = cc in absurd (omega arith)
+      go false q = pick-open (openIn marks blocks weights loads limit) (gainIn gains) n k v b r e (record { same = q; within = c .within })
 
 -- ---- the next move, as model's walk takes it
 abbrev next : (h : Hypergraph) (cs : List Contraction) → Walk → Best

@@ -12,7 +12,7 @@ use Rattle.search.proofs.walks.make_move.Reads as make-move-reads
 use Rattle.search.proofs.walks.next_move.Reads as next-move-reads
 
 next-move-requires : tie.Need-next-move-requires
-next-move-requires c κs = (c .before .before .before .before .before .before .before .before .before .before .before .before .before .before .pre .at .kept-to, omega (arith, c .before .before .before .before .before .before .before .before .before .before .before .before .before .before .pre .tried-to, c .before .before .before .before .before .before .before .before .before .before .before .before .before .before .pre .turn-to, c .before .before .before .before .before .before .before .before .before .before .before .before .before .before .pre .at .sound .room .few-vertices), search-ok (c .before .before .before .before .before .before .before .before .before .before .before .before .before .before .pre .at .sound) (now (c .before .before .before .before .before .before .before .before .before .before .before .before .before .before .args .marks)) (omega (arith, c .before .before .before .before .before .before .before .before .before .before .before .before .before .before .pre .at .marks-fit)))
+next-move-requires c κs = (c .before .before .before .before .before .before .before .before .before .before .before .before .before .before .pre .at .kept-to, omega (arith, c .before .before .before .before .before .before .before .before .before .before .before .before .before .before .pre .tried-to, c .before .before .before .before .before .before .before .before .before .before .before .before .before .before .pre .turn-to, c .before .before .before .before .before .before .before .before .before .before .before .before .before .before .pre .at .sound .follows .room .few-vertices), search-ok (c .before .before .before .before .before .before .before .before .before .before .before .before .before .before .pre .at .sound) (now (c .before .before .before .before .before .before .before .before .before .before .before .before .before .before .args .marks)) (omega (arith, c .before .before .before .before .before .before .before .before .before .before .before .before .before .before .pre .at .marks-fit)))
 
 enum-told : tie.Need-enum-told
 enum-told c = search needs

@@ -26,10 +26,10 @@ abbrev μ-loop : tie.MeasureT-loop
 μ-loop counts₀ visited₀ gains₀ blocks₀ loads₀ pins sizes bits weights netweights firsts n m k capacity total u v marks₀ s₀ counts visited gains blocks loads marks s = n - s .turn
 
 mark-vertex-requires : tie.Need-mark-vertex-requires Inv-loop μ-loop
-mark-vertex-requires c κs = (length-replicate {A = ℕ} 32 0, omega (arith, c .before .before .before .before .before .before .before .before .before .before .pre .u-in, c .before .before .before .before .before .before .before .before .before .before .pre .sound .room .few-vertices))
+mark-vertex-requires c κs = (length-replicate {A = ℕ} 32 0, omega (arith, c .before .before .before .before .before .before .before .before .before .before .pre .u-in, c .before .before .before .before .before .before .before .before .before .before .pre .sound .follows .room .few-vertices))
 
 mark-vertex-requires-2 : tie.Need-mark-vertex-requires-2 Inv-loop μ-loop
-mark-vertex-requires-2 c κs = (c .before .mark-vertex .ensures .len ∙ length-replicate {A = ℕ} 32 0, omega (arith, c .before .before .before .before .before .before .before .before .before .before .before .before .pre .v-in, c .before .before .before .before .before .before .before .before .before .before .before .before .pre .sound .room .few-vertices))
+mark-vertex-requires-2 c κs = (c .before .mark-vertex .ensures .len ∙ length-replicate {A = ℕ} 32 0, omega (arith, c .before .before .before .before .before .before .before .before .before .before .before .before .pre .v-in, c .before .before .before .before .before .before .before .before .before .before .before .before .pre .sound .follows .room .few-vertices))
 
 new-requires : tie.Need-new-requires Inv-loop μ-loop
 new-requires c κs = search needs
