@@ -15,10 +15,10 @@ use Rattle.text.specs.Output.{written}
 use Rattle.text.proofs.Digits.{written-one, length-written}
 use Rattle.report.specs.Wrote.{Wrote, numbers}
 
-take-drop : (n : ℕ) (l : List ℕ) → take n l ++ drop n l ≡ l
+pub take-drop : {A : Type 0} (n : ℕ) (l : List A) → take n l ++ drop n l ≡ l
 take-drop zero l = refl
 take-drop (suc n) [] = refl
-take-drop (suc n) (x ∷ l) = ap (λ (t : List ℕ). x ∷ t) (take-drop n l)
+take-drop (suc n) (x ∷ l) = ap (λ t. x ∷ t) (take-drop n l)
 
 pub wrote-none : (l : List ℕ) (at : ℕ) → Wrote l l at [] at
 unfolding written
