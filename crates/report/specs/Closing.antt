@@ -31,7 +31,7 @@ pub record Climbable (aboves : List ℕ) (v : ℕ) : Type 0 where
   pub high : v ≤ n
 
 -- the vertices' blocks and the vertices above are those of the state, whose stack holds `depth` contractions
-pub record Lots (h : Hypergraph) (s : State) (blocks aboves : List ℕ) (n depth : ℕ) : Type 0 where
+pub record Vertices (h : Hypergraph) (s : State) (blocks aboves : List ℕ) (n depth : ℕ) : Type 0 where
   pub all : n ≡ vertices h
   pub few : n ≤ 1024
   pub sound : SoundStack (s .stack)
@@ -42,19 +42,19 @@ pub record Lots (h : Hypergraph) (s : State) (blocks aboves : List ℕ) (n depth
   pub depth-is : depth ≡ length (s .stack)
 
 -- v is a vertex of some state that the tables show
-pub record LotIn (blocks aboves : List ℕ) (v depth : ℕ) : Type 0 where
+pub record VertexIn (blocks aboves : List ℕ) (v depth : ℕ) : Type 0 where
   pub h : Hypergraph
   pub s : State
   pub n : ℕ
-  pub lots : Lots h s blocks aboves n depth
+  pub shown : Vertices h s blocks aboves n depth
   pub low : 1 ≤ v
   pub high : v ≤ n
 
 -- the lines of the vertices fit into a buffer of `room` bytes
-pub record LotsFit (room at : ℕ) (blocks aboves : List ℕ) (n depth : ℕ) : Type 0 where
+pub record VerticesFit (room at : ℕ) (blocks aboves : List ℕ) (n depth : ℕ) : Type 0 where
   pub h : Hypergraph
   pub s : State
-  pub lots : Lots h s blocks aboves n depth
+  pub shown : Vertices h s blocks aboves n depth
   pub fits : at + length (lotRows h s) ≤ room
 
 -- each mask has a bit for each block that its net is connected to, and no other
@@ -68,7 +68,7 @@ pub record Nets (h : Hypergraph) (s : State) (visited : List ℕ) (m : ℕ) : Ty
 pub record NetsFit (room at : ℕ) (visited : List ℕ) (m : ℕ) : Type 0 where
   pub h : Hypergraph
   pub s : State
-  pub nets : Nets h s visited m
+  pub shown : Nets h s visited m
   pub fits : at + length (buyRows h s 1 (h .nets)) ≤ room
 
 -- these tables, with some others, are sound for the state; `draft` is the metric of the first partition, `total` that of the last

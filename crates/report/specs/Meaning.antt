@@ -10,5 +10,5 @@ answerOf (Moved gain total) = saysM gain total
 answerOf (Reversed vertex block total) = saysB vertex block total
 answerOf (Walked tried kept total) = saysW tried kept total
 answerOf (Polished moves total) = saysP moves total
-answerOf (Cycled joins tried kept moves total) = saysA joins tried kept moves total
+answerOf (Cycled contractions tried kept moves total) = saysA contractions tried kept moves total
 answerOf (Refused number) = saysNO number

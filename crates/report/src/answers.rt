@@ -9,40 +9,48 @@ ghost use Rattle.model.specs.Report.{digits, signed, row, answerRow};
 ghost use Rattle.report.specs.Wrote.{Wrote};
 ghost use Rattle.report.specs.Meaning.{answerOf};
 
-// The answer to a call, with the numbers that its line prints. A total is the metric after the call.
+// The answer to a call, with the numbers that its line prints. A total is the metric after the call; a refusal's number is document 01's.
 pub enum Answer {
+    // J
     Contracted {
         weight: u32,
     },
+    // S
     Uncontracted {
         into: u32,
         gone: u32,
     },
+    // M
     Moved {
         gain: i32,
         total: u32,
     },
+    // B
     Reversed {
         vertex: u32,
         block: u32,
         total: u32,
     },
+    // W
     Walked {
         tried: u32,
         kept: u32,
         total: u32,
     },
+    // P
     Polished {
         moves: u32,
         total: u32,
     },
+    // A
     Cycled {
-        joins: u32,
+        contractions: u32,
         tried: u32,
         kept: u32,
         moves: u32,
         total: u32,
     },
+    // NO
     Refused {
         number: u32,
     },
@@ -75,12 +83,12 @@ pub fn put_answer(out: &mut [u8], at: usize, a: Answer) -> usize
         Answer::Walked { tried, kept, total } => { put_row(out, at, b"W", &[tried, kept, total]) }
         Answer::Polished { moves, total } => put_row(out, at, b"P", &[moves, total]),
         Answer::Cycled {
-            joins,
+            contractions,
             tried,
             kept,
             moves,
             total,
-        } => { put_row(out, at, b"A", &[joins, tried, kept, moves, total]) }
+        } => { put_row(out, at, b"A", &[contractions, tried, kept, moves, total]) }
         Answer::Refused { number } => put_row(out, at, b"NO", &[number]),
     }
 }

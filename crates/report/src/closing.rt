@@ -11,7 +11,7 @@ ghost use Rattle.model.specs.Measure.{Contraction, climb, representative as sta
 ghost use Rattle.model.specs.Machine.{State};
 ghost use Rattle.model.specs.Report.{digits, row, lotRows, buyRows, closing};
 ghost use Rattle.report.specs.Wrote.{Wrote};
-ghost use Rattle.report.specs.Closing.{Hangs, Climbable, Lots, LotIn, LotsFit, Nets, NetsFit, Ended, ClosingFits};
+ghost use Rattle.report.specs.Closing.{Hangs, Climbable, Vertices, VertexIn, VerticesFit, Nets, NetsFit, Ended, ClosingFits};
 
 // A table's entry as an index.
 fn wide(x: u16) -> usize
@@ -52,8 +52,8 @@ pub fn representative(aboves: &[u16], v: usize, steps: usize) -> usize
 
 // The block of the vertex that stands for `v`.
 fn block_of(blocks: &[u16], aboves: &[u16], v: usize, depth: usize) -> u32
-    requires { ⌜ LotIn (now blocks) (now aboves) v depth ⌝ }
-    ensures { λ r. ⌜ ((h : Hypergraph) (s : State) (n : ℕ) → Lots h s (now (blocks .entry)) (now (aboves .entry)) n depth → v ≤ n → r ≡ s .block (standsFor (s .stack) v)) ⌝ }
+    requires { ⌜ VertexIn (now blocks) (now aboves) v depth ⌝ }
+    ensures { λ r. ⌜ ((h : Hypergraph) (s : State) (n : ℕ) → Vertices h s (now (blocks .entry)) (now (aboves .entry)) n depth → v ≤ n → r ≡ s .block (standsFor (s .stack) v)) ⌝ }
 {
     let r = representative(aboves, v, depth);
     field(blocks[r - 1])
@@ -77,8 +77,8 @@ fn put_lots(
     n: usize,
     depth: usize,
 ) -> usize
-    requires { ⌜ LotsFit (length (now out)) at (now blocks) (now aboves) n depth ⌝ }
-    ensures { λ r. ⌜ ((h : Hypergraph) (s : State) → Lots h s (now (blocks .entry)) (now (aboves .entry)) n depth → Wrote (now (out .entry)) (now (out .exit)) at (lotRows h s) r) ⌝ }
+    requires { ⌜ VerticesFit (length (now out)) at (now blocks) (now aboves) n depth ⌝ }
+    ensures { λ r. ⌜ ((h : Hypergraph) (s : State) → Vertices h s (now (blocks .entry)) (now (aboves .entry)) n depth → Wrote (now (out .entry)) (now (out .exit)) at (lotRows h s) r) ⌝ }
 {
     let mut p = at;
     let mut i = 0;

@@ -10,13 +10,13 @@ representative-requires : tie.Need-representative-requires
 representative-requires c κs = search needs
 
 sub-field : tie.Need-sub-field
-sub-field c = let k = c .before .before .before .pre in let i = climb-in (k .lots) (c .before .before .before .args .v) (k .low) (k .high) (c .representative .result) (c .representative .ensures (k .s .stack) (k .n) (k .lots .hangs) (k .high)) in omega (arith, k .lots .blocks-fit)
+sub-field c = let k = c .before .before .before .pre in let i = climb-in (k .shown) (c .before .before .before .args .v) (k .low) (k .high) (c .representative .result) (c .representative .ensures (k .s .stack) (k .n) (k .shown .hangs) (k .high)) in omega (arith, k .shown .blocks-fit)
 
 mul-field : tie.Need-mul-field
-mul-field c = let k = c .before .before .before .pre in let i = climb-in (k .lots) (c .before .before .before .args .v) (k .low) (k .high) (c .representative .result) (c .representative .ensures (k .s .stack) (k .n) (k .lots .hangs) (k .high)) in omega (arith, k .lots .blocks-fit)
+mul-field c = let k = c .before .before .before .pre in let i = climb-in (k .shown) (c .before .before .before .args .v) (k .low) (k .high) (c .representative .result) (c .representative .ensures (k .s .stack) (k .n) (k .shown .hangs) (k .high)) in omega (arith, k .shown .blocks-fit)
 
 shared-slice-read-field : tie.Need-shared-slice-read-field
-shared-slice-read-field c = let k = c .before .before .before .before .pre in let i = climb-in (k .lots) (c .before .before .before .before .args .v) (k .low) (k .high) (c .before .representative .result) (c .before .representative .ensures (k .s .stack) (k .n) (k .lots .hangs) (k .high)) in omega (arith, k .lots .blocks-fit)
+shared-slice-read-field c = let k = c .before .before .before .before .pre in let i = climb-in (k .shown) (c .before .before .before .before .args .v) (k .low) (k .high) (c .before .representative .result) (c .before .representative .ensures (k .s .stack) (k .n) (k .shown .hangs) (k .high)) in omega (arith, k .shown .blocks-fit)
 
 field-requires : tie.Need-field-requires
 field-requires c κs = search needs
