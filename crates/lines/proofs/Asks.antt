@@ -1,4 +1,4 @@
--- The lines with a fixed number of fields: which answer the tests give. Rests on Seen.
+-- The lines with a fixed number of fields: which answer the tests give. Rests on Line of specs.
 use Prim.Native.Nat.{ℕ}
 use mathlib.Core.Path.{_≡_, refl, sym, _∙_}
 use mathlib.Core.List.{[], _∷_}

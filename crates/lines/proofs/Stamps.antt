@@ -1,4 +1,4 @@
--- One mark: which refusal, or the mark and its stamp. Rests on Stamps of specs.
+-- One mark: which refusal, or the mark and its stamp. Rests on Mark of specs.
 use Prim.Native.Nat.{ℕ, suc, _+_, _-_, _≤_, _<_}
 use mathlib.Core.Path.{_≡_, refl, ap, sym, _∙_}
 use mathlib.Core.List.{List, [], _∷_, _++_}

@@ -1,4 +1,4 @@
--- The first line's ranges, and the phases of a file joined: after the catalogue, after the lots, after the first line, the whole file. Rests on Turns and NetLines.
+-- The phases of a file joined: after the catalogue, after the lots, after the first line, the whole file. Rests on Turns and NetLines.
 use Prim.Native.Nat.{ℕ, zero, suc, _+_, _-_, _≤_, _<_}
 use mathlib.Core.Path.{_≡_, refl, ap, sym, _∙_}
 use mathlib.Core.List.{List, []}
@@ -25,11 +25,8 @@ use Rattle.reader.specs.declared.Nets.{Nets}
 use Rattle.reader.specs.declared.Nets.the-variants.{All, Cut}
 use Rattle.reader.specs.declared.Rest.{Rest}
 use Rattle.reader.specs.declared.Rest.the-variants.{Kept, Not}
-use Rattle.reader.proofs.Turns.{lines-stopped, no-more, turned}
+use Rattle.reader.proofs.Turns.{lines-stopped, no-more, turned, stop-up}
 use Rattle.reader.proofs.NetLines.{nets-length}
-
-stop-up : {A : Type 0} {q n c : ℕ} → Stop q n ≡ Up c → A
-stop-up e = absurd (let z : _≡_ {A = ℕ} 0 1 = cc in omega arith)
 
 not-kept : {A : Type 0} {q n m c : ℕ} → Not q n ≡ Kept m c → A
 not-kept e = absurd (let z : _≡_ {A = ℕ} 0 1 = cc in omega arith)

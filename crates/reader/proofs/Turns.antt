@@ -147,7 +147,7 @@ module _ (t : List ℕ) (c k a b : ℕ) (inside : 3 * c + 2 < length t) where
       ∙ ap (λ (x : ℕ). callsOf c t ++ listed (callOf k x (getD put (3 * c + 2) 0))) put-1
       ∙ ap (λ (x : ℕ). callsOf c t ++ listed (callOf k a x)) put-2)
 
-stop-up : {A : Type 0} {q n c : ℕ} → Stop q n ≡ Up c → A
+pub stop-up : {A : Type 0} {q n c : ℕ} → Stop q n ≡ Up c → A
 stop-up e = absurd (let z : _≡_ {A = ℕ} 0 1 = cc in omega arith)
 
 pub record OnCalls (s : List ℕ) (at n : ℕ) (t₀ t : List ℕ) (i c : ℕ) : Type 0 where
