@@ -1,8 +1,8 @@
 use native.Mathlib.Omega.{arith}
-use mathlib.Core.Path.{_≡_, refl, sym, _∙_, ap}
+use mathlib.Core.Path.{refl, ap}
 use denote.Ref.{now}
 use borrow.Author.Needs.{needs}
-use Prim.Native.Nat.{ℕ, _≤_, _<_, _-_, _+_}
+use Prim.Native.Nat.{ℕ, _-_}
 use Rattle.search.specs.Tabled.{search-ok}
 use Rattle.search.specs.Polished.{pass-in, pass-goes, pass-none, pass-move}
 use Rattle.search.proofs.polishing.pass.Statement.{statement}
