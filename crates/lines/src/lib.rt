@@ -113,15 +113,15 @@ pub fn lot_line(s: &[u8], at: usize, end: usize, blocks: u16) -> Lot
     if text::form(s, at, end, b"LOT") != 3 {
         return Lot::NoLot(2);
     }
-    let weights = text::get(s, at, end, 1);
+    let weight = text::get(s, at, end, 1);
     let block = text::get(s, at, end, 2);
-    if !between(1, 65535, weights) {
+    if !between(1, 65535, weight) {
         return Lot::NoLot(3);
     }
     if !between(1, blocks as u32, block) {
         return Lot::NoLot(3);
     }
-    Lot::Of(weights, block as u16)
+    Lot::Of(weight, block as u16)
 }
 
 // One mark more of buyer j: 0, or the refusal.

@@ -152,6 +152,7 @@ module _ (limits : Limits) (file : List ℕ) (l b k t m n : ℕ) (w₀ d₀ a₀
               range = fit .range;
               pins-le = laid .m-le;
               calls-le = fit .settled .n-le;
+              costs = read .nw-len l b k t m n is;
               known = fit .settled .known;
               average = sym (average-is l k t w d (netsOf b nw f c lp));
               capacity = sym (capacity-is l k t w d (netsOf b nw f c lp));

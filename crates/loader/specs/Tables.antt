@@ -68,11 +68,12 @@ abbrev pub seen : Loaded → Lists → List ℕ → List ℕ → Reading
 seen (Accepted z) t nw calls = reading (book (z .vertices) (z .nets) (graph z t nw) (z .pins) (callsOf (z .calls) calls))
 seen (Refused q n) t nw calls = stopped q n
 
--- an accepted file: sizes in range, each three numbers of the table a call, the capacity and ⌈W/k⌉, no session above its cap, the lists
+-- an accepted file: sizes in range, net weights of 1,024 entries, each three numbers of the table a call, the capacity and ⌈W/k⌉, no session above its cap, the lists
 pub record Accepts (limits : Limits) (z : Sizes) (old new : Lists) (nw calls : List ℕ) : Type 0 where
   pub range : InRange limits (z .vertices) (z .nets) (z .blocks) (z .imbalance)
   pub pins-le : z .pins ≤ 8192
   pub calls-le : z .calls ≤ 512
+  pub costs : length nw ≡ 1024
   pub known : length (callsOf (z .calls) calls) ≡ z .calls
   pub average : z .average ≡ averageWeight (graph z new nw)
   pub capacity : z .capacity ≡ capacity (graph z new nw)

@@ -146,6 +146,7 @@ module _ (s : List ℕ) (at l b : ℕ) (f₀ c₀ marks₀ w f c marks stamps : 
   pub buys-done : j ≡ b → BuysRead s at l b (All i m) f₀ c₀ marks₀ w f c marks
   buys-done e = record {
     inside = λ x y q. let z : i ≡ x = cc in omega (arith, on .i-le);
+    w-len = λ x y q. on .w-len;
     laid = λ x y q. let z : m ≡ y = cc in rw (← z, ← e) (on .laid);
     says = λ limits h q. sym (on .says limits h q ∙ ap (λ (n : ℕ). lines limits (l + 2 + n) (grown (l + 1 + n) (book l b (withNets h (netsOf n w f c marks)) m [])) (parts 10 (slice i (length s) s))) e);
   }
@@ -167,6 +168,7 @@ module _ (s : List ℕ) (at l b : ℕ) (f₀ c₀ marks₀ w f c marks stamps : 
       pub buys-none : e ≡ length s → BuysRead s at l b (Cut 2 (l + 2 + j)) f₀ c₀ marks₀ w f c marks
       buys-none x = record {
         inside = λ y z q. absurd (let u : _≡_ {A = ℕ} 0 1 = cc in omega arith);
+        w-len = λ y z q. on .w-len;
         laid = λ y z q. absurd (let u : _≡_ {A = ℕ} 0 1 = cc in omega arith);
         says = λ limits h q. sym (here limits h q ∙ no-more limits s (length s) i e (l + 2 + j) (on .i-le) (omega arith) found (reading (now-book h)) (stopped 2 (l + 2 + j)) x (partly-end (now-book h) (few h q) (l + 2 + j)));
       }
@@ -183,6 +185,7 @@ module _ (s : List ℕ) (at l b : ℕ) (f₀ c₀ marks₀ w f c marks stamps : 
         pub buys-stop : (q : ℕ) → r ≡ NoBuy q → BuysRead s at l b (Cut q (l + 2 + j)) f₀ c₀ marks₀ w f c marks′
         buys-stop q x = record {
           inside = λ y z u. absurd (let v : _≡_ {A = ℕ} 0 1 = cc in omega arith);
+          w-len = λ y z u. on .w-len;
           laid = λ y z u. absurd (let v : _≡_ {A = ℕ} 0 1 = cc in omega arith);
           says = λ limits h z. sym (step limits h z ∙ ap (λ (y : Buy). lines limits (l + 2 + j + 1) (buySeen (l + 2 + j) (now-book h) m y marks′) (parts 10 (slice (e + 1) (length s) s))) x ∙ lines-stopped limits (l + 2 + j + 1) q (l + 2 + j) (parts 10 (slice (e + 1) (length s) s)));
         }

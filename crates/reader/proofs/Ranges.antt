@@ -72,6 +72,7 @@ module _ (s : List ℕ) (at l b k t : ℕ) (w d f₀ c₀ marks₀ nw f c marks 
 
   pub nets-cut : (q n : ℕ) → r ≡ Cut q n → (calls : List ℕ) → NetsRead s at l b k t (Not q n) w d f₀ c₀ marks₀ nw f c marks calls
   nets-cut q n e calls = record {
+    nw-len = λ m c z. not-kept z;
     settled = λ m c z. not-kept z;
     says = λ limits. ap (λ (x : Nets). buysSeen limits s l b (lotsGraph k t l w d) x nw f c marks) (sym e) ∙ read .says limits (lotsGraph k t l w d) size;
   }
@@ -82,12 +83,14 @@ module _ (s : List ℕ) (at l b k t : ℕ) (w d f₀ c₀ marks₀ nw f c marks 
 
     pub nets-stop : (q n : ℕ) → e ≡ Stop q n → NetsRead s at l b k t (Not q n) w d f₀ c₀ marks₀ nw f c marks calls
     nets-stop q n z = record {
+      nw-len = λ m c y. not-kept y;
       settled = λ m c y. not-kept y;
       says = λ limits. ap (λ (x : Ended). called l b (withNets (lotsGraph k t l w d) (netsOf b nw f c marks)) m x calls) (sym z) ∙ on limits;
     }
 
     pub nets-kept : (n : ℕ) → e ≡ Up n → NetsRead s at l b k t (Kept m n) w d f₀ c₀ marks₀ nw f c marks calls
     nets-kept n z = record {
+      nw-len = λ x y q. read .w-len i m is;
       settled = λ x y q.
           let p : m ≡ x = cc in
           let u : n ≡ y = cc in
@@ -110,6 +113,7 @@ module _ (s : List ℕ) (at l b k t : ℕ) (w₀ d₀ f₀ c₀ marks₀ w d : L
   lots-cut q n e nw f c marks calls = record {
     w-past = read .w-past;
     d-past = read .d-past;
+    nw-len = λ m c z. not-kept z;
     settled = λ m c z. not-kept z;
     says = λ limits. ap (λ (x : Ended). lotsSeen limits s l b k t x w d) (sym e) ∙ read .says limits b t;
   }
@@ -118,6 +122,7 @@ module _ (s : List ℕ) (at l b k t : ℕ) (w₀ d₀ f₀ c₀ marks₀ w d : L
   lots-go i e x nw f c marks calls nets = record {
     w-past = read .w-past;
     d-past = read .d-past;
+    nw-len = nets .nw-len;
     settled = nets .settled;
     says = λ limits. nets .says limits ∙ ap (λ (x : Ended). lotsSeen limits s l b k t x w d) (sym e) ∙ read .says limits b t;
   }
@@ -125,7 +130,7 @@ module _ (s : List ℕ) (at l b k t : ℕ) (w₀ d₀ f₀ c₀ marks₀ w d : L
 -- ---- the whole file
 module _ (limits : Limits) (s w₀ d₀ f₀ c₀ marks₀ : List ℕ) where
   none : (q n : ℕ) (w d nw f c marks calls : List ℕ) → stopped q n ≡ parse limits s → FileRead limits s (Refused q n) w₀ d₀ f₀ c₀ marks₀ w d nw f c marks calls
-  none q n w d nw f c marks calls e = record { says = e; fitted = λ l b k t m i z. refused-taken z }
+  none q n w d nw f c marks calls e = record { says = e; nw-len = λ l b k t m i z. refused-taken z; fitted = λ l b k t m i z. refused-taken z }
 
   pub too-long : (nw calls : List ℕ) → 60000 < length s → FileRead limits s (Refused 1 0) w₀ d₀ f₀ c₀ marks₀ w₀ d₀ nw f₀ c₀ marks₀ calls
   unfolding parse
@@ -158,6 +163,7 @@ module _ (limits : Limits) (s w₀ d₀ f₀ c₀ marks₀ : List ℕ) where
         pub file-kept : (m n : ℕ) → x ≡ Kept m n → FileRead limits s (Taken l b k t m n) w₀ d₀ f₀ c₀ marks₀ w d nw f c marks calls
         file-kept m n z = record {
           says = ap (λ (y : Rest). restSeen l b (lotsGraph k t l w d) y nw f c marks calls) (sym z) ∙ all-read;
+          nw-len = λ l′ b′ k′ t′ m′ n′ q. read .nw-len m n z;
           fitted = λ l′ b′ k′ t′ m′ n′ q.
               let e1 : l ≡ l′ = cc in
               let e2 : b ≡ b′ = cc in

@@ -36,6 +36,7 @@ buysSeen limits s l b h (Cut q n) w f c marks = stopped q n
 
 pub record BuysRead (s : List ℕ) (at l b : ℕ) (r : Nets) (f₀ c₀ marks₀ w f c marks : List ℕ) : Type 0 where
   pub inside : (i m : ℕ) → r ≡ All i m → i ≤ length s
+  pub w-len : (i m : ℕ) → r ≡ All i m → length w ≡ 1024
   pub laid : (i m : ℕ) → r ≡ All i m → Laid b m f₀ c₀ marks₀ f c marks
   pub says : (limits : Limits) (h : Hypergraph) → vertices h ≡ l → buysSeen limits s l b h r w f c marks ≡ lines limits (l + 2) (grown (l + 1) (book l b (withNets h []) 0 [])) (parts 10 (slice at (length s) s))
 

@@ -73,6 +73,7 @@ pub record Settled (b m n : ℕ) (f₀ c₀ marks₀ f c marks calls : List ℕ)
 
 -- what follows the lot lines
 pub record NetsRead (s : List ℕ) (at l b k t : ℕ) (r : Rest) (w d f₀ c₀ marks₀ nw f c marks calls : List ℕ) : Type 0 where
+  pub nw-len : (m n : ℕ) → r ≡ Kept m n → length nw ≡ 1024
   pub settled : (m n : ℕ) → r ≡ Kept m n → Settled b m n f₀ c₀ marks₀ f c marks calls
   pub says : (limits : Limits) → restSeen l b (lotsGraph k t l w d) r nw f c marks calls ≡ lines limits (l + 2) (grown (l + 1) (book l b (lotsGraph k t l w d) 0 [])) (parts 10 (slice at (length s) s))
 
@@ -80,6 +81,7 @@ pub record NetsRead (s : List ℕ) (at l b k t : ℕ) (r : Rest) (w d f₀ c₀ 
 pub record CatalogueRead (s : List ℕ) (at l b k t : ℕ) (r : Rest) (w₀ d₀ f₀ c₀ marks₀ w d nw f c marks calls : List ℕ) : Type 0 where
   pub w-past : Past l w₀ w
   pub d-past : Past l d₀ d
+  pub nw-len : (m n : ℕ) → r ≡ Kept m n → length nw ≡ 1024
   pub settled : (m n : ℕ) → r ≡ Kept m n → Settled b m n f₀ c₀ marks₀ f c marks calls
   pub says : (limits : Limits) → restSeen l b (lotsGraph k t l w d) r nw f c marks calls ≡ lines limits 2 (reading (book l b (lotsGraph k t 0 w d) 0 [])) (parts 10 (slice at (length s) s))
 
@@ -98,4 +100,5 @@ pub record Fitted (limits : Limits) (l b k t m n : ℕ) (w₀ d₀ f₀ c₀ mar
 -- a whole file
 pub record FileRead (limits : Limits) (s : List ℕ) (r : Outcome) (w₀ d₀ f₀ c₀ marks₀ w d nw f c marks calls : List ℕ) : Type 0 where
   pub says : seen r w d nw f c marks calls ≡ parse limits s
+  pub nw-len : (l b k t m n : ℕ) → r ≡ Taken l b k t m n → length nw ≡ 1024
   pub fitted : (l b k t m n : ℕ) → r ≡ Taken l b k t m n → Fitted limits l b k t m n w₀ d₀ f₀ c₀ marks₀ w d f c marks calls

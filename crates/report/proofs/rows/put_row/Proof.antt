@@ -1,0 +1,25 @@
+-- `report::rows::put_row` meets its contract.
+use native.Mathlib.Omega.{arith}
+use denote.Ref.{now}
+use lib.ListN.{length-append}
+use Rattle.model.specs.Report.{tail}
+use Rattle.report.specs.Wrote.{numbers}
+use Rattle.report.proofs.Laws.{wrote-append}
+use borrow.Author.Needs.{needs}
+use Rattle.report.proofs.rows.put_row.Statement.{statement}
+use Rattle.report.proofs.rows.put_row.Tie as tie
+
+put-word-requires : tie.Need-put-word-requires
+put-word-requires c κs = omega (arith, length-append (now (c .before .before .before .before .args .w)) (tail (numbers (now (c .before .before .before .before .args .xs)))))
+
+put-tail-requires : tie.Need-put-tail-requires
+put-tail-requires c κs = omega (arith, length-append (now (c .before .before .before .before .before .before .before .before .args .w)) (tail (numbers (now (c .before .before .before .before .before .before .before .before .args .xs)))), c .before .before .before .put-word .ensures .ends, c .before .before .before .put-word .kept .0)
+
+same-length : tie.Need-same-length
+same-length c = search needs
+
+returns : tie.Need-returns
+returns c = wrote-append (omega (arith, length-append (now (c .before .before .before .before .before .before .before .before .before .before .before .args .w)) (tail (numbers (now (c .before .before .before .before .before .before .before .before .before .before .before .args .xs)))))) (c .before .before .before .before .before .before .put-word .ensures) (c .before .before .put-tail .ensures)
+
+pub put-row-spec : {M : Type 1} → statement M
+put-row-spec = tie.close (tie.spec put-word-requires put-tail-requires same-length returns)
