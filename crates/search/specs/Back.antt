@@ -1,8 +1,8 @@
 -- The way back of a walk: the moves that a journal holds can be reversed one by one, and what reversing some of them does to sound tables.
 -- Rests on calls' Pairs and Move. Assumes nothing.
-use Prim.Native.Nat.{ℕ, zero, suc, _+_, _*_, _-_, _<_, _≤_}
+use Prim.Native.Nat.{ℕ, suc, _+_, _-_, _<_, _≤_}
 use native.Mathlib.Omega.{arith}
-use mathlib.Core.Path.{_≡_, refl, sym, ap, ap₂, _∙_, subst}
+use mathlib.Core.Path.{_≡_, refl, sym, ap, _∙_, subst}
 use mathlib.Core.List.{List, [], _∷_}
 use lib.ListN.{length, getD}
 use Rattle.laws.specs.Place.{place, place-at, place-back}
@@ -10,9 +10,9 @@ use Rattle.model.specs.Catalogue.{Hypergraph, vertices}
 use Rattle.model.specs.Measure.{Contraction, above}
 use Rattle.model.specs.Machine.{Move}
 use Rattle.model.specs.Search.{reversed}
-use Rattle.calls.specs.Pairs.{journalOf, pairs, pairs-some}
+use Rattle.calls.specs.Pairs.{journalOf, pairs-some}
 use Rattle.calls.specs.Tables.{Tables, Sound, Keeps}
-use Rattle.calls.specs.Move.{Open, Goes, CanGo, Went, own-block, in-range}
+use Rattle.calls.specs.Move.{CanGo, Went, own-block, in-range}
 use Rattle.search.specs.Keeping.{keeps-none, keeps-more}
 
 -- a move that was made last: its vertex is on the board, and in another block than the one it left

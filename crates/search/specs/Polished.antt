@@ -1,6 +1,6 @@
 -- P on its way and as a whole: one move leaves the rest of the polish the same, and what is left at the end is model's. Rests on Polishing.
 -- Assumes nothing.
-use Prim.Native.Nat.{ℕ, zero, suc, _+_, _*_, _-_, _<_, _≤_, _^_}
+use Prim.Native.Nat.{ℕ, suc, _+_, _-_, _<_, _≤_, _^_}
 use native.Mathlib.Decide.{ℕ-discrete}
 use native.Mathlib.Omega.{arith}
 use mathlib.Core.Path.{_≡_, refl, sym, ap, ap₂, _∙_, subst}
@@ -13,16 +13,16 @@ use lib.ListN.{length, getD, replicate, length-replicate}
 use lib.Signed.{ltZ}
 use Rattle.laws.specs.Place.{place}
 use Rattle.model.specs.Catalogue.{Hypergraph, capacity}
-use Rattle.model.specs.Measure.{Contraction, above, onBoard, metric}
-use Rattle.model.specs.Search.{Best, none, best, bestPair, Polish, polishBest, polishTurn, polishOn, polish}
+use Rattle.model.specs.Measure.{Contraction, above, onBoard}
+use Rattle.model.specs.Search.{Best, none, best, Polish, polishBest, polishTurn, polishOn, polish}
 use Rattle.incidence.specs.On.{on, on-blank}
 use Rattle.calls.specs.Tables.{Tables, Sound, Keeps}
-use Rattle.calls.specs.Move.{Open, Goes, CanGo, Went, on-board, own-block, in-range}
+use Rattle.calls.specs.Move.{Open, CanGo, Went, on-board, own-block, in-range}
 use Rattle.choice.specs.declared.open.Pick.{Pick}
 use Rattle.choice.specs.declared.open.Pick.the-variants.{Move as Step, Nothing}
 use Rattle.choice.specs.Open.{bestOf, gainIn, openIn, Chosen}
 use Rattle.choice.specs.OpenLink.{polish-is}
-use Rattle.search.specs.Marks.{candidateBit, movedBit, Marked}
+use Rattle.search.specs.Marks.{candidateBit, Marked}
 use Rattle.search.specs.Tabled.{holds, pair-open}
 use Rattle.search.specs.Keeping.{keeps-none, keeps-more}
 use Rattle.search.specs.Polishing.{sits, rise, riseOf, rise-open}

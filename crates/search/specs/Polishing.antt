@@ -1,31 +1,25 @@
 -- P: all vertices on the board are candidates, the best open pair is moved while its gain is above 0. What the code's variables are for
 -- model's polish on its way, and what one move, and the whole, ask and do. Rests on Tabled. Assumes nothing.
-use Prim.Native.Nat.{ℕ, zero, suc, _+_, _*_, _-_, _<_, _≤_, _^_}
+use Prim.Native.Nat.{ℕ, _+_, _*_, _<_, _≤_, _^_}
 use native.Mathlib.Decide.{ℕ-discrete}
 use native.Mathlib.Omega.{arith}
-use mathlib.Core.Path.{_≡_, refl, sym, ap, ap₂, _∙_, subst}
-use mathlib.Core.Bool.{Bool, true, false, not, _&&_, _||_, cond, and-true, and-false}
+use mathlib.Core.Path.{_≡_, refl, sym, ap, ap₂, _∙_}
+use mathlib.Core.Bool.{Bool, true, false, _&&_, _||_, cond, and-true, and-false}
 use mathlib.Core.List.{List}
-use borrow.Author.Tests.{eq-eqb, ne-eqb, eqb-true, lt-ltb, le-ltb, ltb-true, ltb-false}
+use borrow.Author.Tests.{eq-eqb, ne-eqb, lt-ltb, le-ltb, ltb-true, ltb-false}
 use lib.Dec.{eqb, ltb}
 use lib.IntN.{ℤ, pos}
-use lib.ListN.{length, getD, replicate, length-replicate}
+use lib.ListN.{getD}
 use lib.Signed.{ltZ, mag}
 use mir.Syntax.{w32}
 use mir.Val.{ofZ, toZ}
 use Rattle.laws.specs.Integer.{read32}
-use Rattle.laws.specs.Place.{place}
-use Rattle.model.specs.Catalogue.{Hypergraph, capacity}
-use Rattle.model.specs.Measure.{Contraction, above, onBoard, metric}
-use Rattle.model.specs.Search.{Best, none, best, bestPair, Polish, polishBest, polishTurn, polishOn, polish}
-use Rattle.incidence.specs.On.{on, on-blank}
-use Rattle.calls.specs.Tables.{Tables, Sound, Keeps}
-use Rattle.calls.specs.Move.{Open, Goes, CanGo, Went, on-board, own-block, in-range}
+use Rattle.model.specs.Search.{Best, none, best, bestPair}
 use Rattle.choice.specs.declared.open.Pick.{Pick}
 use Rattle.choice.specs.declared.open.Pick.the-variants.{Move as Step, Nothing}
 use Rattle.choice.specs.Open.{bestOf, PickIn, gainIn, openIn, Chosen}
 use Rattle.choice.specs.OpenLaw.{pick-open}
-use Rattle.search.specs.Marks.{candidateBit, movedBit, Marked, marked-none, marked-ext, marked-more}
+use Rattle.search.specs.Marks.{Marked, marked-none, marked-ext, marked-more}
 
 -- ---- the vertices on the board
 

@@ -1,30 +1,29 @@
 -- What sound tables tell a search: who shares a net with a vertex, that the best open pair is the one that model's search takes, and what the
 -- functions of this crate ask of lengths. Rests on calls' Sound and choice's OpenLink. Assumes nothing.
-use Prim.Native.Nat.{ℕ, zero, suc, _+_, _*_, _-_, _<_, _≤_}
+use Prim.Native.Nat.{ℕ, _+_, _-_, _<_, _≤_}
 use native.Mathlib.Decide.{ℕ-discrete}
 use native.Mathlib.Omega.{arith}
-use mathlib.Core.Path.{_≡_, refl, sym, ap, ap₂, _∙_, subst}
-use mathlib.Core.Bool.{Bool, true, false, not, _&&_, _||_, true≢false}
+use mathlib.Core.Path.{_≡_, refl, sym, ap, ap₂, _∙_}
+use mathlib.Core.Bool.{Bool, true, false, not, _&&_}
 use mathlib.Core.List.{List}
 use borrow.Author.Tests.{eqb-true, eqb-false, not-true}
-use lib.Dec.{eqb, leb}
+use lib.Dec.{eqb}
 use lib.ListN.{length, getD}
-use lib.IntN.{ℤ}
 use Rattle.laws.specs.Choice.{one, one-eqb, and-left, and-right}
 use Rattle.laws.specs.Fold.{any, any-at, any-not}
 use Rattle.model.specs.Catalogue.{Hypergraph, vertices, capacity}
-use Rattle.model.specs.Measure.{Contraction, above, onBoard, pin, weight, blockWeight, gain, adjacent}
+use Rattle.model.specs.Measure.{Contraction, above, pin, weight, blockWeight, gain, adjacent}
 use Rattle.model.specs.Memory.{noNet}
-use Rattle.pins.specs.Stack.{present-on, present-off, present-pin, loadedPin, row-pin}
+use Rattle.pins.specs.Stack.{present-off, present-pin, loadedPin, row-pin}
 use Rattle.incidence.specs.On.{on}
 use Rattle.connectivity.specs.Listed.{has}
 use Rattle.levels.specs.Running.{netAt}
 use Rattle.levels.specs.Reading.{has-pin, reads}
 use Rattle.calls.specs.Tables.{Tables, Sound}
-use Rattle.calls.specs.Move.{Open, on-board, own-block, own-weight, in-range}
+use Rattle.calls.specs.Move.{Open, own-block, own-weight, in-range}
 use Rattle.choice.specs.Open.{SearchOk, mayGo, roomFor, isCandidate, openIn}
 use Rattle.choice.specs.OpenLink.{Holds}
-use Rattle.search.specs.Marks.{candidateBit, PinsOk, NetsOk, near, near-yes, near-no}
+use Rattle.search.specs.Marks.{candidateBit, NetsOk, near, near-yes, near-no}
 
 module _ {h : Hypergraph} {cs : List Contraction} {block : ℕ → ℕ} {T : Tables} (s : Sound h cs block T) where
   -- ---- pins

@@ -1,28 +1,27 @@
 -- One move of a walk: the tables moved, the candidates spread, the journal pushed and the kept prefix updated are model's walkMove.
 -- Rests on Steps. Assumes nothing.
-use Prim.Native.Nat.{ℕ, zero, suc, _+_, _*_, _-_, _<_, _≤_}
+use Prim.Native.Nat.{ℕ, suc, _+_, _-_, _<_, _≤_}
 use native.Mathlib.Decide.{ℕ-discrete}
-use native.Mathlib.Numerals.{add-one}
 use native.Mathlib.Omega.{arith}
 use mathlib.Core.Path.{_≡_, refl, sym, ap, ap₂, _∙_, subst}
 use mathlib.Core.Bool.{Bool, true, false, not, _&&_, _||_, cond, and-true, and-false, true≢false}
-use mathlib.Core.List.{List, [], _∷_}
+use mathlib.Core.List.{List, _∷_}
 use borrow.Author.Tests.{eq-eqb, ne-eqb, lt-ltb, le-ltb}
 use lib.Dec.{eqb, ltb}
-use lib.ListN.{length, getD, set, length-set}
+use lib.ListN.{length, getD, length-set}
 use Rattle.laws.specs.Fold.{any}
 use Rattle.laws.specs.Place.{place}
-use Rattle.model.specs.Catalogue.{Hypergraph, vertices}
+use Rattle.model.specs.Catalogue.{Hypergraph}
 use Rattle.model.specs.Measure.{Contraction, above, onBoard, metric, adjacent}
 use Rattle.model.specs.Machine.{Move}
 use Rattle.model.specs.Search.{Walk, walkMove}
 use Rattle.guarantees.specs.Walks.{moved}
 use Rattle.calls.specs.Pairs.{journalOf, Pushed, pairs-push}
-use Rattle.calls.specs.Tables.{Tables, Sound, Keeps}
-use Rattle.calls.specs.Move.{Open, Goes, CanGo, Went, on-board, own-block, in-range}
+use Rattle.calls.specs.Tables.{Tables, Sound}
+use Rattle.calls.specs.Move.{Open, CanGo, Went, on-board, own-block, in-range}
 use Rattle.search.specs.Marks.{candidateBit, movedBit, near, NetsOk, Spread}
 use Rattle.search.specs.Tabled.{near-is, near-on, nets-ok}
-use Rattle.search.specs.Back.{Backs, backs-more}
+use Rattle.search.specs.Back.{backs-more}
 use Rattle.search.specs.Steps.{Locals, locals, At, TakeOk}
 
 -- the prefix to keep: the new one, or the one before

@@ -1,36 +1,29 @@
 -- One turn of a walk, and the walk as a whole: the next move is model's, a turn leaves the rest of the walk the same, and the last turn ends
 -- it. Rests on Steps. Assumes nothing.
-use Prim.Native.Nat.{ℕ, zero, suc, _+_, _*_, _-_, _<_, _≤_}
+use Prim.Native.Nat.{ℕ, zero, suc, _+_, _-_, _<_, _≤_}
 use native.Mathlib.Omega.{arith}
-use mathlib.Core.Path.{_≡_, refl, sym, ap, ap₂, _∙_, subst}
-use mathlib.Core.Bool.{Bool, true, false, not, _&&_, _||_, cond, and-true, and-false}
-use mathlib.Core.List.{List, [], _∷_}
-use borrow.Author.Tests.{le-leb, lt-leb, eq-eqb, not-true, eqb-false, eqb-true}
-use lib.Dec.{eqb, leb}
+use mathlib.Core.Path.{_≡_, refl, sym, ap, ap₂, _∙_}
+use mathlib.Core.Bool.{Bool, true, false, not, _&&_, cond}
+use mathlib.Core.List.{List}
+use borrow.Author.Tests.{le-leb, lt-leb, eqb-true}
+use lib.Dec.{leb}
 use lib.IntN.{ℤ}
-use lib.ListN.{length, getD, replicate, length-replicate}
-use Rattle.laws.specs.Choice.{and-left, and-right, eqb-sym}
-use Rattle.laws.specs.Fold.{any}
+use Rattle.laws.specs.Choice.{and-right}
 use Rattle.laws.specs.Place.{place}
-use Rattle.model.specs.Catalogue.{Hypergraph, vertices, capacity}
+use Rattle.model.specs.Catalogue.{Hypergraph, capacity}
 use Rattle.model.specs.Measure.{Contraction, above, onBoard, metric}
-use Rattle.model.specs.Machine.{Move}
-use Rattle.model.specs.Search.{Best, none, best, Walk, bestPair, walkBest, walkMove, walkTurn, walkOn, walk, walked, reversed, patience}
+use Rattle.model.specs.Search.{Best, none, best, Walk, bestPair, walkBest, walkMove, walkTurn, walkOn, walk, patience}
 use Rattle.guarantees.specs.Walks.{moved}
-use Rattle.incidence.specs.On.{on-blank}
-use Rattle.calls.specs.Pairs.{journalOf, pairs-none}
-use Rattle.calls.specs.Tables.{Tables, Sound, Keeps}
-use Rattle.calls.specs.Move.{Open, on-board, own-block, in-range}
+use Rattle.calls.specs.Tables.{Tables}
 use Rattle.choice.specs.declared.open.Pick.{Pick}
 use Rattle.choice.specs.declared.open.Pick.the-variants.{Move as Step, Nothing}
-use Rattle.choice.specs.Open.{bestOf, gainIn, mayGo, roomFor, isCandidate, openIn, Chosen}
+use Rattle.choice.specs.Open.{bestOf, gainIn, openIn, Chosen}
 use Rattle.choice.specs.OpenLaw.{pick-open}
 use Rattle.choice.specs.OpenLink.{walk-is}
-use Rattle.search.specs.Marks.{candidateBit, movedBit, Marked, marked-more}
+use Rattle.search.specs.Marks.{candidateBit}
 use Rattle.search.specs.Tabled.{holds, pair-open}
-use Rattle.search.specs.Keeping.{keeps-none, keeps-more}
-use Rattle.search.specs.Back.{Backs, backs-none, RewindOk, Rewinds}
-use Rattle.search.specs.Steps.{Locals, locals, At, nextOf, TakeOk, Took, TurnOk, Onward, Turned, WalkOk, Going, Ended, Walks}
+use Rattle.search.specs.Keeping.{keeps-none}
+use Rattle.search.specs.Steps.{Locals, At, nextOf, TakeOk, Took, TurnOk, Turned}
 
 -- ---- the next move, as the code finds it
 module _ (gains : List ℤ) (blocks weights loads marks : List ℕ) (n k limit tried kept : ℕ) where

@@ -1,27 +1,27 @@
 -- The walk as a whole: its start, its turns one after another, and what it leaves when the moves after the kept prefix are reversed.
 -- Rests on Turning and Back. Assumes nothing.
-use Prim.Native.Nat.{ℕ, zero, suc, _+_, _*_, _-_, _<_, _≤_}
+use Prim.Native.Nat.{ℕ, _+_, _-_, _<_, _≤_}
 use native.Mathlib.Decide.{ℕ-discrete}
 use native.Mathlib.Omega.{arith}
 use mathlib.Core.Path.{_≡_, refl, sym, ap, ap₂, _∙_, subst}
 use mathlib.Core.Bool.{Bool, true, false, not, _&&_, _||_, and-true}
-use mathlib.Core.List.{List, [], _∷_}
+use mathlib.Core.List.{List, []}
 use borrow.Author.Tests.{eq-eqb, ne-eqb, eqb-true}
 use lib.Dec.{eqb}
 use lib.ListN.{length, getD, replicate, length-replicate}
 use Rattle.laws.specs.Fold.{any}
-use Rattle.model.specs.Catalogue.{Hypergraph, vertices, capacity}
+use Rattle.model.specs.Catalogue.{Hypergraph, vertices}
 use Rattle.model.specs.Measure.{Contraction, above, onBoard, metric}
 use Rattle.model.specs.Machine.{Move}
 use Rattle.model.specs.Search.{Walk, walkOn, walk, walked, reversed}
 use Rattle.incidence.specs.On.{on, on-blank}
 use Rattle.calls.specs.Pairs.{journalOf, pairs-none}
-use Rattle.calls.specs.Tables.{Tables, Sound, Keeps}
+use Rattle.calls.specs.Tables.{Tables, Sound}
 use Rattle.calls.specs.Move.{on-board}
 use Rattle.search.specs.Marks.{candidateBit, movedBit, Marked, marked-more}
 use Rattle.search.specs.Keeping.{keeps-none, keeps-more}
 use Rattle.search.specs.Back.{Backs, backs-none, RewindOk, Rewinds}
-use Rattle.search.specs.Steps.{Locals, locals, At, TurnOk, Onward, Turned, WalkOk, Going, Ended, Walks}
+use Rattle.search.specs.Steps.{Locals, locals, At, TurnOk, Turned, WalkOk, Going, Ended, Walks}
 use Rattle.search.specs.Turning.{on-none}
 
 -- ---- the start

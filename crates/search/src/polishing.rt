@@ -73,7 +73,7 @@ fn next_rise(
     blocks: &[u16],
     weights: &[u32],
     loads: &[u64; 16],
-    marks: &[u64; 32],
+    marks: &[u64],
     n: usize,
     k: usize,
     capacity: u64,

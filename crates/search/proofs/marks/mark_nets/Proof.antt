@@ -1,11 +1,10 @@
 use native.Mathlib.Omega.{arith}
-use mathlib.Core.Path.{_≡_, refl, sym, _∙_, ap}
+use mathlib.Core.Path.{_≡_}
 use denote.Ref.{now}
 use borrow.Author.Needs.{needs}
-use Prim.Native.Nat.{ℕ, _≤_, _<_, _-_, _+_}
-use lib.ListN.{length, getD}
+use Prim.Native.Nat.{_≤_, _<_, _-_}
 use Rattle.incidence.specs.On.{on}
-use Rattle.search.specs.Marks.{Marked, near, PinsOk, nets-none, nets-more, nets-all}
+use Rattle.search.specs.Marks.{Marked, near, nets-none, nets-more, nets-all}
 use Rattle.search.proofs.marks.mark_nets.Statement.{statement}
 use Rattle.search.proofs.marks.mark_nets.Tie as tie
 use Rattle.search.proofs.marks.mark_nets.Reads as reads

@@ -1,9 +1,8 @@
 use native.Mathlib.Omega.{arith}
-use mathlib.Core.Path.{_≡_, refl, sym, _∙_, ap}
+use mathlib.Core.Path.{_≡_}
 use denote.Ref.{now}
 use borrow.Author.Needs.{needs}
-use Prim.Native.Nat.{ℕ, _≤_, _<_, _-_, _+_}
-use lib.ListN.{length}
+use Prim.Native.Nat.{_≤_, _-_}
 use Rattle.connectivity.specs.Listed.{has}
 use Rattle.search.specs.Marks.{Marked, pins-none, pins-more}
 use Rattle.search.proofs.marks.mark_pins.Statement.{statement}

@@ -1,8 +1,7 @@
 use native.Mathlib.Omega.{arith}
-use mathlib.Core.Path.{_≡_, refl, sym, _∙_, ap}
+use mathlib.Core.Path.{_≡_, refl}
 use denote.Ref.{now}
-use borrow.Author.Needs.{needs}
-use Prim.Native.Nat.{ℕ, _≤_, _<_, _-_, _+_}
+use Prim.Native.Nat.{_≤_, _-_}
 use Rattle.search.specs.Marks.{Marked}
 use Rattle.search.specs.Polishing.{sits, sits-none, sits-more}
 use Rattle.search.proofs.polishing.mark_board.Statement.{statement}

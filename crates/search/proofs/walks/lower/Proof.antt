@@ -1,7 +1,3 @@
-use native.Mathlib.Omega.{arith}
-use mathlib.Core.Path.{_≡_, refl, sym, _∙_, ap}
-use denote.Ref.{now}
-use borrow.Author.Needs.{needs}
 use Rattle.search.specs.Taking.{lower-new, lower-old}
 use Rattle.search.proofs.walks.lower.Statement.{statement}
 use Rattle.search.proofs.walks.lower.Tie as tie

@@ -1,9 +1,7 @@
 use native.Mathlib.Omega.{arith}
-use mathlib.Core.Path.{_≡_, refl, sym, _∙_, ap}
-use denote.Ref.{now}
+use mathlib.Core.Path.{refl, ap}
 use borrow.Author.Needs.{needs}
-use Prim.Native.Nat.{ℕ, _≤_, _<_, _-_, _+_}
-use mathlib.Core.List.{List}
+use Prim.Native.Nat.{ℕ, _-_}
 use Rattle.search.specs.Taking.{take-open, take-goes, take-nets, take-law}
 use Rattle.search.proofs.walks.make_move.Statement.{statement}
 use Rattle.search.proofs.walks.make_move.Tie as tie
