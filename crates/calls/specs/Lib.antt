@@ -4,12 +4,8 @@
 -- Total   the metric less a gain
 -- Move    a vertex goes to another block
 -- Join    a contraction and its undo
--- Steps   a running sale and the machine's state; what a call does
--- Refusal the refusals of J, M and W, by the tables and by the machine
 pub mod Pairs
 pub mod Tables
 pub mod Total
 pub mod Move
 pub mod Join
-pub mod Refusal
-pub mod Steps

@@ -3,7 +3,7 @@ ghost use Prim.Native.Nat.{ℕ, _+_, _-_, _<_, _≤_};
 ghost use mathlib.Core.Path.{_≡_};
 ghost use mathlib.Core.Bool.{_&&_};
 ghost use lib.ListN.{length, getD};
-ghost use Rattle.calls.specs.Refusal.{known, here, roomIn, refusalJ, refusalM, refusalW};
+ghost use Rattle.steps.specs.Refusal.{known, here, roomIn, refusalJ, refusalM, refusalW};
 
 // Is `x` a number from 1 to `n`.
 fn is_known(n: usize, x: usize) -> bool
@@ -77,7 +77,16 @@ pub fn refuses_join(blocks: &[u16], n: usize, u: usize, v: usize) -> u32
 }
 
 // M,u,t: the refusal's number, or 0.
-pub fn refuses_move(blocks: &[u16], loads: &[u64; 16], weights: &[u32], n: usize, k: usize, capacity: u64, u: usize, t: usize) -> u32
+pub fn refuses_move(
+    blocks: &[u16],
+    loads: &[u64; 16],
+    weights: &[u32],
+    n: usize,
+    k: usize,
+    capacity: u64,
+    u: usize,
+    t: usize,
+) -> u32
     requires { ⌜ (n ≤ length (now blocks)) × (n ≤ length (now weights)) × (k ≤ 16) × (length (now loads) ≡ 16) ⌝ }
     ensures { λ r. ⌜ r ≡ refusalM (now (blocks .entry)) (now (loads .entry)) (now (weights .entry)) n k capacity u t ⌝ }
 {
