@@ -50,10 +50,13 @@ refusalW blocks n u v =
     cond (not (known n u && known n v)) 9
     (cond (not (here blocks u && here blocks v)) 10 0)
 
--- a choice whose later branch counts only where the test fails
-cond-if : (b : Bool) (q : ℕ) {x y : ℕ} → (b ≡ false → x ≡ y) → cond b q x ≡ cond b q y
-cond-if true q e = refl
-cond-if false q e = e refl
+-- two choices whose tests agree, and whose later branches agree where the tests fail
+cond-if : {b b′ : Bool} (q : ℕ) {x y : ℕ} → b ≡ b′ → (b′ ≡ false → x ≡ y) → cond b q x ≡ cond b′ q y
+cond-if {b} {b′} q {x} {y} e f = ap (λ (t : Bool). cond t q x) e ∙ go b′ f
+  where
+    go : (t : Bool) → (t ≡ false → x ≡ y) → cond t q x ≡ cond t q y
+    go true f = refl
+    go false f = f refl
 
 module _ {h : Hypergraph} {cs : List Contraction} {block : ℕ → ℕ} {T : Tables} (s : Sound h cs block T) where
   known-is : (u : ℕ) → known (T .n) u ≡ isVertex h u
@@ -83,19 +86,17 @@ module _ {h : Hypergraph} {cs : List Contraction} {block : ℕ → ℕ} {T : Tab
   pub refusalJ-is : (st : State) → st .stack ≡ cs → st .block ≡ block → (u v : ℕ) → refusalJ (T .blocks) (T .n) u v ≡ refusesJ h st u v
   unfolding refusalJ refusesJ
   refusalJ-is st qs qb u v = rw (qs, qb) (
-      ap (λ (b : Bool). cond (not b) 9 _) (ap₂ (λ (x y : Bool). x && y) (known-is u) (known-is v))
-      ∙ cond-if (not (isVertex h u && isVertex h v)) 9 (λ a.
+      cond-if {b′ = not (isVertex h u && isVertex h v)} 9 (ap not (ap₂ (λ (x y : Bool). x && y) (known-is u) (known-is v))) (λ a.
       let ku = and-left _ _ (not-false _ a) in
       let kv = and-right (isVertex h u) _ (not-false _ a) in
-      cond-if (eqb u v) 11 (λ _.
-      ap₂ (λ (x : Bool) (y : ℕ). cond (not x) 10 y) (ap₂ (λ (x y : Bool). x && y) (here-is u ku) (here-is v kv))
-      (ap₂ (λ (x y : ℕ). cond (not (eqb x y)) 13 0) (block-is u ku) (block-is v kv)))))
+      cond-if {b = eqb u v} {b′ = eqb u v} 11 refl (λ _.
+      cond-if {b′ = not (onBoard cs u && onBoard cs v)} 10 (ap not (ap₂ (λ (x y : Bool). x && y) (here-is u ku) (here-is v kv))) (λ _.
+      ap₂ (λ (x y : ℕ). cond (not (eqb x y)) 13 0) (block-is u ku) (block-is v kv)))))
 
   pub refusalW-is : (st : State) → st .stack ≡ cs → (u v : ℕ) → refusalW (T .blocks) (T .n) u v ≡ refusesW h st u v
   unfolding refusalW refusesW
   refusalW-is st qs u v = rw qs (
-      ap (λ (b : Bool). cond (not b) 9 _) (ap₂ (λ (x y : Bool). x && y) (known-is u) (known-is v))
-      ∙ cond-if (not (isVertex h u && isVertex h v)) 9 (λ a.
+      cond-if {b′ = not (isVertex h u && isVertex h v)} 9 (ap not (ap₂ (λ (x y : Bool). x && y) (known-is u) (known-is v))) (λ a.
       ap (λ (x : Bool). cond (not x) 10 0) (ap₂ (λ (x y : Bool). x && y) (here-is u (and-left _ _ (not-false _ a))) (here-is v (and-right (isVertex h u) _ (not-false _ a))))))
 
   room-is : (u t : ℕ) → isVertex h u ≡ true → onBoard cs u ≡ true → isBlock h t ≡ true → roomIn (T .loads) (T .weights) (capacity h) u t ≡ hasRoom h cs block u t
@@ -110,13 +111,11 @@ module _ {h : Hypergraph} {cs : List Contraction} {block : ℕ → ℕ} {T : Tab
   pub refusalM-is : (st : State) → st .stack ≡ cs → st .block ≡ block → (u t : ℕ) → refusalM (T .blocks) (T .loads) (T .weights) (T .n) (T .k) (capacity h) u t ≡ refusesM h st u t
   unfolding refusalM refusesM
   refusalM-is st qs qb u t = rw (qs, qb) (
-      ap (λ (b : Bool). cond (not b) 9 _) (ap₂ (λ (x y : Bool). x && y) (known-is u) (ap (λ (k : ℕ). leb 1 t && leb t k) (s .follows .says .all-blocks)))
-      ∙ cond-if (not (isVertex h u && isBlock h t)) 9 (λ a.
+      cond-if {b′ = not (isVertex h u && isBlock h t)} 9 (ap not (ap₂ (λ (x y : Bool). x && y) (known-is u) (ap (λ (k : ℕ). leb 1 t && leb t k) (s .follows .says .all-blocks)))) (λ a.
       let ku = and-left _ _ (not-false _ a) in
       let kt = and-right (isVertex h u) _ (not-false _ a) in
-      ap (λ (b : Bool). cond (not b) 10 _) (here-is u ku)
-      ∙ cond-if (not (onBoard cs u)) 10 (λ o.
-      ap₂ (λ (x y : ℕ). cond (eqb x t) 12 y) (block-is u ku) (ap (λ (b : Bool). cond (not b) 14 0) (room-is u t ku (not-false _ o) kt)))))
+      cond-if {b′ = not (onBoard cs u)} 10 (ap not (here-is u ku)) (λ o.
+      cond-if {b′ = eqb (block u) t} 12 (ap (λ (x : ℕ). eqb x t) (block-is u ku)) (λ _. ap (λ (b : Bool). cond (not b) 14 0) (room-is u t ku (not-false _ o) kt)))))
 
 -- ---- the arms of the code's tests: r is what a test answered
 pub known-no : (n x : ℕ) → x < 1 → false ≡ known n x
