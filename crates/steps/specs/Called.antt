@@ -1,18 +1,19 @@
 -- What the functions of the calls J, S, M and B need and promise: each refines the machine's step. Rests on Steps. Assumes nothing.
-use Prim.Native.Nat.{ℕ, zero, suc, _+_, _-_, _<_, _≤_}
+use Prim.Native.Nat.{ℕ, zero, suc, _+_, _*_, _-_, _<_, _≤_}
 use native.Mathlib.Omega.{arith}
 use mathlib.Core.Path.{_≡_, refl, sym, ap, _∙_, subst}
 use mathlib.Core.List.{List}
-use lib.ListN.{length}
-use Rattle.model.specs.Catalogue.{Hypergraph, vertices}
+use lib.ListN.{length, set}
+use Rattle.model.specs.Catalogue.{Hypergraph, vertices, capacity}
 use Rattle.model.specs.Measure.{Contraction}
 use Rattle.model.specs.Machine.{Call, Answer, State, Step, settle}
 use Rattle.model.specs.Search.{call}
 use Rattle.guarantees.specs.StateBounds.{stack-le}
-use Rattle.calls.specs.Pairs.{stackOf, pairs-length}
+use Rattle.levels.specs.World.{kept-none}
+use Rattle.calls.specs.Pairs.{stackOf, pairs-length, Pushed}
 use Rattle.calls.specs.Tables.{Tables, Keeps}
 use Rattle.calls.specs.Move.{past-same}
-use Rattle.steps.specs.Steps.{Two, Runs, Ready, told, Stepped, Moves, runs-call}
+use Rattle.steps.specs.Steps.{Two, Whole, Runs, Ready, told, Stepped, Moves, runs-call}
 
 -- J has no use for the blocks' weights and the loaded sizes, S none for the former, M and B none for the vertices above, the loaded
 -- sizes and the stack: whatever these are
@@ -30,6 +31,10 @@ pub record ReadyM (T : List ℕ → List ℕ → Tables) (J : Two) : Type 0 wher
   pub loaded : List ℕ
   pub stack : Two
   pub ready : Ready (T aboves loaded) stack J
+
+-- the capacity that M is told is the catalogue's
+abbrev pub CapacityIs : ℕ → Hypergraph → Type 0
+CapacityIs x h = x ≡ capacity h
 
 -- what a call does: whatever state of the catalogue h the sale ran in, it runs in the machine's next one, with the machine's answer, and
 -- what is not in use is untouched
@@ -74,10 +79,7 @@ settle-yes (suc q) s done e = absurd (omega arith)
 pub keeps-same : (T : Tables) → Keeps T T
 keeps-same T = record {
   running = record {
-    tables = record {
-      of-tally = record { counts-len = refl; masks-len = refl; counts-past = λ e j _ _. refl; counts-over = λ i _. refl; masks-past = λ e j _. refl; masks-over = λ e _. refl };
-      of-gains = record { gains-len = refl; gains-past = λ y j _ _. refl; gains-over = λ y j _ _. refl };
-    };
+    tables = kept-none (T .counts) (T .visited) (T .gains);
     lists = record { pins-len = refl; sizes-len = refl; pins-past = λ i _. refl; sizes-past = λ e _. refl };
     blocks-len = refl;
     blocks-past = λ y _. refl;
@@ -96,3 +98,34 @@ stack-room {h} {s} {S = S} r = omega (
   r .sound .follows .room .few-vertices,
   r .sound .follows .says .all-vertices,
 )
+
+-- what the code reads and writes lies within the tables, and the stack and the journal
+pub record Roomy (T : Tables) (S J : Two) : Type 0 where
+  pub blocks-fit : T .n ≤ length (T .blocks)
+  pub weights-fit : T .n ≤ length (T .weights)
+  pub gains-fit : 16 * T .n ≤ length (T .gains)
+  pub loads-fit : length (T .loads) ≡ 16
+  pub few-blocks : T .k ≤ 16
+  pub few-vertices : T .n ≤ 1024
+  pub stack-short : S .len < 1024
+  pub journal-short : J .len < 1024
+  pub stack-whole : Whole S
+  pub journal-whole : Whole J
+
+pub roomy : {T : Tables} {S J : Two} → Ready T S J → Roomy T S J
+roomy g = record {
+  blocks-fit = g .runs .sound .follows .world .lists .blocks-fit;
+  weights-fit = g .runs .sound .weights-fit;
+  gains-fit = g .runs .sound .follows .world .frame .gains-fit;
+  loads-fit = g .runs .sound .loads-fit;
+  few-blocks = g .runs .sound .follows .world .frame .few;
+  few-vertices = g .runs .sound .follows .world .frame .few-vertices;
+  stack-short = stack-room (g .runs);
+  journal-short = g .room;
+  stack-whole = g .runs .stack-whole;
+  journal-whole = g .runs .journal-whole;
+}
+
+-- a pushed pair, by what its numbers are
+pub pushed-as : {xs ys xs′ ys′ : List ℕ} {len len′ x y u v : ℕ} → Pushed xs ys len x y xs′ ys′ len′ → x ≡ u → y ≡ v → Pushed xs ys len u v xs′ ys′ len′
+pushed-as {xs} {ys} {len = len} p qx qy = record { xs-are = p .xs-are ∙ ap (set xs len) qx; ys-are = p .ys-are ∙ ap (set ys len) qy; len-is = p .len-is }

@@ -89,6 +89,15 @@ module _ (h : Hypergraph) (T T′ : Tables) (S J J′ : Two) (cap u t b f : ℕ)
     keeps = λ s r. w .keeps;
   }
 
+pub goes-as : {T : Tables} {S J : Two} {u t b : ℕ} (g : Ready T S J) → Open (T .blocks) (T .n) (T .k) u t → b ≡ t → Goes T u b
+goes-as {T} {u = u} g o q = record {
+  h = g .h;
+  cs = g .s .stack;
+  block = g .s .block;
+  sound = g .runs .sound;
+  open-pair = subst (λ (x : ℕ). Open (T .blocks) (T .n) (T .k) u x) (sym q) o;
+}
+
 -- ---- B
 -- the latest move
 abbrev pub lastMove : Two → Move
