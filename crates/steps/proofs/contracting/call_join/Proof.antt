@@ -1,13 +1,11 @@
 use native.Mathlib.Omega.{arith}
-use mathlib.Core.Path.{_≡_, refl, sym, _∙_}
+use mathlib.Core.Path.{refl, sym, _∙_}
 use denote.Ref.{now}
 use borrow.Author.Needs.{needs}
 use Rattle.steps.specs.Called.{roomy, pushed-as}
 use Rattle.steps.specs.Contracting.{pair-of, refused-J, accepted-J}
 use Rattle.steps.proofs.contracting.call_join.Statement.{statement}
 use Rattle.steps.proofs.contracting.call_join.Tie as tie
-use Rattle.steps.proofs.contracting.call_join.Reads as reads
-use Rattle.steps.proofs.contracting.call_join.Lts as lts
 
 refuses-join-requires : tie.Need-refuses-join-requires
 refuses-join-requires c κs = roomy (c .before .before .before .before .before .before .before .before .before .before .before .pre .ready) .blocks-fit

@@ -1,12 +1,8 @@
-use native.Mathlib.Omega.{arith}
-use mathlib.Core.Path.{_≡_}
 use denote.Ref.{now}
 use borrow.Author.Needs.{needs}
 use Rattle.steps.specs.Refusal.{here, both-no, both-yes}
 use Rattle.steps.proofs.refusals.both_here.Statement.{statement}
 use Rattle.steps.proofs.refusals.both_here.Tie as tie
-use Rattle.steps.proofs.refusals.both_here.Reads as reads
-use Rattle.steps.proofs.refusals.both_here.Lts as lts
 
 is-here-requires : tie.Need-is-here-requires
 is-here-requires c κs = search needs

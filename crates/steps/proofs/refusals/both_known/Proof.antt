@@ -1,12 +1,7 @@
-use native.Mathlib.Omega.{arith}
-use mathlib.Core.Path.{_≡_}
-use denote.Ref.{now}
 use borrow.Author.Needs.{needs}
 use Rattle.steps.specs.Refusal.{known, both-no, both-yes}
 use Rattle.steps.proofs.refusals.both_known.Statement.{statement}
 use Rattle.steps.proofs.refusals.both_known.Tie as tie
-use Rattle.steps.proofs.refusals.both_known.Reads as reads
-use Rattle.steps.proofs.refusals.both_known.Lts as lts
 
 is-known-requires : tie.Need-is-known-requires
 is-known-requires c κs = search needs

@@ -1,12 +1,9 @@
 use native.Mathlib.Omega.{arith}
-use mathlib.Core.Path.{_≡_}
 use denote.Ref.{now}
 use borrow.Author.Needs.{needs}
 use Rattle.steps.specs.Refusal.{room-no, room-some}
 use Rattle.steps.proofs.refusals.has_room.Statement.{statement}
 use Rattle.steps.proofs.refusals.has_room.Tie as tie
-use Rattle.steps.proofs.refusals.has_room.Reads as reads
-use Rattle.steps.proofs.refusals.has_room.Lts as lts
 use Prim.Native.Nat.{_-_}
 use lib.ListN.{getD}
 

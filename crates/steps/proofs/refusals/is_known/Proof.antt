@@ -1,12 +1,6 @@
-use native.Mathlib.Omega.{arith}
-use mathlib.Core.Path.{_≡_}
-use denote.Ref.{now}
-use borrow.Author.Needs.{needs}
 use Rattle.steps.specs.Refusal.{known-no, known-in}
 use Rattle.steps.proofs.refusals.is_known.Statement.{statement}
 use Rattle.steps.proofs.refusals.is_known.Tie as tie
-use Rattle.steps.proofs.refusals.is_known.Reads as reads
-use Rattle.steps.proofs.refusals.is_known.Lts as lts
 
 returns : tie.Need-returns
 returns c = known-no (c .before .args .n) (c .before .args .x) (c .if1 .taken)

@@ -1,12 +1,9 @@
 use native.Mathlib.Omega.{arith}
-use mathlib.Core.Path.{_≡_}
 use denote.Ref.{now}
 use borrow.Author.Needs.{needs}
 use Rattle.steps.specs.Refusal.{known-range, join-9, join-11, join-10, join-13, join-0}
 use Rattle.steps.proofs.refusals.refuses_join.Statement.{statement}
 use Rattle.steps.proofs.refusals.refuses_join.Tie as tie
-use Rattle.steps.proofs.refusals.refuses_join.Reads as reads
-use Rattle.steps.proofs.refusals.refuses_join.Lts as lts
 
 both-known-requires : tie.Need-both-known-requires
 both-known-requires c κs = search needs

@@ -1,12 +1,9 @@
 use native.Mathlib.Omega.{arith}
-use mathlib.Core.Path.{_≡_}
 use denote.Ref.{now}
 use borrow.Author.Needs.{needs}
 use Rattle.steps.specs.Refusal.{known-range, move-9, move-10, move-12, move-14, move-0}
 use Rattle.steps.proofs.refusals.refuses_move.Statement.{statement}
 use Rattle.steps.proofs.refusals.refuses_move.Tie as tie
-use Rattle.steps.proofs.refusals.refuses_move.Reads as reads
-use Rattle.steps.proofs.refusals.refuses_move.Lts as lts
 use Prim.Native.Nat.{_-_}
 
 both-known-requires : tie.Need-both-known-requires

@@ -1,12 +1,9 @@
 use native.Mathlib.Omega.{arith}
-use mathlib.Core.Path.{_≡_}
 use denote.Ref.{now}
 use borrow.Author.Needs.{needs}
 use Rattle.steps.specs.Refusal.{known-range, walk-9, walk-10, walk-0}
 use Rattle.steps.proofs.refusals.refuses_walk.Statement.{statement}
 use Rattle.steps.proofs.refusals.refuses_walk.Tie as tie
-use Rattle.steps.proofs.refusals.refuses_walk.Reads as reads
-use Rattle.steps.proofs.refusals.refuses_walk.Lts as lts
 
 both-known-requires : tie.Need-both-known-requires
 both-known-requires c κs = search needs
