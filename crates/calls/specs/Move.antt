@@ -115,7 +115,7 @@ module _ {h : Hypergraph} {cs : List Contraction} {block : ℕ → ℕ} {T : Tab
   pub moves-ok : MoveNeeds (runningOf T) (T .n) (T .m) (T .k) u t
   moves-ok = record { h = h; cs = cs; block = block; loaded = T .loaded; follows = s .follows; on-board = on; u-in = o .u-in; t-in = o .t-in }
 
-  gain-read : at (T .gains) (16 * u + (t - 1)) ≡ gain h cs block (u + 1) t
+  pub gain-read : at (T .gains) (16 * u + (t - 1)) ≡ gain h cs block (u + 1) t
   gain-read =
       let e : t - 1 + 1 ≡ t = omega arith in
       reads (s .follows) .gained u (t - 1) (o .u-in) (omega (arith, o .t-in)) ∙ ap (gain h cs block (u + 1)) e

@@ -1,4 +1,4 @@
-// The calls J, S, M and B on the tables of a running sale, and the operations that they and the searches share.
+// The operations on the tables of a running sale that the calls and the searches share.
 pub mod joins;
 pub mod moves;
 pub mod pairs;

@@ -90,4 +90,13 @@ impl Journal {
         j.len = j.len - 1;
         j
     }
+
+    // With no move on it.
+    pub fn clear(self) -> Journal
+        ensures { λ r. ⌜ (r .vertices ≡ self .vertices) × (r .blocks ≡ self .blocks) × (r .len ≡ 0) ⌝ }
+    {
+        let mut j = self;
+        j.len = 0;
+        j
+    }
 }

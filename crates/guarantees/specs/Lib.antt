@@ -14,7 +14,7 @@
 --    Stretches (size-le, stretch-le, marks-le). The report fits into the lent output: ReportFits (report-fits), whatever the file:
 --    Refusals (engine-fits).
 -- 8. Demand 3's machine half, one theorem about the whole list: MachineHalf (machine-half).
--- Beneath them: Climbs, Tops, Ends, Calls, Clumps, Caps, Reading, Loads, Numbers, Bounds, WeightBounds, StateBounds.
+-- Beneath them: Reversals, Climbs, Tops, Ends, Calls, Clumps, Caps, Reading, Loads, Numbers, Bounds, WeightBounds, StateBounds.
 pub mod Moves
 pub mod Commutes
 pub mod Climbs
@@ -46,5 +46,6 @@ pub mod ReachedBounds
 pub mod Stretches
 pub mod ReportFits
 pub mod Refusals
+pub mod Reversals
 pub mod MachineHalf
 pub mod Distinct
