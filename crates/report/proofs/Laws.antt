@@ -1,12 +1,12 @@
 -- Laws of text written into a buffer: nothing, one byte, one text after another; and of fields written one by one. Rests on text's laws
 -- of `written`.
-use Prim.Native.Nat.{ℕ, zero, suc, _+_, _-_, _≤_, _<_}
+use Prim.Native.Nat.{ℕ, _+_, _≤_, _<_}
 use mathlib.Core.Path.{_≡_, refl, ap, sym, _∙_, subst}
 use mathlib.Core.List.{List, [], _∷_, _++_, append-assoc, append-nil}
 use native.Mathlib.Omega.{arith}
 use native.Mathlib.Numerals.{add-one}
 use native.Mathlib.Nat.{add-zero}
-use lib.ListN.{length, take, drop, set, getD, length-append}
+use lib.ListN.{length, take, drop, set, getD, length-append, take-append-drop}
 use lib.Seq.{take-at, take-suc, take-all, drop-append-add, drop-drop, length-take-le}
 use lib.IntN.{ℤ}
 use Rattle.model.specs.Grammar.{bytes}
@@ -15,16 +15,11 @@ use Rattle.text.specs.Output.{written}
 use Rattle.text.proofs.Digits.{written-one, length-written}
 use Rattle.report.specs.Wrote.{Wrote, numbers}
 
-pub take-drop : {A : Type 0} (n : ℕ) (l : List A) → take n l ++ drop n l ≡ l
-take-drop zero l = refl
-take-drop (suc n) [] = refl
-take-drop (suc n) (x ∷ l) = ap (λ t. x ∷ t) (take-drop n l)
-
 pub wrote-none : (l : List ℕ) (at : ℕ) → Wrote l l at [] at
 unfolding written
 wrote-none l at = record {
   ends = omega arith;
-  is = sym (ap (λ (t : List ℕ). t ++ drop (at + 0) l) (append-nil (take at l)) ∙ ap (λ (k : ℕ). take at l ++ drop k l) (add-zero at) ∙ take-drop at l);
+  is = sym (ap (λ (t : List ℕ). t ++ drop (at + 0) l) (append-nil (take at l)) ∙ ap (λ (k : ℕ). take at l ++ drop k l) (add-zero at) ∙ take-append-drop at l);
 }
 
 pub wrote-length : {l l′ : List ℕ} {at : ℕ} {d : List ℕ} {r : ℕ} → Wrote l l′ at d r → at + length d ≤ length l → length l′ ≡ length l
@@ -102,7 +97,7 @@ pub fields-room : (xs : List ℕ) (i : ℕ) → i < length xs → length (commas
 fields-room xs i h = omega (
   arith,
   tail-length xs,
-  ap length (ap commas (sym (take-drop (i + 1) xs)) ∙ commas-append (take (i + 1) xs) (drop (i + 1) xs)),
+  ap length (ap commas (sym (take-append-drop (i + 1) xs)) ∙ commas-append (take (i + 1) xs) (drop (i + 1) xs)),
   length-append (commas (take (i + 1) xs)) (commas (drop (i + 1) xs)),
   ap length (commas-more xs i h),
   length-append (commas (take i xs)) (44 ∷ digits (getD xs i 0)),

@@ -4,7 +4,7 @@ use native.Mathlib.Omega.{arith}
 use native.Mathlib.Numerals.{add-one}
 use mathlib.Core.Path.{_≡_, sym, ap, ap₂, _∙_, subst}
 use mathlib.Core.List.{List, [], _∷_, _++_, append-assoc, append-nil}
-use lib.ListN.{length, take, drop, length-append}
+use lib.ListN.{length, take, drop, length-append, take-append-drop}
 use lib.Seq.{take-suc, take-all, length-take-le}
 use Rattle.laws.specs.Sum.{foldTo, foldTo-step}
 use Rattle.model.specs.Catalogue.{Net, Hypergraph, vertices}
@@ -15,7 +15,7 @@ use Rattle.model.specs.Report.{digits, row, lotRows, buyRows, closing}
 use Rattle.levels.specs.Running.{netAt}
 use Rattle.report.specs.Wrote.{Wrote}
 use Rattle.report.specs.Closing.{Ended}
-use Rattle.report.proofs.Laws.{take-drop, wrote-none, wrote-append}
+use Rattle.report.proofs.Laws.{wrote-none, wrote-append}
 
 -- a text of which the first part is written, at a place that is within the buffer, and then the rest of it
 wrote-then : {l m l′ : List ℕ} {at : ℕ} {d : List ℕ} {e : List ℕ} {p r : ℕ} → p ≤ length l → Wrote l m at d p → Wrote m l′ p e r → Wrote l l′ at (d ++ e) r
@@ -103,7 +103,7 @@ module _ (h : Hypergraph) (s : State) where
   pub nets-room : (i c : ℕ) → i < length (h .nets) → c ≡ connectivity h (s .stack) (s .block) (netAt h i) → length (netsTo i) + length (row "BUY" (digits (i + 1) ∷ digits c ∷ [])) ≤ length (buyRows h s 1 (h .nets))
   nets-room i c l q = omega (
     arith,
-    ap (λ (t : List Net). length (buyRows h s 1 t)) (sym (take-drop (i + 1) (h .nets))),
+    ap (λ (t : List Net). length (buyRows h s 1 t)) (sym (take-append-drop (i + 1) (h .nets))),
     ap length (buy-append 1 (take (i + 1) (h .nets)) (drop (i + 1) (h .nets))),
     length-append (netsTo (i + 1)) (buyRows h s (1 + length (take (i + 1) (h .nets))) (drop (i + 1) (h .nets))),
     ap length (nets-step i l),
