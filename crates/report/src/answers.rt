@@ -1,7 +1,7 @@
 // What a call answers, and the lines of answers and refusals.
-use crate::rows::put_row;
-use crate::rows::put_signed_field;
-use crate::rows::put_tail;
+use crate::fields::put_row;
+use crate::fields::put_signed_field;
+use crate::fields::put_tail;
 ghost use mathlib.Core.List.{[], _∷_};
 ghost use Prim.Native.Nat.{_+_, _≤_};
 ghost use lib.ListN.{length};

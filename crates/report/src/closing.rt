@@ -1,5 +1,5 @@
 // The closing report: the metric of the draft and at the end, the block of each vertex's representative, the connectivity of each net.
-use crate::rows::put_row;
+use crate::fields::put_row;
 ghost use mathlib.Core.Path.{_≡_};
 ghost use mathlib.Core.List.{List, [], _∷_};
 ghost use Prim.Native.Nat.{ℕ, _+_, _≤_, _<_};

@@ -1,11 +1,11 @@
--- `report::rows::put_field` meets its contract.
+-- `report::fields::put_field` meets its contract.
 use native.Mathlib.Omega.{arith}
 use mathlib.Core.Path.{_∙_}
 use lib.ListN.{length-set}
 use borrow.Author.Needs.{needs}
 use Rattle.report.proofs.Laws.{wrote-cons}
-use Rattle.report.proofs.rows.put_field.Statement.{statement}
-use Rattle.report.proofs.rows.put_field.Tie as tie
+use Rattle.report.proofs.fields.put_field.Statement.{statement}
+use Rattle.report.proofs.fields.put_field.Tie as tie
 
 slice-write-out : tie.Need-slice-write-out
 slice-write-out c = search needs

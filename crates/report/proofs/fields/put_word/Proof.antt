@@ -1,4 +1,4 @@
--- `report::rows::put_word` meets its contract. The loop's invariant: the first i bytes of the word are written.
+-- `report::fields::put_word` meets its contract. The loop's invariant: the first i bytes of the word are written.
 use Prim.Native.Nat.{_+_, _-_, _≤_}
 use native.Mathlib.Omega.{arith}
 use native.Mathlib.Nat.{add-zero}
@@ -9,8 +9,8 @@ use denote.Ref.{now}
 use borrow.Author.Needs.{needs}
 use Rattle.report.specs.Wrote.{Wrote}
 use Rattle.report.proofs.Laws.{wrote-none, wrote-byte}
-use Rattle.report.proofs.rows.put_word.Statement.{statement}
-use Rattle.report.proofs.rows.put_word.Tie as tie
+use Rattle.report.proofs.fields.put_word.Statement.{statement}
+use Rattle.report.proofs.fields.put_word.Tie as tie
 
 abbrev Inv-loop : tie.InvT-loop
 Inv-loop out₀ at w i₀ out i = (i ≤ length w) × (length out ≡ length out₀) × Wrote out₀ out at (take i w) (at + i)

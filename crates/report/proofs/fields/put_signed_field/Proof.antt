@@ -1,4 +1,4 @@
--- `report::rows::put_signed_field` meets its contract.
+-- `report::fields::put_signed_field` meets its contract.
 use native.Mathlib.Omega.{arith}
 use mir.Syntax.{w32}
 use mir.Val.{toZ, ofZ}
@@ -8,8 +8,8 @@ use lib.ListN.{length-set}
 use borrow.Author.Needs.{needs}
 use Rattle.model.specs.Report.{signed}
 use Rattle.report.proofs.Laws.{wrote-cons}
-use Rattle.report.proofs.rows.put_signed_field.Statement.{statement}
-use Rattle.report.proofs.rows.put_signed_field.Tie as tie
+use Rattle.report.proofs.fields.put_signed_field.Statement.{statement}
+use Rattle.report.proofs.fields.put_signed_field.Tie as tie
 
 slice-write-out : tie.Need-slice-write-out
 slice-write-out c = search needs

@@ -1,4 +1,4 @@
--- `report::rows::put_tail` meets its contract. The loop's invariant: the first i fields are written.
+-- `report::fields::put_tail` meets its contract. The loop's invariant: the first i fields are written.
 use Prim.Native.Nat.{_-_, _≤_}
 use native.Mathlib.Omega.{arith}
 use mathlib.Core.Path.{_≡_, _∙_}
@@ -7,8 +7,8 @@ use denote.Ref.{now}
 use borrow.Author.Needs.{needs}
 use Rattle.report.specs.Wrote.{Wrote}
 use Rattle.report.proofs.Laws.{fields-none, fields-room, fields-more, fields-last, fields-end, commas}
-use Rattle.report.proofs.rows.put_tail.Statement.{statement}
-use Rattle.report.proofs.rows.put_tail.Tie as tie
+use Rattle.report.proofs.fields.put_tail.Statement.{statement}
+use Rattle.report.proofs.fields.put_tail.Tie as tie
 
 abbrev Inv-loop : tie.InvT-loop
 Inv-loop out₀ at xs p₀ i₀ out p i = (i ≤ length xs) × (length out ≡ length out₀) × Wrote out₀ out at (commas (take i xs)) p

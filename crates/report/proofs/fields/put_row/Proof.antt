@@ -1,4 +1,4 @@
--- `report::rows::put_row` meets its contract.
+-- `report::fields::put_row` meets its contract.
 use native.Mathlib.Omega.{arith}
 use denote.Ref.{now}
 use lib.ListN.{length-append}
@@ -6,8 +6,8 @@ use Rattle.model.specs.Report.{tail}
 use Rattle.report.specs.Wrote.{numbers}
 use Rattle.report.proofs.Laws.{wrote-append}
 use borrow.Author.Needs.{needs}
-use Rattle.report.proofs.rows.put_row.Statement.{statement}
-use Rattle.report.proofs.rows.put_row.Tie as tie
+use Rattle.report.proofs.fields.put_row.Statement.{statement}
+use Rattle.report.proofs.fields.put_row.Tie as tie
 
 put-word-requires : tie.Need-put-word-requires
 put-word-requires c κs = omega (arith, length-append (now (c .before .before .before .before .args .w)) (tail (numbers (now (c .before .before .before .before .args .xs)))))
