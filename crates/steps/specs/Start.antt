@@ -1,9 +1,8 @@
 -- Tables that are sound for a loaded catalogue stand, with an empty stack and an empty journal, for a fresh machine: what the first call
 -- of a list needs. Rests on Steps. Assumes nothing.
-use Prim.Native.Nat.{ℕ, _<_}
 use native.Mathlib.Omega.{arith}
 use mathlib.Core.Path.{_≡_, refl, ap, _∙_}
-use mathlib.Core.List.{List, []}
+use mathlib.Core.List.{[]}
 use Rattle.model.specs.Catalogue.{Hypergraph, drafted}
 use Rattle.model.specs.Measure.{above}
 use Rattle.model.specs.Machine.{fresh}
