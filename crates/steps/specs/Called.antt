@@ -4,13 +4,13 @@ use native.Mathlib.Omega.{arith}
 use mathlib.Core.Path.{_≡_, refl, sym, ap, _∙_, subst}
 use mathlib.Core.List.{List}
 use lib.ListN.{length, set}
-use Rattle.model.specs.Catalogue.{Hypergraph, vertices, capacity}
+use Rattle.model.specs.Catalogue.{Hypergraph, capacity}
 use Rattle.model.specs.Measure.{Contraction}
 use Rattle.model.specs.Machine.{Call, Answer, State, Step, settle}
 use Rattle.model.specs.Search.{call}
 use Rattle.guarantees.specs.StateBounds.{stack-le}
 use Rattle.levels.specs.World.{kept-none}
-use Rattle.calls.specs.Pairs.{stackOf, pairs-length, Pushed}
+use Rattle.calls.specs.Pairs.{pairs-length, Pushed}
 use Rattle.calls.specs.Tables.{Tables, Keeps}
 use Rattle.calls.specs.Move.{past-same}
 use Rattle.steps.specs.Steps.{Two, Whole, Runs, Ready, told, Stepped, Moves, runs-call}

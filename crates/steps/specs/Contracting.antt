@@ -1,17 +1,17 @@
 -- J and S: what their operations need, and that their functions' results are the machine's. Rests on Called and Refusal. Assumes nothing.
-use Prim.Native.Nat.{ℕ, zero, suc, _+_, _-_, _<_, _≤_}
+use Prim.Native.Nat.{ℕ, zero, suc, _+_, _-_, _≤_}
 use native.Mathlib.Omega.{arith}
 use mathlib.Core.Path.{_≡_, refl, sym, ap, ap₂, _∙_, subst}
-use mathlib.Core.Bool.{Bool, not, _&&_}
+use mathlib.Core.Bool.{not, _&&_}
 use mathlib.Core.List.{List, [], _∷_}
 use borrow.Author.Tests.{eqb-true, eqb-false, not-true, not-false}
 use lib.Dec.{eqb}
 use lib.ListN.{length, getD, length-set}
 use Rattle.laws.specs.Choice.{cond-zero, and-right}
 use Rattle.laws.specs.Place.{place}
-use Rattle.model.specs.Catalogue.{Hypergraph, vertices}
+use Rattle.model.specs.Catalogue.{Hypergraph}
 use Rattle.model.specs.Measure.{Contraction, above, weight}
-use Rattle.model.specs.Machine.{callJ, callS, saysJ, saysS, saysNO, State, Step, settle, refusesJ, contract, doesJ, uncontract, doesS}
+use Rattle.model.specs.Machine.{callJ, callS, saysJ, saysS, saysNO, State, settle, refusesJ, contract, doesJ, uncontract, doesS}
 use Rattle.model.specs.Search.{call}
 use Rattle.guarantees.specs.Splits.{AllInside, into-on}
 use Rattle.pins.specs.Board.{join}

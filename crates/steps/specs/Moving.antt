@@ -1,28 +1,28 @@
 -- M and B: what their operation needs, and that their functions' results are the machine's. Rests on Called and Refusal. Assumes nothing.
-use Prim.Native.Nat.{ℕ, zero, suc, _+_, _*_, _-_, _<_, _≤_}
+use Prim.Native.Nat.{ℕ, _+_, _*_, _-_, _<_, _≤_}
 use native.Mathlib.Omega.{arith}
 use mathlib.Core.Path.{_≡_, refl, sym, ap, ap₂, _∙_, subst}
-use mathlib.Core.Bool.{Bool, not, _&&_}
-use mathlib.Core.List.{List, [], _∷_}
+use mathlib.Core.Bool.{not, _&&_}
+use mathlib.Core.List.{List, _∷_}
 use borrow.Author.Tests.{eqb-false, not-true, not-false}
 use lib.Dec.{eqb}
 use lib.IntN.{ℤ}
-use lib.ListN.{length, getD}
+use lib.ListN.{getD}
 use Rattle.laws.specs.Choice.{cond-zero}
 use Rattle.laws.specs.Place.{place}
-use Rattle.model.specs.Catalogue.{Hypergraph, vertices, capacity}
+use Rattle.model.specs.Catalogue.{Hypergraph, capacity}
 use Rattle.model.specs.Measure.{above, gain}
-use Rattle.model.specs.Machine.{callM, callB, saysM, saysB, saysNO, Move, State, Step, settle, refusesM, doesM, doesB}
+use Rattle.model.specs.Machine.{callM, callB, saysM, saysB, saysNO, Move, State, settle, refusesM, doesM, doesB}
 use Rattle.model.specs.Search.{call}
 use Rattle.guarantees.specs.Calls.{Recorded}
 use Rattle.guarantees.specs.StateBounds.{Listed}
 use Rattle.guarantees.specs.Reversals.{Apart}
 use Rattle.connectivity.specs.Raised.{at}
-use Rattle.calls.specs.Pairs.{stackOf, journalOf, pairs-none, pairs-some, Pushed, pairs-push}
+use Rattle.calls.specs.Pairs.{journalOf, pairs-none, pairs-some, Pushed, pairs-push}
 use Rattle.calls.specs.Tables.{Tables, Sound}
 use Rattle.calls.specs.Move.{Open, Goes, Went, own-block, in-range, gain-read}
-use Rattle.steps.specs.Refusal.{known, here, roomIn, refusalM, refusalM-is, known-range}
-use Rattle.steps.specs.Steps.{Two, Whole, Runs, Ready, told}
+use Rattle.steps.specs.Refusal.{known, here, refusalM, refusalM-is, known-range}
+use Rattle.steps.specs.Steps.{Two, Runs, Ready, told}
 use Rattle.steps.specs.Called.{Called, Popped, stepped, refused, settle-no, settle-yes, keeps-same}
 use Rattle.steps.specs.Contracting.{above-none, popped-whole, pushed-whole}
 

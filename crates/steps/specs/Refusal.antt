@@ -1,5 +1,5 @@
 -- The refusals of J, M and W as the tables tell them, and that sound tables tell what the machine tells. Rests on Tables. Assumes nothing.
-use Prim.Native.Nat.{ℕ, zero, suc, _+_, _-_, _<_, _≤_}
+use Prim.Native.Nat.{ℕ, _+_, _-_, _<_, _≤_}
 use native.Mathlib.Decide.{ℕ-discrete}
 use native.Mathlib.Omega.{arith}
 use mathlib.Core.Path.{_≡_, refl, sym, ap, ap₂, _∙_}
@@ -7,14 +7,14 @@ use mathlib.Core.Bool.{Bool, true, false, not, cond, _&&_}
 use mathlib.Core.List.{List}
 use borrow.Author.Tests.{eq-eqb, ne-eqb, leb-true, leb-false, le-leb, lt-leb, eqb-true, not-true, not-false}
 use lib.Dec.{eqb, leb}
-use lib.ListN.{length, getD}
-use Rattle.laws.specs.Choice.{cond-no, cond-zero, and-left, and-right}
+use lib.ListN.{getD}
+use Rattle.laws.specs.Choice.{and-left, and-right}
 use Rattle.model.specs.Catalogue.{Hypergraph, vertices, isVertex, isBlock, capacity}
 use Rattle.model.specs.Measure.{Contraction, above, onBoard, weight, blockWeight, hasRoom}
 use Rattle.model.specs.Machine.{State, refusesJ, refusesM}
 use Rattle.model.specs.Search.{refusesW}
 use Rattle.calls.specs.Tables.{Tables, Sound}
-use Rattle.calls.specs.Move.{on-board, own-block, own-weight, in-range}
+use Rattle.calls.specs.Move.{own-block, own-weight, in-range}
 
 -- a number from 1 to n
 abbrev pub known : ℕ → ℕ → Bool

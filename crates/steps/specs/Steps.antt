@@ -1,6 +1,6 @@
 -- A running sale stands for a state of the machine, and what it means that a call steps it: the tables, the stack and the journal go
 -- over to the machine's next state, the answer is the machine's, and what is not in use is untouched. Rests on Tables and Pairs. Assumes nothing.
-use Prim.Native.Nat.{ℕ, zero, suc, _+_, _-_, _<_, _≤_}
+use Prim.Native.Nat.{ℕ, zero, suc, _+_, _<_, _≤_}
 use mathlib.Core.Path.{_≡_, refl}
 use mathlib.Core.List.{List}
 use lib.ListN.{length}
@@ -11,7 +11,7 @@ use Rattle.guarantees.specs.Calls.{Legal, legal-call}
 use Rattle.guarantees.specs.StateBounds.{Listed, listed-call}
 use Rattle.guarantees.specs.Reversals.{Apart, apart-call}
 use Rattle.calls.specs.Pairs.{stackOf, journalOf}
-use Rattle.calls.specs.Tables.{Tables, Sound, Keeps}
+use Rattle.calls.specs.Tables.{Tables, Sound}
 
 -- two arrays and a length: a stack or a journal
 pub record Two : Type 0 where
