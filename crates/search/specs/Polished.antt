@@ -45,7 +45,7 @@ pub record PassOk (T : List ℕ → List ℕ → Tables) (marks : List ℕ) (lef
   pub some : 1 ≤ left
   pub small : moves + left < 2 ^ 32
 
--- what is left of a polish from another one, which tables and variables now are
+-- `end` is what becomes, in at most `left` passes more, of the polish that tables and variables now are
 pub record Further (h : Hypergraph) (cs : List Contraction) (end : Polish) (left : ℕ) (T : Tables) (marks : List ℕ) (moves : ℕ) : Type 0 where
   pub polish : Polish
   pub at : PolishAt h cs polish T marks moves

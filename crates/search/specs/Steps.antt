@@ -78,6 +78,7 @@ pub record Took (T : Tables) (L : Locals) (turn v b : ℕ) (T′ : Tables) (L′
 
 -- ---- one turn
 
+-- what `advance` asks: a walk on its way, with at least one turn left
 pub record TurnOk (T : List ℕ → List ℕ → Tables) (L : Locals) (limit turn : ℕ) : Type 0 where
   pub aboves : List ℕ
   pub loaded : List ℕ
@@ -85,10 +86,11 @@ pub record TurnOk (T : List ℕ → List ℕ → Tables) (L : Locals) (limit tur
   pub cs : List Contraction
   pub walk : Walk
   pub at : At h cs walk (T aboves loaded) L
+  pub limit-is : limit ≡ capacity h
   pub turn-to : turn < T aboves loaded .n
   pub tried-to : L .tried ≤ turn
 
--- the walk that is left, with `turns` turns to go from `w`, is the one that is left from another walk, which tables and variables now are
+-- `end` is what becomes, in `turns` turns more, of the walk that tables and variables now are
 pub record Onward (h : Hypergraph) (cs : List Contraction) (end : Walk) (turns : ℕ) (T : Tables) (L : Locals) : Type 0 where
   pub walk : Walk
   pub at : At h cs walk T L

@@ -98,7 +98,7 @@ pub turn-asks : {T T′ : List ℕ → List ℕ → Tables} {L : Locals} {limit 
     → turn < T′ (ok .aboves) (ok .loaded) .n → L .tried ≤ turn → TurnOk T′ L limit turn
 turn-asks ok f on to =
     let o = f (ok .aboves) (ok .loaded) .is (ok .h) (ok .cs) (ok .block) (ok .limit-is) (ok .sound) in
-    record { aboves = ok .aboves; loaded = ok .loaded; h = ok .h; cs = ok .cs; walk = o .walk; at = o .at; turn-to = on; tried-to = to }
+    record { aboves = ok .aboves; loaded = ok .loaded; h = ok .h; cs = ok .cs; walk = o .walk; at = o .at; limit-is = ok .limit-is; turn-to = on; tried-to = to }
 
 pub going-more : {T T′ T″ : Tables} {L L′ : Locals} {limit u v turn turn′ : ℕ} → T′ .n ≡ T .n → T′ .m ≡ T .m → T′ .k ≡ T .k → T′ .firsts ≡ T .firsts → T′ .loaded ≡ T .loaded
     → Going T limit u v turn T′ L → Turned T′ L limit turn T″ L′ turn′ → Going T limit u v turn′ T″ L′

@@ -1,5 +1,5 @@
-// W, a walk from two vertices (localized FM search): moves by the best open pair, the worse ones too, until none is open or 25 have been made
-// since the first prefix of lowest metric; then the moves after that prefix are reversed.
+// W, a walk from two vertices (localized FM search): the best open pair is moved, also where its gain is negative, until none is open or 25
+// moves have been made since the first prefix of lowest metric; then the moves after that prefix are reversed.
 use crate::marks::mark_vertex;
 use crate::marks::spread;
 use crate::numbers::index;
@@ -33,6 +33,7 @@ struct Steps {
     total: u32,
 }
 
+// The prefix that is kept: its length and its metric.
 struct Prefix {
     kept: usize,
     low: u32,
