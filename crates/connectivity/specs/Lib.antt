@@ -9,7 +9,7 @@
 -- Set     the contract of set_pin
 -- Change  the rules of the critical counts
 -- Touch   the rules at one vertex, and at all other pins
--- Fast    the steps of set_pin's proof
+-- Steps   the steps of set_pin's proof
 -- Empty   tables of zeros stand for the matrix of no pins
 pub mod Matrix
 pub mod Listed
@@ -21,5 +21,5 @@ pub mod Law
 pub mod Set
 pub mod Change
 pub mod Touch
-pub mod Fast
+pub mod Steps
 pub mod Empty

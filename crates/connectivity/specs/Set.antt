@@ -67,6 +67,27 @@ kept-gains-trans s t = record {
   gains-over = λ y j l u. t .gains-over y j l u ∙ s .gains-over y j l u;
 }
 
+pub kept-none : {n m k : ℕ} (cs vs : List ℕ) (g : List ℤ) → Kept n m k cs cs vs vs g g
+kept-none cs vs g = record {
+  of-tally = record { counts-len = refl; masks-len = refl; counts-past = λ d j l u. refl; counts-over = λ i l. refl; masks-past = λ d j l. refl; masks-over = λ d l. refl };
+  of-gains = record { gains-len = refl; gains-past = λ y j l u. refl; gains-over = λ y j l u. refl };
+}
+
+pub kept-trans : {n m k : ℕ} {cs cs₁ cs₂ vs vs₁ vs₂ : List ℕ} {g g₁ g₂ : List ℤ} → Kept n m k cs cs₁ vs vs₁ g g₁ → Kept n m k cs₁ cs₂ vs₁ vs₂ g₁ g₂ → Kept n m k cs cs₂ vs vs₂ g g₂
+kept-trans s t = record { of-tally = kept-tally-trans (s .of-tally) (t .of-tally); of-gains = kept-gains-trans (s .of-gains) (t .of-gains) }
+
+pub frame-kept : {weights cs cs′ vs vs′ : List ℕ} {g g′ : List ℤ} {n m k : ℕ} → Frame weights cs vs g n m k → Kept n m k cs cs′ vs vs′ g g′ → Frame weights cs′ vs′ g′ n m k
+frame-kept f s = record {
+  counts-fit = omega (arith, f .counts-fit, s .of-tally .counts-len);
+  masks-fit = omega (arith, f .masks-fit, s .of-tally .masks-len);
+  gains-fit = omega (arith, f .gains-fit, s .of-gains .gains-len);
+  weights-fit = f .weights-fit;
+  few = f .few;
+  few-nets = f .few-nets;
+  few-vertices = f .few-vertices;
+  weight = f .weight;
+}
+
 pub kept-step : {e b v m k : ℕ} {cs cs′ vs vs′ : List ℕ} → e < m → b ≤ k → k ≤ 16 → Step e b v cs cs′ vs vs′ → KeptTally m k cs cs′ vs vs′
 kept-step {e} {b} {v} {m} {k} {cs} {cs′} {vs} {vs′} he hb few s = by b refl
   where

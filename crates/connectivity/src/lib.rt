@@ -13,7 +13,7 @@ ghost use Rattle.connectivity.specs.Row.{row};
 ghost use Rattle.connectivity.specs.Laid.{Laid, given, signed};
 ghost use Rattle.connectivity.specs.Set.{Sets, Set};
 ghost use Rattle.connectivity.specs.Touch.{Room, One, But, Amount, Touches, Others, Delta};
-ghost use Rattle.connectivity.specs.Fast.{CountAt, OwnRow};
+ghost use Rattle.connectivity.specs.Steps.{CountAt, OwnRow};
 use counts::arrive;
 use counts::depart;
 use shares::add_at;

@@ -5,7 +5,7 @@ use mathlib.Core.Path.{_≡_, refl, _∙_}
 use mathlib.Core.List.{List}
 use Rattle.connectivity.specs.Matrix.{Kept}
 use Rattle.pins.specs.Board.{KeptLists}
-use Rattle.levels.specs.World.{kept-none, kept-trans}
+use Rattle.connectivity.specs.Set.{kept-none, kept-trans}
 use Rattle.calls.specs.Tables.{Tables, Past, Keeps}
 use Rattle.calls.specs.Move.{past-same}
 

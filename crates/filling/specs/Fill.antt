@@ -15,8 +15,8 @@ use Rattle.connectivity.specs.Row.{row, row-none, row-here, row-there, row-not,
 use Rattle.connectivity.specs.Laid.{Net}
 use Rattle.connectivity.specs.Law.{stands-ext}
 use Rattle.connectivity.specs.Empty.{Blank, stands-empty}
-use Rattle.connectivity.specs.Set.{Frame, Seen, Sets, Set}
-use Rattle.levels.specs.World.{mat, Lists, World, kept-none, kept-trans, frame-kept}
+use Rattle.connectivity.specs.Set.{Frame, Seen, Sets, Set, kept-none, kept-trans, frame-kept}
+use Rattle.levels.specs.World.{mat, Lists, World}
 use Rattle.levels.specs.ContractNet.{setRow, setRow-here, setRow-there}
 
 -- ---- one net
@@ -40,6 +40,10 @@ pub record FilledNet (weights pins blocks : List ℕ) (n m k first i e : ℕ) (b
   pub marked : (x : ℕ) → x < n → on bits′ x e ≡ one (has pins first i x)
   pub elsewhere : (x d : ℕ) → d < 1024 → (d ≡ e → ⊥) → on bits′ x d ≡ on bits x d
   pub bits-len : length bits′ ≡ length bits
+
+pub filled-all : {weights pins blocks : List ℕ} {n m k first i p e : ℕ} {bits bits′ cs cs′ vs vs′ : List ℕ} {g g′ : List ℤ} → i ≡ p →
+    FilledNet weights pins blocks n m k first i e bits bits′ cs cs′ vs vs′ g g′ → FilledNet weights pins blocks n m k first p e bits bits′ cs cs′ vs vs′ g g′
+filled-all q c = rw (← q) c
 
 module _ {weights cs₀ vs₀ pins blocks bits₀ : List ℕ} {g₀ : List ℤ} {n m k first p e : ℕ} (o : FillsNet weights cs₀ vs₀ pins blocks bits₀ g₀ n m k first p e) where
   pub filled-none : FilledNet weights pins blocks n m k first 0 e bits₀ bits₀ cs₀ cs₀ vs₀ vs₀ g₀ g₀

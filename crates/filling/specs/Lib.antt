@@ -1,5 +1,9 @@
--- The tables after loading.
--- Fill  each net counts its pins
--- Load  filled tables follow a fresh machine
+-- The running tables after loading.
+-- Clear    entries in use made 0
+-- Fill     each net counts its pins
+-- Prepare  both, one after the other
+-- Load     prepared tables follow a fresh machine
+pub mod Clear
 pub mod Fill
+pub mod Prepare
 pub mod Load

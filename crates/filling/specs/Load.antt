@@ -1,4 +1,4 @@
--- Filled tables follow a fresh machine. Rests on Fill and on levels' Running.
+-- Prepared tables follow a fresh machine. Rests on Prepare and on levels' Running.
 use Prim.Native.Nat.{ℕ, _+_, _<_}
 use mathlib.Core.Path.{_≡_, refl, ap, _∙_}
 use mathlib.Core.List.{List, []}
@@ -12,7 +12,7 @@ use Rattle.incidence.specs.On.{on}
 use Rattle.pins.specs.Stack.{loadedPin}
 use Rattle.pins.specs.Board.{Room, board-loaded, room-kept}
 use Rattle.levels.specs.Running.{running, Follows, netAt}
-use Rattle.filling.specs.Fill.{Filled}
+use Rattle.filling.specs.Prepare.{Prepared}
 
 -- the loader's tables are those of the catalogue: each loaded pin stands once in its net's stretch
 pub record Loaded (h : Hypergraph) (block : ℕ → ℕ) (weights pins blocks firsts sizes : List ℕ) (n m k : ℕ) : Type 0 where
@@ -23,10 +23,10 @@ pub record Loaded (h : Hypergraph) (block : ℕ → ℕ) (weights pins blocks fi
   pub weighs : (e : ℕ) → e < m → getD weights e 0 ≡ netAt h e .weight
   pub sits : (y : ℕ) → y < n → getD blocks y 0 ≡ block (y + 1)
 
-pub filled-follows : {h : Hypergraph} {block : ℕ → ℕ} {weights pins blocks firsts sizes bits bits′ cs cs′ vs vs′ : List ℕ} {g g′ : List ℤ} {n m k : ℕ} →
-    Loaded h block weights pins blocks firsts sizes n m k → Room pins firsts sizes sizes bits n m → Filled weights pins blocks firsts sizes n m k bits bits′ cs cs′ vs vs′ g g′ →
+pub prepared-follows : {h : Hypergraph} {block : ℕ → ℕ} {weights pins blocks firsts sizes bits bits′ cs cs′ vs vs′ : List ℕ} {g g′ : List ℤ} {n m k : ℕ} →
+    Loaded h block weights pins blocks firsts sizes n m k → Room pins firsts sizes sizes bits n m → Prepared weights pins blocks firsts sizes n m k bits bits′ cs cs′ vs vs′ g g′ →
     Follows h [] block sizes (running cs′ vs′ g′ pins sizes bits′ blocks weights firsts) n m k
-filled-follows {h} {pins = pins} {firsts = firsts} {sizes = sizes} {bits′ = bits′} {n = n} {m = m} w ro t = record {
+prepared-follows {h} {pins = pins} {firsts = firsts} {sizes = sizes} {bits′ = bits′} {n = n} {m = m} w ro t = record {
   says = record {
     sound = tt;
     board = board-loaded (λ e. loadedPin (netAt h e)) pins firsts sizes bits′ n m (w .listed) marked;

@@ -1,8 +1,13 @@
 // The running tables filled after loading, when the pin lists are as loaded and no contraction stands.
+mod clear;
 
 ghost use Prim.Native.Nat.{ℕ, _+_, _<_};
 ghost use mathlib.Core.Path.{_≡_};
 ghost use Rattle.filling.specs.Fill.{FillsNet, FilledNet, Fills, Filled};
+ghost use Rattle.filling.specs.Prepare.{Prepares, Prepared};
+use clear::clear_counts;
+use clear::clear_gains;
+use clear::clear_row;
 use connectivity::set_pin;
 use incidence::put;
 
@@ -59,7 +64,7 @@ fn fill_net(
 }
 
 // Counts the pins of every net. Counts, connectivity sets, gains and bits are blank before.
-pub fn fill(
+fn fill(
     counts: &mut [u16],
     visited: &mut [u16],
     gains: &mut [i32],
@@ -97,4 +102,41 @@ pub fn fill(
         );
         e += 1;
     }
+}
+
+// Makes the entries in use what the pin lists and the blocks say, whatever they held. The bitset is blank before.
+pub fn prepare(
+    counts: &mut [u16],
+    visited: &mut [u16],
+    gains: &mut [i32],
+    bits: &mut [u64],
+    weights: &[u16],
+    pins: &[u16],
+    blocks: &[u16],
+    firsts: &[u16],
+    sizes: &[u16],
+    n: usize,
+    m: usize,
+    k: usize,
+)
+    requires { ⌜ Prepares (now weights) (now counts) (now visited) (now pins) (now blocks) (now firsts) (now sizes) (now bits) (now gains) n m k ⌝ }
+    ensures { λ _. ⌜ Prepared (now (weights .entry)) (now (pins .entry)) (now (blocks .entry)) (now (firsts .entry)) (now (sizes .entry)) n m k (now (bits .entry)) (now (bits .exit)) (now (counts .entry)) (now (counts .exit)) (now (visited .entry)) (now (visited .exit)) (now (gains .entry)) (now (gains .exit)) ⌝ }
+{
+    clear_counts(counts, m, k);
+    clear_row(visited, 0, m);
+    clear_gains(gains, n, k);
+    fill(
+        counts,
+        visited,
+        gains,
+        bits,
+        weights,
+        pins,
+        blocks,
+        firsts,
+        sizes,
+        n,
+        m,
+        k,
+    );
 }

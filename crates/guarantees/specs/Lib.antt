@@ -47,3 +47,4 @@ pub mod Stretches
 pub mod ReportFits
 pub mod Refusals
 pub mod MachineHalf
+pub mod Distinct

@@ -5,15 +5,15 @@ use Prim.Native.Nat.{ℕ, _≤_}
 use native.Mathlib.Decide.{ℕ-discrete}
 use native.Mathlib.Omega.{arith}
 use mathlib.Core.Path.{_≡_, refl, sym, ap, _∙_}
-use mathlib.Core.Bool.{Bool, cond}
+use mathlib.Core.Bool.{Bool, true, cond, _&&_}
 use mathlib.Core.List.{List, [], _∷_}
 use borrow.Author.Tests.{eq-eqb, ne-eqb}
 use lib.Dec.{eqb}
 use Rattle.laws.specs.Fold.{any, any-ext}
-use Rattle.laws.specs.Sum.{sumTo-change, sumTo-nil}
+use Rattle.laws.specs.Sum.{sumTo-change, sumTo-nil, sumTo, sumTo-ext}
 use Rattle.laws.specs.Place.{place, place-at, place-off, place-back, place-twice, place-same}
 use Rattle.model.specs.Catalogue.{Net, Hypergraph, vertices, loaded}
-use Rattle.model.specs.Measure.{Contraction, above, climb, representative, pin, weight, blockWeight, metric}
+use Rattle.model.specs.Measure.{Contraction, above, climb, representative, pin, weight, blockWeight, metric, onBoard}
 use Rattle.model.specs.Machine.{uncontract}
 use Rattle.guarantees.specs.Climbs.{Joins, Sound, above-gone, above-other}
 use Rattle.guarantees.specs.Joins.{metric-join}
@@ -106,3 +106,17 @@ weight-none h v l u = omega (
   sumTo-nil (vertices h) (λ x. 0) (λ i _ _. refl),
   ap (λ (b : Bool). cond b (loaded h v) 0) (eq-eqb (representative [] v) v (representative-none v)),
 )
+
+pub above-none : (v : ℕ) → above [] v ≡ 0
+unfolding above
+above-none v = refl
+
+pub board-none : (v : ℕ) → onBoard [] v ≡ true
+unfolding above
+board-none v = refl
+
+-- a block's weight is the sum of its vertices' loaded weights
+pub blockWeight-none : (h : Hypergraph) (p : ℕ → ℕ) (b : ℕ) → blockWeight h [] p b ≡ sumTo (vertices h) (λ u. cond (eqb (p u) b) (loaded h u) 0)
+unfolding blockWeight
+blockWeight-none h p b = sumTo-ext (vertices h) _ _ (λ u l k.
+    ap (λ (t : Bool). cond (t && eqb (p u) b) (weight h [] u) 0) (board-none u) ∙ ap (λ (w : ℕ). cond (eqb (p u) b) w 0) (weight-none h u l k))

@@ -2,10 +2,10 @@
 -- Below n: sum-zero, sum-suc, sum-step, sum-front, sum-ext, sum-change, sum-add, sum-split, sum-mono, sum-mul, sum-const, sum-nil, sum-skip, term-le, sum-swap;
 --   count-le, count-change
 -- Over 1..n: sumTo-ext, sumTo-change, sumTo-change2, sumTo-add, sumTo-nil, sumTo-term, sumTo-two, sumTo-mono, sumTo-const, sumTo-swap, sumTo-once,
---   sumTo-suc, sumTo-prefix, countTo-le, countTo-full; foldTo-zero, foldTo-step, foldTo-ext, foldTo-skip
+--   sumTo-suc, sumTo-prefix, countTo-le, countTo-full; foldTo-zero, foldTo-step, foldTo-ext, foldTo-skip, foldTo-none, foldTo-more, foldTo-found
 -- Both: sum-sumTo · over a list's places: sum-list, sumTo-list
 use mathlib.Core.Path.{_≡_, refl, sym, ap, ap₂, _∙_}
-use mathlib.Core.Bool.{Bool, true, cond}
+use mathlib.Core.Bool.{Bool, true, false, cond, _||_}
 use Prim.Native.Nat.{ℕ, zero, suc, _+_, _-_, _*_, _≤_, _<_}
 use native.Mathlib.Nat.{add-zero, add-suc, suc-mul, mul-add, zero-mul, mul-zero}
 use native.Mathlib.Numerals.{add-one}
@@ -281,3 +281,25 @@ foldTo-skip m (suc n) f b l h = go (foldTo-skip m n f b) (ℕ-discrete m (suc n)
     go : (m ≤ n → ((c : _) (i : ℕ) → m < i → i ≤ n → f c i ≡ c) → foldTo n f b ≡ foldTo m f b) → Dec (m ≡ suc n) → foldTo (suc n) f b ≡ foldTo m f b
     go ih (yes e) = ap (λ (k : ℕ). foldTo k f b) (sym e)
     go ih (no ne) = h (foldTo n f b) (suc n) (omega arith) (omega arith) ∙ ih (omega arith) (λ c i p q. h c i p (omega arith))
+
+-- ---- a test of 1..n, one number after another
+pub foldTo-none : (f : ℕ → Bool) → foldTo 0 (λ b s. b || f s) false ≡ false
+unfolding foldTo
+foldTo-none f = refl
+
+pub foldTo-more : (n : ℕ) (f : ℕ → Bool) → foldTo n (λ b s. b || f s) false ≡ false → f (suc n) ≡ false → foldTo (suc n) (λ b s. b || f s) false ≡ false
+unfolding foldTo
+foldTo-more n f e o = ap (λ (b : Bool). b || f (suc n)) e ∙ o
+
+pub foldTo-found : (n i : ℕ) (f : ℕ → Bool) → 1 ≤ i → i ≤ n → f i ≡ true → foldTo n (λ b s. b || f s) false ≡ true
+unfolding foldTo
+foldTo-found zero i f l u e = absurd (omega arith)
+foldTo-found (suc n) i f l u e = go (foldTo n (λ b s. b || f s) false) (foldTo-found n i f l) (ℕ-discrete i (suc n))
+  where
+    either : (b : Bool) → (b || true) ≡ true
+    either true = refl
+    either false = refl
+
+    go : (b : Bool) → (i ≤ n → f i ≡ true → b ≡ true) → Dec (i ≡ suc n) → (b || f (suc n)) ≡ true
+    go b ih (yes q) = ap (λ (t : Bool). b || t) (ap f (sym q) ∙ e) ∙ either b
+    go b ih (no m) = ap (λ (t : Bool). t || f (suc n)) (ih (omega arith) e)

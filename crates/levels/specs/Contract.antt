@@ -19,7 +19,8 @@ use Rattle.connectivity.specs.Matrix.{Kept}
 use Rattle.connectivity.specs.Row.{row, row-by}
 use Rattle.connectivity.specs.Laid.{Net, net-ext}
 use Rattle.connectivity.specs.Law.{stands-ext}
-use Rattle.levels.specs.World.{mat, World, frame-kept, kept-trans, kept-none}
+use Rattle.connectivity.specs.Set.{frame-kept, kept-trans, kept-none}
+use Rattle.levels.specs.World.{mat, World}
 use Rattle.levels.specs.ContractNet.{setRow, setRow-here, setRow-there, ContractNetNeeds, ContractNetDoes}
 use Rattle.pins.specs.Stack.{row as stackRow, present-on, row-into, row-other, one-or}
 use Rattle.pins.specs.Stretch.{Stretch, stretch-ext, stretch-in, skip-on, stretch-contract}

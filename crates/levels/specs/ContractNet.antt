@@ -21,8 +21,7 @@ use Rattle.connectivity.specs.Matrix.{setPin, Stands, Kept}
 use Rattle.connectivity.specs.Row.{row, row-yes, row-no, row-by, setPin-here, setPin-there}
 use Rattle.connectivity.specs.Laid.{Net}
 use Rattle.connectivity.specs.Law.{stands-ext}
-use Rattle.connectivity.specs.Set.{Frame, Seen, Sets, Set}
-use Rattle.levels.specs.World.{frame-kept, kept-trans}
+use Rattle.connectivity.specs.Set.{Frame, Seen, Sets, Set, frame-kept, kept-trans}
 
 -- the matrix with the row `r` for the net `e`
 unfoldable pub setRow : (ℕ → ℕ → ℕ) → ℕ → (ℕ → ℕ) → ℕ → ℕ → ℕ

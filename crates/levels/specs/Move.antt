@@ -18,8 +18,8 @@ use Rattle.connectivity.specs.Matrix.{setPin, Stands, Kept}
 use Rattle.connectivity.specs.Row.{row, row-yes, row-no, row-set, setPin-here, setPin-there}
 use Rattle.connectivity.specs.Laid.{Net}
 use Rattle.connectivity.specs.Law.{stands-ext}
-use Rattle.connectivity.specs.Set.{Seen, Sets, Set}
-use Rattle.levels.specs.World.{mat, World, kept-none, kept-trans, frame-kept}
+use Rattle.connectivity.specs.Set.{Seen, Sets, Set, kept-none, kept-trans, frame-kept}
+use Rattle.levels.specs.World.{mat, World}
 
 -- what the loop needs: the bitset tells the nets of u
 pub record Moves (weights counts visited pins blocks firsts sizes bits : List ℕ) (gains : List ℤ) (n m k u t : ℕ) : Type 0 where

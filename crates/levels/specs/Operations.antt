@@ -46,7 +46,7 @@ gone-off : (h : Hypergraph) {cs : List Contraction} {pins firsts sizes loaded bi
 gone-off h {cs} {pins} {firsts} {sizes} u v j b e l = has-no pins (getD firsts e 0) (getD sizes e 0) v (b .nets e l .pins (v + 1) ∙ present-gone (loadedPin (netAt h e)) cs (join u v) j)
 
 -- ---- a move: the machine's M, and B with the block that was left
-
+-- what `move_vertex` needs: the tables follow some state of the machine in which u is on the board
 pub record MoveNeeds (T : Running) (n m k u t : ℕ) : Type 0 where
   pub h : Hypergraph
   pub cs : List Contraction
@@ -57,6 +57,7 @@ pub record MoveNeeds (T : Running) (n m k u t : ℕ) : Type 0 where
   pub u-in : u < n
   pub t-in : (1 ≤ t) × (t ≤ k)
 
+-- what it does: whatever state the tables followed, they follow it with u in the block t
 pub record MoveDoes (T T′ : Running) (n m k u t : ℕ) : Type 0 where
   pub follows : (h : Hypergraph) (cs : List Contraction) (block : ℕ → ℕ) (loaded : List ℕ) → Follows h cs block loaded T n m k → Follows h cs (place block (u + 1) t) loaded T′ n m k
   pub untouched : (loaded : List ℕ) → Untouched loaded n m k T T′
@@ -96,7 +97,7 @@ move-does {T} {u = u} {t = t} o d = record {
 }
 
 -- ---- a contraction: the machine's J
-
+-- what `contract` needs: the tables follow some state in which u and v are on the board, in one block
 pub record ContractNeeds (T : Running) (n m k u v : ℕ) : Type 0 where
   pub h : Hypergraph
   pub cs : List Contraction
@@ -108,6 +109,7 @@ pub record ContractNeeds (T : Running) (n m k u v : ℕ) : Type 0 where
   pub u-in : u < n
   pub v-in : v < n
 
+-- what it does: whatever state the tables followed, they follow it with (u, v) on the stack and v in no block
 pub record ContractDoes (T T′ : Running) (n m k u v : ℕ) : Type 0 where
   pub follows : (h : Hypergraph) (cs : List Contraction) (block : ℕ → ℕ) (loaded : List ℕ) → Joins cs (join u v) → Follows h cs block loaded T n m k →
       Follows h (join u v ∷ cs) (place block (v + 1) 0) loaded T′ n m k
@@ -157,7 +159,7 @@ contract-does {T} {u = u} {v = v} o t = record {
     fit = omega (arith, o .v-in, o .follows .world .lists .blocks-fit)
 
 -- ---- its undo: the machine's S
-
+-- what `uncontract` needs: the tables follow some state whose latest contraction is (u, v)
 pub record UncontractNeeds (loaded : List ℕ) (T : Running) (n m k u v : ℕ) : Type 0 where
   pub h : Hypergraph
   pub cs : List Contraction
@@ -166,6 +168,7 @@ pub record UncontractNeeds (loaded : List ℕ) (T : Running) (n m k u v : ℕ) :
   pub u-in : u < n
   pub v-in : v < n
 
+-- what it does: whatever state the tables followed, they follow it with that contraction undone
 pub record UncontractDoes (loaded : List ℕ) (T T′ : Running) (n m k u v : ℕ) : Type 0 where
   pub follows : (h : Hypergraph) (cs : List Contraction) (block : ℕ → ℕ) → Follows h (join u v ∷ cs) block loaded T n m k → Follows h cs (uncontract block (join u v)) loaded T′ n m k
   pub untouched : Untouched loaded n m k T T′

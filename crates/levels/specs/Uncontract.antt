@@ -14,7 +14,8 @@ use Rattle.connectivity.specs.Matrix.{Kept}
 use Rattle.connectivity.specs.Row.{row, row-by}
 use Rattle.connectivity.specs.Laid.{Net, net-ext}
 use Rattle.connectivity.specs.Law.{stands-ext}
-use Rattle.levels.specs.World.{mat, World, frame-kept, kept-trans, kept-none}
+use Rattle.connectivity.specs.Set.{frame-kept, kept-trans, kept-none}
+use Rattle.levels.specs.World.{mat, World}
 use Rattle.levels.specs.ContractNet.{setRow, setRow-here, setRow-there}
 use Rattle.pins.specs.Uncontract.{Uncontracts, Uncontracting, Uncontracted, uncontract-none, uncontract-splits, uncontract-more, uncontract-done}
 use Rattle.levels.specs.SplitNet.{SplitNetNeeds, SplitNetDoes}

@@ -1,6 +1,6 @@
--- The matrix that the pin lists and the blocks give, the tables that stand for it, and changes of them one after another. Rests on connectivity's Set.
+-- The matrix that the pin lists and the blocks give, and the tables that stand for it. Rests on connectivity's Set.
 use Prim.Native.Nat.{ℕ, _+_, _-_, _<_, _≤_}
-use mathlib.Core.Path.{_≡_, refl, sym, _∙_}
+use mathlib.Core.Path.{_≡_, sym, _∙_}
 use mathlib.Core.Bool.{true, false}
 use mathlib.Core.List.{List}
 use native.Mathlib.Omega.{arith}
@@ -9,11 +9,11 @@ use lib.ListN.{length, getD, set, length-set}
 use lib.Seq.{getD-set-other}
 use lib.IntN.{ℤ}
 use Rattle.connectivity.specs.Listed.{has, in-has, vertexAt}
-use Rattle.connectivity.specs.Matrix.{Stands, Kept}
+use Rattle.connectivity.specs.Matrix.{Stands}
 use Rattle.connectivity.specs.Row.{row, row-no, row-set}
 use Rattle.connectivity.specs.Laid.{Net}
 use Rattle.connectivity.specs.Law.{stands-ext}
-use Rattle.connectivity.specs.Set.{Frame, kept-tally-trans, kept-gains-trans}
+use Rattle.connectivity.specs.Set.{Frame}
 
 -- the net `e` has the `sizes e` pins from `firsts e`, each in the block that `blocks` has
 abbrev pub mat : List ℕ → List ℕ → List ℕ → List ℕ → ℕ → ℕ → ℕ
@@ -30,28 +30,6 @@ pub record World (weights counts visited pins blocks firsts sizes : List ℕ) (g
   pub stands : Stands (mat pins blocks firsts sizes) n m k weights counts visited gains
   pub frame : Frame weights counts visited gains n m k
   pub lists : Lists pins blocks firsts sizes n m k
-
--- ---- changes one after another
-pub kept-none : {n m k : ℕ} (cs vs : List ℕ) (g : List ℤ) → Kept n m k cs cs vs vs g g
-kept-none cs vs g = record {
-  of-tally = record { counts-len = refl; masks-len = refl; counts-past = λ d j l u. refl; counts-over = λ i l. refl; masks-past = λ d j l. refl; masks-over = λ d l. refl };
-  of-gains = record { gains-len = refl; gains-past = λ y j l u. refl; gains-over = λ y j l u. refl };
-}
-
-pub kept-trans : {n m k : ℕ} {cs cs₁ cs₂ vs vs₁ vs₂ : List ℕ} {g g₁ g₂ : List ℤ} → Kept n m k cs cs₁ vs vs₁ g g₁ → Kept n m k cs₁ cs₂ vs₁ vs₂ g₁ g₂ → Kept n m k cs cs₂ vs vs₂ g g₂
-kept-trans s t = record { of-tally = kept-tally-trans (s .of-tally) (t .of-tally); of-gains = kept-gains-trans (s .of-gains) (t .of-gains) }
-
-pub frame-kept : {weights cs cs′ vs vs′ : List ℕ} {g g′ : List ℤ} {n m k : ℕ} → Frame weights cs vs g n m k → Kept n m k cs cs′ vs vs′ g g′ → Frame weights cs′ vs′ g′ n m k
-frame-kept f s = record {
-  counts-fit = omega (arith, f .counts-fit, s .of-tally .counts-len);
-  masks-fit = omega (arith, f .masks-fit, s .of-tally .masks-len);
-  gains-fit = omega (arith, f .gains-fit, s .of-gains .gains-len);
-  weights-fit = f .weights-fit;
-  few = f .few;
-  few-nets = f .few-nets;
-  few-vertices = f .few-vertices;
-  weight = f .weight;
-}
 
 -- the block of a vertex that is a pin of no net may be stored
 pub world-set : {weights cs vs pins blocks firsts sizes : List ℕ} {g : List ℤ} {n m k : ℕ} (v s : ℕ) → ((e : ℕ) → e < m → has pins (getD firsts e 0) (getD sizes e 0) v ≡ false) →

@@ -1,14 +1,14 @@
 -- Laws of the digits of a number, and of a list that is written into. Rests on model's `digits`.
-use Prim.Native.Nat.{ℕ, zero, suc, _+_, _-_, _*_, _/_, _%_, _≤_, _<_}
+use Prim.Native.Nat.{ℕ, zero, suc, _+_, _-_, _/_, _%_, _≤_, _<_}
 use mathlib.Core.Path.{_≡_, refl, ap, sym, _∙_}
 use mathlib.Core.List.{List, [], _∷_, _++_, append-assoc}
 use mathlib.Core.Bool.{Bool, true, false}
 use native.Mathlib.Omega.{arith}
-use lib.ListN.{length, take, drop, set, getD, length-append, length-set, length-drop}
+use lib.ListN.{length, take, drop, set, getD, length-append, length-drop}
 use lib.Seq.{set-split, append-snoc, set-at, drop-cons, length-take-le, take-suc-set, drop-set-lt}
 use native.Mathlib.Numerals.{add-one}
 use lib.Dec.{ltb}
-use borrow.Author.Tests.{lt-ltb, le-ltb, ltb-true, ltb-false}
+use borrow.Author.Tests.{lt-ltb, le-ltb, ltb-false}
 use Rattle.model.specs.Report.{digits, digitsOf}
 use Rattle.text.specs.Output.{written}
 

@@ -12,8 +12,7 @@ use borrow.Author.Tests.{ltb-true, ltb-false, eq-eqb, ne-eqb}
 use Rattle.laws.specs.Fold.{all}
 use Rattle.laws.specs.Choice.{and-left, and-right}
 use Rattle.model.specs.Grammar.{Fields, same, parts, isNumber, value, fields, bytes, isLine, isLineOf}
-use Rattle.text.specs.Field.{first, FirstAt, readOf, counted, formOf, Numbered, Third}
-use Rattle.text.specs.declared.Read.{Read}
+use Rattle.text.specs.Field.{FirstAt, readOf, counted, formOf, Numbered, Third}
 use Rattle.text.specs.declared.Read.the-variants.{Whole, Not}
 use Rattle.text.proofs.Walk.{fields-on, fields-one, whole-cases, not-cases, parts-some}
 

@@ -8,8 +8,8 @@ use native.Mathlib.Numerals.{add-one}
 use native.Mathlib.Nat.{zero-add, suc-add, pow-suc, one-le-pow, pow-le-pow-right, lt-of-lt-of-le, le-pred-of-lt}
 use lib.ListN.{length, getD, take, drop}
 use lib.Seq.{slice, slice-cons, slice-empty, length-slice, take-nil, take-take, drop-drop}
-use lib.Dec.{eqb, leb, ltb}
-use borrow.Author.Tests.{eq-eqb, ne-eqb, le-leb, lt-leb, lt-ltb, le-ltb}
+use lib.Dec.{eqb, leb}
+use borrow.Author.Tests.{eq-eqb, ne-eqb, le-leb, lt-leb, lt-ltb}
 use Rattle.laws.specs.Fold.{all}
 use Rattle.model.specs.Grammar.{onto, parts, isDigit, isNumber, onward, value, leadingZero}
 use Rattle.text.specs.Field.{first, readOf}

@@ -1,6 +1,6 @@
 -- Text written into a buffer, and a number's sign. Rests on model's digits. Assumes nothing.
 use Prim.Native.Nat.{ℕ, _+_}
-use mathlib.Core.List.{List, [], _∷_, _++_}
+use mathlib.Core.List.{List, _++_}
 use lib.IntN.{ℤ, pos, negsuc}
 use lib.ListN.{length, take, drop}
 use Rattle.text.specs.declared.Sign.{Sign}

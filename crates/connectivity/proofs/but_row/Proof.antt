@@ -1,3 +1,4 @@
+-- `but_row`: the first j entries are shifted, or nothing where the count is not critical or the block another.
 use Prim.Native.Nat.{ℕ, _≤_, _-_, _*_}
 use lib.IntN.{pos}
 use native.Mathlib.Omega.{arith}

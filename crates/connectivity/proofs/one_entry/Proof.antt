@@ -1,3 +1,4 @@
+-- `one_entry`: one store, or nothing where the count is not critical.
 use Prim.Native.Nat.{_≤_, _-_}
 use native.Mathlib.Omega.{arith}
 use mathlib.Core.Path.{_≡_, refl, sym, _∙_, ap}

@@ -1,9 +1,10 @@
+-- `set_pin` by the steps of Steps: the row of x, the counts, the other pins, the row of x again.
 use native.Mathlib.Omega.{arith}
 use mathlib.Core.Path.{_≡_, refl, sym, _∙_, ap}
 use denote.Ref.{now}
 use borrow.Author.Needs.{needs}
 use Rattle.connectivity.specs.Set.{set-depart, set-arrive}
-use Rattle.connectivity.specs.Fast.{fast-same, fast-own, fast-others, fast-own-2, fast-done}
+use Rattle.connectivity.specs.Steps.{set-same, set-own, set-others, set-own-2, set-done}
 use Rattle.connectivity.proofs.set_pin.Statement.{statement}
 use Rattle.connectivity.proofs.set_pin.Tie as tie
 use Rattle.connectivity.proofs.set_pin.Reads as reads
@@ -15,7 +16,7 @@ use Rattle.connectivity.proofs.counts.arrive.Reads as arrive-reads
 use Rattle.connectivity.proofs.counts.depart.Reads as depart-reads
 
 returns : tie.Need-returns
-returns c = fast-same (c .before .before .before .before .before .before .pre) (c .if1 .taken)
+returns c = set-same (c .before .before .before .before .before .before .pre) (c .if1 .taken)
 
 mul-w : tie.Need-mul-w
 mul-w c = search needs
@@ -34,7 +35,7 @@ own-row-requires c κs =
     let C₂ = c .before .before in
     let C₁ = C₂ .before .before in
     let E = C₁ .before .before .before in
-    fast-own (E .before .before .before .before .before .before .pre) refl (E .if1 .left) (C₁ .count-at .ensures) (C₂ .count-at2 .ensures)
+    set-own (E .before .before .before .before .before .before .pre) refl (E .if1 .left) (C₁ .count-at .ensures) (C₂ .count-at2 .ensures)
 
 depart-requires : tie.Need-depart-requires
 depart-requires c κs =
@@ -57,7 +58,7 @@ touch-others-requires c κs =
     let C₂ = O .before .before .before in
     let C₁ = C₂ .before .before in
     let E = C₁ .before .before .before in
-    fast-others (E .before .before .before .before .before .before .pre) refl (E .if1 .left) (C₁ .count-at .ensures) (C₂ .count-at2 .ensures) (O .own-row .ensures)
+    set-others (E .before .before .before .before .before .before .pre) refl (E .if1 .left) (C₁ .count-at .ensures) (C₂ .count-at2 .ensures) (O .own-row .ensures)
 
 own-row-requires-2 : tie.Need-own-row-requires-2
 own-row-requires-2 c κs =
@@ -68,7 +69,7 @@ own-row-requires-2 c κs =
     let C₂ = O .before .before .before in
     let C₁ = C₂ .before .before in
     let E = C₁ .before .before .before in
-    fast-own-2 (E .before .before .before .before .before .before .pre) refl (E .if1 .left) (C₁ .count-at .ensures) (C₂ .count-at2 .ensures) (O .own-row .ensures) (D .depart .ensures) (A .arrive .ensures) (T .touch-others .ensures)
+    set-own-2 (E .before .before .before .before .before .before .pre) refl (E .if1 .left) (C₁ .count-at .ensures) (C₂ .count-at2 .ensures) (O .own-row .ensures) (D .depart .ensures) (A .arrive .ensures) (T .touch-others .ensures)
 
 same-length : tie.Need-same-length
 same-length c = search needs
@@ -89,7 +90,7 @@ returns-2 c =
     let C₂ = O .before .before .before in
     let C₁ = C₂ .before .before in
     let E = C₁ .before .before .before in
-    fast-done (E .before .before .before .before .before .before .pre) refl (E .if1 .left) (C₁ .count-at .ensures) (C₂ .count-at2 .ensures) (O .own-row .ensures) (D .depart .ensures) (A .arrive .ensures) (T .touch-others .ensures) (P .own-row2 .ensures)
+    set-done (E .before .before .before .before .before .before .pre) refl (E .if1 .left) (C₁ .count-at .ensures) (C₂ .count-at2 .ensures) (O .own-row .ensures) (D .depart .ensures) (A .arrive .ensures) (T .touch-others .ensures) (P .own-row2 .ensures)
 
 pub set-pin-spec : {M : Type 1} → statement M
 set-pin-spec =

@@ -1,3 +1,4 @@
+-- `shift_at`: the sign chooses between adding and taking.
 use lib.IntN.{pos}
 use native.Mathlib.Omega.{arith}
 use mathlib.Core.Path.{_≡_, refl, sym, _∙_, ap}

@@ -1,3 +1,4 @@
+-- `touch`: the four rules add up to Change's `delta`.
 use native.Mathlib.Omega.{arith}
 use mathlib.Core.Path.{_≡_, refl, sym, _∙_, ap}
 use denote.Ref.{now}

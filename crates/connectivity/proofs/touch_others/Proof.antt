@@ -1,3 +1,4 @@
+-- `touch_others`: the first i pins of the stretch, but x, have had their change.
 use Prim.Native.Nat.{_≤_, _-_}
 use mathlib.Core.Logic.{⊎-elim}
 use native.Mathlib.Omega.{arith}

@@ -1,3 +1,4 @@
+-- `copy_or`: the first k words of the row are joined.
 use Prim.Native.Nat.{_+_, _*_, _-_, _≤_}
 use lib.ListN.{length}
 use native.Mathlib.Omega.{arith}

@@ -1,3 +1,4 @@
+-- `lowest` is what `trailing_zeros` counts.
 use native.Mathlib.Omega.{arith}
 use mathlib.Core.Path.{_≡_, sym, _∙_, ap}
 use denote.Ref.{now}

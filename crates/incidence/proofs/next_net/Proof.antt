@@ -1,3 +1,4 @@
+-- `next_net`: no net of x lies between `from` and the words passed so far.
 use Prim.Native.Nat.{_+_, _*_, _/_, _-_, _≤_}
 use lib.ListN.{length}
 use native.Mathlib.Omega.{arith}

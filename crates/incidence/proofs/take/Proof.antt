@@ -1,3 +1,4 @@
+-- `take` clears one bit: Word's `clear-law`, carried to the whole bitset by `changed`.
 use Prim.Native.Nat.{_%_}
 use native.Mathlib.Omega.{arith}
 use mathlib.Core.Path.{_≡_, sym, _∙_, ap}

@@ -1,3 +1,4 @@
+-- `contract`: v's block is stored once v is a pin of no net.
 use native.Mathlib.Omega.{arith}
 use mathlib.Core.Path.{_≡_, sym, _∙_, ap}
 use denote.Ref.{now}

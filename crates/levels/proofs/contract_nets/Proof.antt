@@ -1,3 +1,4 @@
+-- `contract_nets`: the nets below e are contracted, and the incidence follows at the end.
 use Prim.Native.Nat.{_≤_, _<_, _-_}
 use native.Mathlib.Omega.{arith}
 use mathlib.Core.Path.{_≡_, sym, _∙_, ap}

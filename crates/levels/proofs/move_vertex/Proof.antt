@@ -1,3 +1,4 @@
+-- `move_vertex`: the nets below e have seen the move.
 use Prim.Native.Nat.{_≤_, _<_, _-_}
 use native.Mathlib.Omega.{arith}
 use mathlib.Core.Path.{_≡_, sym, _∙_, ap}

@@ -1,3 +1,4 @@
+-- `uncontract`: v's block is stored while v is a pin of no net.
 use mathlib.Core.Path.{refl, _≡_, sym, _∙_, ap}
 use native.Mathlib.Omega.{arith}
 use denote.Ref.{now}

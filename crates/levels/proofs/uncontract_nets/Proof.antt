@@ -1,3 +1,4 @@
+-- `uncontract_nets`: the nets below e are split.
 use Prim.Native.Nat.{_≤_, _<_, _-_}
 use native.Mathlib.Omega.{arith}
 use mathlib.Core.Path.{_≡_, sym, _∙_, ap}

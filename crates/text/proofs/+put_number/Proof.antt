@@ -2,11 +2,9 @@
 use Prim.Native.Nat.{_+_, _/_, _%_}
 use lib.ListN.{length-set}
 use Rattle.model.specs.Report.{digits}
-use Rattle.text.proofs.Digits.{length-small, length-more, digits-small, digits-more, written-one, written-more, length-written}
+use Rattle.text.proofs.Digits.{length-small, length-more, digits-small, digits-more, written-one, written-more}
 use native.Mathlib.Omega.{arith}
-use mathlib.Core.Path.{_≡_, sym, _∙_, ap}
 use denote.Ref.{now}
-use borrow.Author.Needs.{needs}
 use Prim.Native.Nat.{ℕ, _<_}
 use borrow.Fn.Kinds.{In}
 use borrow.Fn.PlainCycle.{Measures, is, falls, and}

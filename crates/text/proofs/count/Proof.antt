@@ -6,7 +6,7 @@ use Rattle.model.specs.Grammar.{parts}
 use Rattle.text.specs.Field.{counted}
 use Rattle.text.proofs.Lines.{count-no, count-last, count-on}
 use native.Mathlib.Omega.{arith}
-use mathlib.Core.Path.{_≡_, sym, _∙_, ap}
+use mathlib.Core.Path.{_≡_, sym, _∙_}
 use denote.Ref.{now}
 use borrow.Author.Needs.{needs}
 use Rattle.text.proofs.count.Statement.{statement}

@@ -3,7 +3,6 @@ use Prim.Native.Nat.{_≤_, _-_, _+_}
 use mathlib.Core.Path.{_≡_}
 use native.Mathlib.Omega.{arith}
 use lib.Seq.{slice}
-use lib.ListN.{length}
 use denote.Ref.{now}
 use Rattle.text.specs.Field.{first}
 use Rattle.text.proofs.Walk.{first-here, first-on, first-none}

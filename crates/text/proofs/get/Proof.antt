@@ -1,7 +1,7 @@
 -- `text::get` meets its contract.
 use Rattle.text.proofs.Lines.{OnGet, get-start, get-short, get-on, get-value, get-none}
 use native.Mathlib.Omega.{arith}
-use mathlib.Core.Path.{_≡_, sym, _∙_, ap}
+use mathlib.Core.Path.{sym, _∙_}
 use denote.Ref.{now}
 use borrow.Author.Needs.{needs}
 use Rattle.text.proofs.get.Statement.{statement}

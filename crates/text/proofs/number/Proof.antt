@@ -1,5 +1,5 @@
 -- `text::number` meets its contract. The invariant: what the field says, the part from `i` on says after the value so far.
-use Prim.Native.Nat.{_≤_, _<_, _-_, _+_, _^_}
+use Prim.Native.Nat.{_≤_, _<_, _-_, _^_}
 use mathlib.Core.Path.{_≡_}
 use native.Mathlib.Omega.{arith}
 use lib.Seq.{slice}

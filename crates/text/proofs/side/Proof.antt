@@ -1,9 +1,7 @@
 -- `text::side` meets its contract.
 use Rattle.text.proofs.Signs.{below, above}
 use native.Mathlib.Omega.{arith}
-use mathlib.Core.Path.{_≡_, sym, _∙_, ap}
-use denote.Ref.{now}
-use borrow.Author.Needs.{needs}
+use mathlib.Core.Path.{sym}
 use Rattle.text.proofs.side.Statement.{statement}
 use Rattle.text.proofs.side.Tie as tie
 use Rattle.text.proofs.side.Reads as reads

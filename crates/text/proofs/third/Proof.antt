@@ -1,7 +1,6 @@
 -- `text::third` meets its contract.
 use Rattle.text.proofs.Lines.{third-one, third-two, third-here}
 use native.Mathlib.Omega.{arith}
-use mathlib.Core.Path.{_≡_, sym, _∙_, ap}
 use denote.Ref.{now}
 use borrow.Author.Needs.{needs}
 use Rattle.text.proofs.third.Statement.{statement}

@@ -6,9 +6,8 @@ use lib.Seq.{slice, length-slice}
 use Rattle.model.specs.Grammar.{same}
 use Rattle.text.proofs.Compare.{same-short, same-on, same-off, same-end}
 use native.Mathlib.Omega.{arith}
-use mathlib.Core.Path.{_≡_, sym, _∙_, ap}
+use mathlib.Core.Path.{_≡_, sym, _∙_}
 use denote.Ref.{now}
-use borrow.Author.Needs.{needs}
 use Rattle.text.proofs.word.Statement.{statement}
 use Rattle.text.proofs.word.Tie as tie
 use Rattle.text.proofs.word.Reads as reads

@@ -1,3 +1,4 @@
+-- `arrive`: one count rises, and its bit is set.
 use Prim.Native.Nat.{_+_, _*_, _-_}
 use lib.ListN.{getD}
 use borrow.Author.Tests.{lt-ltb}

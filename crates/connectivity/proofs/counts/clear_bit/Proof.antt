@@ -1,3 +1,4 @@
+-- `clear_bit` by the law of a bit made 0.
 use borrow.Author.Needs.{needs}
 use Rattle.laws.specs.Bit.{one-shl, clear-law}
 use Rattle.connectivity.proofs.counts.clear_bit.Statement.{statement}

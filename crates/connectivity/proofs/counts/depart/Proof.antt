@@ -1,3 +1,4 @@
+-- `depart`: one count falls, and its bit is made to fit.
 use Prim.Native.Nat.{_+_, _*_, _-_}
 use lib.ListN.{getD}
 use borrow.Author.Tests.{lt-ltb, le-ltb}

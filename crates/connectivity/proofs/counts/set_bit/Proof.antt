@@ -1,3 +1,4 @@
+-- `set_bit` by the law of a bit made 1.
 use borrow.Author.Needs.{needs}
 use Rattle.laws.specs.Bit.{one-shl, set-law}
 use Rattle.connectivity.proofs.counts.set_bit.Statement.{statement}

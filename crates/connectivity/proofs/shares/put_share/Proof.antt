@@ -1,4 +1,4 @@
--- `gain::put_share` meets its contract. Assumes nothing.
+-- `put_share`: the first x entries of the row are raised.
 use Prim.Native.Nat.{_≤_, _-_, _+_}
 use mathlib.Core.Path.{_∙_}
 use native.Mathlib.Omega.{arith}

@@ -1,3 +1,4 @@
+-- `share_of`: the difference of what leaving frees and what coming draws.
 use mathlib.Core.Path.{_≡_, refl, sym, ap, _∙_}
 use native.Mathlib.Omega.{arith}
 use borrow.Author.Needs.{needs}
@@ -13,57 +14,44 @@ use Rattle.connectivity.proofs.shares.less.Reads as less-reads
 use Rattle.connectivity.proofs.shares.when_is.Reads as when-is-reads
 use Rattle.connectivity.proofs.shares.wide.Reads as wide-reads
 
--- src/lib.rt:48:9
 returns : tie.Need-returns
 returns c = let a = c .before .before .args in share-own (a .counts .now) (a .crow) (a .own) (a .w) (a .x) (c .if1 .taken)
 
--- src/lib.rt:50:32
 add-when-is : tie.Need-add-when-is
 add-when-is c = search needs
 
--- src/lib.rt:50:25
 mul-when-is : tie.Need-mul-when-is
 mul-when-is c = search needs
 
--- src/lib.rt:50:25
 shared-slice-read-when-is : tie.Need-shared-slice-read-when-is
 shared-slice-read-when-is c = search needs
 
--- src/lib.rt:50:9
 when-is-requires : tie.Need-when-is-requires
 when-is-requires c κs = search needs
 
--- src/lib.rt:51:32
 add-when-is-2 : tie.Need-add-when-is-2
 add-when-is-2 c = search needs
 
--- src/lib.rt:51:25
 mul-when-is-2 : tie.Need-mul-when-is-2
 mul-when-is-2 c = search needs
 
--- src/lib.rt:51:25
 shared-slice-read-when-is-2 : tie.Need-shared-slice-read-when-is-2
 shared-slice-read-when-is-2 c = search needs
 
--- src/lib.rt:51:9
 when-is-requires-2 : tie.Need-when-is-requires-2
 when-is-requires-2 c κs = search needs
 
--- src/lib.rt:52:10
 wide-requires : tie.Need-wide-requires
 wide-requires c κs = search needs
 
--- src/lib.rt:52:23
 wide-requires-2 : tie.Need-wide-requires-2
 wide-requires-2 c κs = search needs
 
--- src/lib.rt:52:5
 less-requires : tie.Need-less-requires
 less-requires c κs =
     rw (read32 (c .before .wide .result) (c .before .wide .ok), read32 (c .wide2 .result) (c .wide2 .ok), c .before .wide .ensures, c .wide2 .ensures)
     (fits32 _ (omega (arith, natAbs-sub (pos (c .before .before .before .before .when-is .result)) (pos (c .before .before .when-is2 .result)), c .before .before .before .before .when-is .ok, c .before .before .when-is2 .ok)))
 
--- src/lib.rt:42:1
 returns-2 : tie.Need-returns-2
 returns-2 c =
     let a = c .before .before .before .before .before .before .before .before .before .args in

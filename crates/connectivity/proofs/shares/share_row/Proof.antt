@@ -1,3 +1,4 @@
+-- `share_row`: the sign chooses between the two.
 use Prim.Native.Nat.{_*_}
 use native.Mathlib.Omega.{arith}
 use mathlib.Core.Path.{_≡_, refl, sym, _∙_, ap}

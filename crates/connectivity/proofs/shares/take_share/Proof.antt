@@ -1,4 +1,4 @@
--- `gain::take_share` meets its contract. Assumes nothing.
+-- `take_share`: the first x entries of the row are lowered.
 use Prim.Native.Nat.{_≤_, _-_, _+_}
 use mathlib.Core.Path.{_∙_, ap}
 use native.Mathlib.Omega.{arith}

@@ -1,3 +1,4 @@
+-- `when_is` by its definition, test by test.
 use mathlib.Core.Path.{_≡_, refl, sym, ap}
 use borrow.Author.Tests.{eq-eqb, ne-eqb}
 use Rattle.connectivity.specs.Share.{when}

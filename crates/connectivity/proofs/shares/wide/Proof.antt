@@ -1,3 +1,4 @@
+-- `wide`: a u16 fits into an i32.
 use native.Mathlib.Omega.{arith}
 use borrow.Author.Needs.{needs}
 use lib.IntN.{pos}

@@ -1,3 +1,4 @@
+-- `contract_net`: v goes, the list is relinked, and u comes where it was no pin.
 use native.Mathlib.Omega.{arith}
 use mathlib.Core.Path.{_≡_, refl, sym, _∙_, ap}
 use denote.Ref.{now}

@@ -1,3 +1,4 @@
+-- `split_net`: v comes with the list before the undo, and u goes with the list after it where it was no pin.
 use native.Mathlib.Omega.{arith}
 use mathlib.Core.Path.{_≡_, sym, _∙_, ap}
 use denote.Ref.{now}

@@ -15,7 +15,7 @@ use Rattle.connectivity.specs.Raised.{Raised, Ready, at}
 use Rattle.connectivity.specs.Matrix.{rowCount, shareOf, rowShare, setPin, Tally, Stands}
 use Rattle.connectivity.specs.Row.{read, row, setPin-here, setPin-there, share-is, shareOf-le, shareOf-none}
 use Rattle.connectivity.specs.Law.{Step, count-of, given-is, small-of, stands-ext, setPin-none}
-use Rattle.connectivity.specs.Set.{Sets, Set, come, kept-tally-trans, kept-gains-trans, kept-step, kept-laid, past-none}
+use Rattle.connectivity.specs.Set.{Sets, Set, come, kept-none, kept-tally-trans, kept-gains-trans, kept-step, kept-laid, past-none}
 use Rattle.connectivity.specs.Change.{delta, delta-none, share-change}
 use Rattle.connectivity.specs.Touch.{Others, Delta}
 use Rattle.connectivity.specs.Laid.{Laid, given, given-none, signed, signed-le, laid-none, laid-more, laid-next}
@@ -105,8 +105,8 @@ module _ {Q : ℕ → ℕ → ℕ} {n m k : ℕ} {weights cs vs cs′ vs′ : Li
       ∙ l₂ .inside y j hj
       ∙ cc (place-off R x 0 y ny, place-off R x a y ny, seen y hy, laid-next (given-none true cs e w) l₁ y (place-off (λ _. 0) x a y ny) j hj)
 
-  pub stands-fast : Stands (setPin Q e x b) n m k weights cs′ vs′ g₃
-  stands-fast = record { tally = t; gained = λ y j hy hj. by y j hy hj (ℕ-discrete y x) }
+  pub stands-set : Stands (setPin Q e x b) n m k weights cs′ vs′ g₃
+  stands-set = record { tally = t; gained = λ y j hy hj. by y j hy hj (ℕ-discrete y x) }
     where
       change : (y j : ℕ) → (sumZ (λ d. rowShare n (getD weights d 0) (Q d) y (j + 1)) m -ℤ rowShare n (getD weights e 0) (Q e) y (j + 1)) +ℤ rowShare n (getD weights e 0) (setPin Q e x b e) y (j + 1)
           ≡ sumZ (λ d. rowShare n (getD weights d 0) (setPin Q e x b d) y (j + 1)) m
@@ -124,16 +124,13 @@ module _ {Q : ℕ → ℕ → ℕ} {n m k : ℕ} {weights cs vs cs′ vs′ : Li
           (sym (ap (λ (v : ℕ). rowShare n v (setPin Q e x b e) y (j + 1)) (sym ew) ∙ share-now y (j + 1) hy q (omega arith) ∙ ap (λ (v : ℕ). rowShare n v (Q e) y (j + 1) +ℤ delta a b fa fb w (Q e y) (j + 1)) ew))
           ∙ change y j
 
--- ---- the steps of the fast `set_pin`
+-- ---- the steps of `set_pin`
 module _ {weights cs vs pins blocks : List ℕ} {g : List ℤ} {n m k first p e x a b : ℕ} (o : Sets weights cs vs pins blocks g n m k first p e x a b) where
   -- the block stays: nothing is done
-  pub fast-same : a ≡ b → Set weights pins blocks n m k first p e x a b cs cs vs vs g g
-  fast-same q = record {
+  pub set-same : a ≡ b → Set weights pins blocks n m k first p e x a b cs cs vs vs g g
+  set-same q = record {
     stands = λ Q s f. stands-ext (λ d y l u. setPin-none Q e x b d y (f x (o .x-in) ∙ place-at (row pins blocks first p) x a ∙ q)) s;
-    kept = record {
-      of-tally = record { counts-len = refl; masks-len = refl; counts-past = λ d j l u. refl; counts-over = λ i l. refl; masks-past = λ d j l. refl; masks-over = λ d l. refl };
-      of-gains = record { gains-len = refl; gains-past = λ y j l u. refl; gains-over = λ y j l u. refl };
-    };
+    kept = kept-none cs vs g;
   }
 
   module _ {w fa fb : ℕ} (ew : w ≡ getD weights e 0) (ne : a ≡ b → ⊥) (ca : CountAt cs e a 3 fa) (cb : CountAt cs e b 2 fb) where
@@ -143,8 +140,8 @@ module _ {weights cs vs pins blocks : List ℕ} {g : List ℤ} {n m k first p e 
     small : (y j : ℕ) → y < n → j < k → natAbs (at g (16 * y + j)) ≤ 1024000
     small = small-of (o .stands) (o .frame .few-nets) (o .frame .weight)
 
-    pub fast-own : OwnRow g cs x e a k w
-    fast-own = record {
+    pub set-own : OwnRow g cs x e a k w
+    set-own = record {
       fit = omega (arith, o .frame .gains-fit, o .x-in);
       counts-fit = omega (arith, o .frame .counts-fit, o .e-in);
       few = o .frame .few;
@@ -164,8 +161,8 @@ module _ {weights cs vs pins blocks : List ℕ} {g : List ℤ} {n m k first p e 
         small y j hy hj,
       ))
 
-      pub fast-others : Others g₁ pins blocks n k first p x a b fa fb w
-      fast-others = record {
+      pub set-others : Others g₁ pins blocks n k first p x a b fa fb w
+      set-others = record {
         net = o .net;
         blocks-fit = o .blocks-fit;
         gains-fit = omega (arith, o .frame .gains-fit, l₁ .len);
@@ -188,8 +185,8 @@ module _ {weights cs vs pins blocks : List ℕ} {g : List ℤ} {n m k first p e 
 
       module _ {cs₁ vs₁ cs₂ vs₂ : List ℕ} (d : Step e a (getD cs (16 * e + (a - 1)) 0 - 1) cs cs₁ vs vs₁) (u : Step e b (getD cs₁ (16 * e + (b - 1)) 0 + 1) cs₁ cs₂ vs₁ vs₂)
           {g₂ : List ℤ} (l₂ : Laid (Delta a b fa fb w) (place (row pins blocks first p) x 0) k g₁ g₂) where
-        pub fast-own-2 : OwnRow g₂ cs₂ x e b k w
-        fast-own-2 = record {
+        pub set-own-2 : OwnRow g₂ cs₂ x e b k w
+        set-own-2 = record {
           fit = omega (arith, o .frame .gains-fit, o .x-in, l₁ .len, l₂ .len);
           counts-fit = omega (arith, o .frame .counts-fit, o .e-in, d .counts-len, u .counts-len);
           few = o .frame .few;
@@ -198,9 +195,9 @@ module _ {weights cs vs pins blocks : List ℕ} {g : List ℤ} {n m k first p e 
           small = λ j l. rw (laid-next (λ i. delta-none a b fa fb w (i + 1)) l₂ x (place-at (row pins blocks first p) x 0) j l) (small-1 x j (o .x-in) l);
         }
 
-        pub fast-done : {g₃ : List ℤ} → Laid (given false cs₂ e w) (place (λ _. 0) x b) k g₂ g₃ → Set weights pins blocks n m k first p e x a b cs cs₂ vs vs₂ g g₃
-        fast-done l₃ = record {
-          stands = λ Q s f. stands-fast (row pins blocks first p) e x a b w fa fb (o .e-in) (o .x-in) (o .frame .few) (o .a-in) (o .b-in) ew ne s f ca cb (come o d u Q (s .tally) f) l₁ l₂ l₃;
+        pub set-done : {g₃ : List ℤ} → Laid (given false cs₂ e w) (place (λ _. 0) x b) k g₂ g₃ → Set weights pins blocks n m k first p e x a b cs cs₂ vs vs₂ g g₃
+        set-done l₃ = record {
+          stands = λ Q s f. stands-set (row pins blocks first p) e x a b w fa fb (o .e-in) (o .x-in) (o .frame .few) (o .a-in) (o .b-in) ew ne s f ca cb (come o d u Q (s .tally) f) l₁ l₂ l₃;
           kept = record {
             of-tally = kept-tally-trans (kept-step (o .e-in) (o .a-in) (o .frame .few) d) (kept-step (o .e-in) (o .b-in) (o .frame .few) u);
             of-gains = kept-gains-trans (kept-laid (given-none true cs e w) (λ y h. place-off (λ _. 0) x a y (λ q. omega (arith, o .x-in))) l₁)

@@ -1,0 +1,213 @@
+-- The lines with a fixed number of fields: which answer the tests give. Rests on Seen.
+use Prim.Native.Nat.{ℕ}
+use mathlib.Core.Path.{_≡_, refl, sym, _∙_}
+use mathlib.Core.List.{[], _∷_}
+use mathlib.Core.Bool.{Bool, true, false, not, _&&_, cond}
+use Rattle.model.specs.Catalogue.{Limits, isBlock}
+use Rattle.model.specs.Machine.{callJ, callS, callM, callB, callW, callP, callA}
+use Rattle.model.specs.Grammar.{Fields, bytes, Book, reading, stopped, at, isLineOf, within, Asked, asks, nothing, asked, callOf, saleLine, lotLine, grown, withLot}
+use Rattle.lines.specs.Line.{Named, book}
+
+abbrev choose : Fields → Bool → Bool → Bool → Bool → Bool → Bool → Bool → Asked
+choose fs j s m b w p a =
+    cond j (asks (callJ (at fs 1) (at fs 2)))
+    (cond s (asks callS)
+    (cond m (asks (callM (at fs 1) (at fs 2)))
+    (cond b (asks callB)
+    (cond w (asks (callW (at fs 1) (at fs 2)))
+    (cond p (asks callP)
+    (cond a (asks callA) nothing))))))
+
+module _ (fs : Fields) (j s m b w p a : Bool) where
+  chose-J : j ≡ true → choose fs j s m b w p a ≡ asks (callJ (at fs 1) (at fs 2))
+  chose-J e = rw e
+
+  module _ (ej : j ≡ false) where
+    chose-S : s ≡ true → choose fs j s m b w p a ≡ asks callS
+    chose-S e = rw (ej, e)
+
+    module _ (es : s ≡ false) where
+      chose-M : m ≡ true → choose fs j s m b w p a ≡ asks (callM (at fs 1) (at fs 2))
+      chose-M e = rw (ej, es, e)
+
+      module _ (em : m ≡ false) where
+        chose-B : b ≡ true → choose fs j s m b w p a ≡ asks callB
+        chose-B e = rw (ej, es, em, e)
+
+        module _ (eb : b ≡ false) where
+          chose-W : w ≡ true → choose fs j s m b w p a ≡ asks (callW (at fs 1) (at fs 2))
+          chose-W e = rw (ej, es, em, eb, e)
+
+          module _ (ew : w ≡ false) where
+            chose-P : p ≡ true → choose fs j s m b w p a ≡ asks callP
+            chose-P e = rw (ej, es, em, eb, ew, e)
+
+            module _ (ep : p ≡ false) where
+              chose-A : a ≡ true → choose fs j s m b w p a ≡ asks callA
+              chose-A e = rw (ej, es, em, eb, ew, ep, e)
+
+              chose-none : a ≡ false → choose fs j s m b w p a ≡ nothing
+              chose-none e = rw (ej, es, em, eb, ew, ep, e)
+
+chosen : (fs : Fields) → asked fs ≡ choose fs (isLineOf "J" 2 fs) (isLineOf "S" 0 fs) (isLineOf "M" 2 fs) (isLineOf "B" 0 fs) (isLineOf "W" 2 fs) (isLineOf "P" 0 fs) (isLineOf "A" 0 fs)
+unfolding asked
+chosen fs = refl
+
+module _ (fs : Fields) where
+  pub asked-J : (x y : ℕ) → x ≡ at fs 1 → y ≡ at fs 2 → isLineOf "J" 2 fs ≡ true → Named fs 74 x y
+  unfolding callOf
+  asked-J x y p q e = record { call = callJ (at fs 1) (at fs 2); is = rw (p, q); says = chosen fs ∙ chose-J fs (isLineOf "J" 2 fs) (isLineOf "S" 0 fs) (isLineOf "M" 2 fs) (isLineOf "B" 0 fs) (isLineOf "W" 2 fs) (isLineOf "P" 0 fs) (isLineOf "A" 0 fs) e }
+
+  module _ (ej : isLineOf "J" 2 fs ≡ false) where
+    pub asked-S : isLineOf "S" 0 fs ≡ true → Named fs 83 0 0
+    unfolding callOf
+    asked-S e = record { call = callS; is = refl; says = chosen fs ∙ chose-S fs (isLineOf "J" 2 fs) (isLineOf "S" 0 fs) (isLineOf "M" 2 fs) (isLineOf "B" 0 fs) (isLineOf "W" 2 fs) (isLineOf "P" 0 fs) (isLineOf "A" 0 fs) ej e }
+
+    module _ (es : isLineOf "S" 0 fs ≡ false) where
+      pub asked-M : (x y : ℕ) → x ≡ at fs 1 → y ≡ at fs 2 → isLineOf "M" 2 fs ≡ true → Named fs 77 x y
+      unfolding callOf
+      asked-M x y p q e = record { call = callM (at fs 1) (at fs 2); is = rw (p, q); says = chosen fs ∙ chose-M fs (isLineOf "J" 2 fs) (isLineOf "S" 0 fs) (isLineOf "M" 2 fs) (isLineOf "B" 0 fs) (isLineOf "W" 2 fs) (isLineOf "P" 0 fs) (isLineOf "A" 0 fs) ej es e }
+
+      module _ (em : isLineOf "M" 2 fs ≡ false) where
+        pub asked-B : isLineOf "B" 0 fs ≡ true → Named fs 66 0 0
+        unfolding callOf
+        asked-B e = record { call = callB; is = refl; says = chosen fs ∙ chose-B fs (isLineOf "J" 2 fs) (isLineOf "S" 0 fs) (isLineOf "M" 2 fs) (isLineOf "B" 0 fs) (isLineOf "W" 2 fs) (isLineOf "P" 0 fs) (isLineOf "A" 0 fs) ej es em e }
+
+        module _ (eb : isLineOf "B" 0 fs ≡ false) where
+          pub asked-W : (x y : ℕ) → x ≡ at fs 1 → y ≡ at fs 2 → isLineOf "W" 2 fs ≡ true → Named fs 87 x y
+          unfolding callOf
+          asked-W x y p q e = record { call = callW (at fs 1) (at fs 2); is = rw (p, q); says = chosen fs ∙ chose-W fs (isLineOf "J" 2 fs) (isLineOf "S" 0 fs) (isLineOf "M" 2 fs) (isLineOf "B" 0 fs) (isLineOf "W" 2 fs) (isLineOf "P" 0 fs) (isLineOf "A" 0 fs) ej es em eb e }
+
+          module _ (ew : isLineOf "W" 2 fs ≡ false) where
+            pub asked-P : isLineOf "P" 0 fs ≡ true → Named fs 80 0 0
+            unfolding callOf
+            asked-P e = record { call = callP; is = refl; says = chosen fs ∙ chose-P fs (isLineOf "J" 2 fs) (isLineOf "S" 0 fs) (isLineOf "M" 2 fs) (isLineOf "B" 0 fs) (isLineOf "W" 2 fs) (isLineOf "P" 0 fs) (isLineOf "A" 0 fs) ej es em eb ew e }
+
+            module _ (ep : isLineOf "P" 0 fs ≡ false) where
+              pub asked-A : isLineOf "A" 0 fs ≡ true → Named fs 65 0 0
+              unfolding callOf
+              asked-A e = record { call = callA; is = refl; says = chosen fs ∙ chose-A fs (isLineOf "J" 2 fs) (isLineOf "S" 0 fs) (isLineOf "M" 2 fs) (isLineOf "B" 0 fs) (isLineOf "W" 2 fs) (isLineOf "P" 0 fs) (isLineOf "A" 0 fs) ej es em eb ew ep e }
+
+              pub asked-none : isLineOf "A" 0 fs ≡ false → nothing ≡ asked fs
+              asked-none e = sym (chosen fs ∙ chose-none fs (isLineOf "J" 2 fs) (isLineOf "S" 0 fs) (isLineOf "M" 2 fs) (isLineOf "B" 0 fs) (isLineOf "W" 2 fs) (isLineOf "P" 0 fs) (isLineOf "A" 0 fs) ej es em eb ew ep e)
+
+-- ---- SALE
+module _ (limits : Limits) (n : ℕ) (fs : Fields) where
+  sale-is : (f r : Bool) → isLineOf "SALE" 4 fs ≡ f → (within 1 (limits .vertexLimit) (at fs 1) && within 0 1024 (at fs 2) && within 2 (limits .blockLimit) (at fs 3) && within 0 1000 (at fs 4)) ≡ r
+      → saleLine limits n fs ≡ cond (not f) (stopped 2 n) (cond (not r) (stopped 3 n) (reading (book (at fs 1) (at fs 2) (record { blocks = at fs 3; imbalance = at fs 4; weights = []; draft = []; nets = [] }) 0 [])))
+  unfolding saleLine
+  sale-is f r p q = rw (← p, ← q)
+
+  pub sale-form : isLineOf "SALE" 4 fs ≡ false → stopped 2 n ≡ saleLine limits n fs
+  sale-form e = sym (sale-is false _ e refl)
+
+  module _ (is : isLineOf "SALE" 4 fs ≡ true) (l b k t : ℕ) (el : l ≡ at fs 1) (eb : b ≡ at fs 2) (ek : k ≡ at fs 3) (et : t ≡ at fs 4) where
+    ranges : (within 1 (limits .vertexLimit) l && within 0 1024 b && within 2 (limits .blockLimit) k && within 0 1000 t) ≡ false → stopped 3 n ≡ saleLine limits n fs
+    ranges e = sym (sale-is true false is (rw (← el, ← eb, ← ek, ← et) e))
+
+    pub sale-1 : within 1 (limits .vertexLimit) l ≡ false → stopped 3 n ≡ saleLine limits n fs
+    sale-1 e = ranges (and3 _ _ _ _ e)
+      where
+        and3 : (x y z u : Bool) → x ≡ false → (x && y && z && u) ≡ false
+        and3 x y z u e = rw e
+
+    module _ (e1 : within 1 (limits .vertexLimit) l ≡ true) where
+      pub sale-2 : within 0 1024 b ≡ false → stopped 3 n ≡ saleLine limits n fs
+      sale-2 e = ranges (and3 _ _ _ _ e1 e)
+        where
+          and3 : (x y z u : Bool) → x ≡ true → y ≡ false → (x && y && z && u) ≡ false
+          and3 x y z u d e = rw (d, e)
+
+      module _ (e2 : within 0 1024 b ≡ true) where
+        pub sale-3 : within 2 (limits .blockLimit) k ≡ false → stopped 3 n ≡ saleLine limits n fs
+        sale-3 e = ranges (and3 _ _ _ _ e1 e2 e)
+          where
+            and3 : (x y z u : Bool) → x ≡ true → y ≡ true → z ≡ false → (x && y && z && u) ≡ false
+            and3 x y z u c d e = rw (c, d, e)
+
+        module _ (e3 : within 2 (limits .blockLimit) k ≡ true) where
+          pub sale-4 : within 0 1000 t ≡ false → stopped 3 n ≡ saleLine limits n fs
+          sale-4 e = ranges (and3 _ _ _ _ e1 e2 e3 e)
+            where
+              and3 : (x y z u : Bool) → x ≡ true → y ≡ true → z ≡ true → u ≡ false → (x && y && z && u) ≡ false
+              and3 x y z u b c d e = rw (b, c, d, e)
+
+          pub sale-read : within 0 1000 t ≡ true → reading (book l b (record { blocks = k; imbalance = t; weights = []; draft = []; nets = [] }) 0 []) ≡ saleLine limits n fs
+          sale-read e = rw (el, eb, ek, et) (sym (sale-is true true is (rw (← el, ← eb, ← ek, ← et) (and3 _ _ _ _ e1 e2 e3 e))))
+            where
+              and3 : (x y z u : Bool) → x ≡ true → y ≡ true → z ≡ true → u ≡ true → (x && y && z && u) ≡ true
+              and3 x y z u b c d e = rw (b, c, d, e)
+
+-- ---- LOT
+module _ (n : ℕ) (k : Book) (fs : Fields) where
+  lot-is : (f r : Bool) → isLineOf "LOT" 2 fs ≡ f → (within 1 65535 (at fs 1) && isBlock (k .graph) (at fs 2)) ≡ r
+      → lotLine n k fs ≡ cond (not f) (stopped 2 n) (cond (not r) (stopped 3 n) (grown n (book (k .lots) (k .buyers) (withLot (k .graph) (at fs 1) (at fs 2)) (k .marks) [])))
+  unfolding lotLine
+  lot-is f r p q = rw (← p, ← q)
+
+  pub lot-form : isLineOf "LOT" 2 fs ≡ false → stopped 2 n ≡ lotLine n k fs
+  lot-form e = sym (lot-is false _ e refl)
+
+  module _ (is : isLineOf "LOT" 2 fs ≡ true) (w b m : ℕ) (ew : w ≡ at fs 1) (eb : b ≡ at fs 2) (em : k .graph .blocks ≡ m) where
+    lot-ranges : (r : Bool) → (within 1 65535 w && within 1 m b) ≡ r → (within 1 65535 (at fs 1) && isBlock (k .graph) (at fs 2)) ≡ r
+    lot-ranges r e = rw (← ew, ← eb, em) e
+
+    pub lot-1 : within 1 65535 w ≡ false → stopped 3 n ≡ lotLine n k fs
+    lot-1 e = sym (lot-is true false is (lot-ranges false (and1 _ _ e)))
+      where
+        and1 : (x y : Bool) → x ≡ false → (x && y) ≡ false
+        and1 x y e = rw e
+
+    module _ (e1 : within 1 65535 w ≡ true) where
+      pub lot-2 : within 1 m b ≡ false → stopped 3 n ≡ lotLine n k fs
+      lot-2 e = sym (lot-is true false is (lot-ranges false (and1 _ _ e1 e)))
+        where
+          and1 : (x y : Bool) → x ≡ true → y ≡ false → (x && y) ≡ false
+          and1 x y d e = rw (d, e)
+
+      pub lot-read : within 1 m b ≡ true → grown n (book (k .lots) (k .buyers) (withLot (k .graph) w b) (k .marks) []) ≡ lotLine n k fs
+      lot-read e = rw (ew, eb) (sym (lot-is true true is (lot-ranges true (and1 _ _ e1 e))))
+        where
+          and1 : (x y : Bool) → x ≡ true → y ≡ true → (x && y) ≡ true
+          and1 x y d e = rw (d, e)
+
+-- ---- the words
+pub word-J : bytes "J" ≡ 74 ∷ []
+unfolding bytes
+word-J = refl
+
+pub word-S : bytes "S" ≡ 83 ∷ []
+unfolding bytes
+word-S = refl
+
+pub word-M : bytes "M" ≡ 77 ∷ []
+unfolding bytes
+word-M = refl
+
+pub word-B : bytes "B" ≡ 66 ∷ []
+unfolding bytes
+word-B = refl
+
+pub word-W : bytes "W" ≡ 87 ∷ []
+unfolding bytes
+word-W = refl
+
+pub word-P : bytes "P" ≡ 80 ∷ []
+unfolding bytes
+word-P = refl
+
+pub word-A : bytes "A" ≡ 65 ∷ []
+unfolding bytes
+word-A = refl
+
+pub word-SALE : bytes "SALE" ≡ 83 ∷ 65 ∷ 76 ∷ 69 ∷ []
+unfolding bytes
+word-SALE = refl
+
+pub word-LOT : bytes "LOT" ≡ 76 ∷ 79 ∷ 84 ∷ []
+unfolding bytes
+word-LOT = refl
+
+pub word-BUY : bytes "BUY" ≡ 66 ∷ 85 ∷ 89 ∷ []
+unfolding bytes
+word-BUY = refl

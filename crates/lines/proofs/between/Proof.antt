@@ -1,0 +1,15 @@
+-- `lines::between` meets its contract.
+use borrow.Author.Tests.{lt-leb, le-leb}
+use Rattle.lines.proofs.between.Statement.{statement}
+use Rattle.lines.proofs.between.Tie as tie
+use Rattle.lines.proofs.between.Reads as reads
+use Rattle.lines.proofs.between.Lts as lts
+
+returns : tie.Need-returns
+returns c = rw (lt-leb (c .before .args .low) (c .before .args .x) (c .if1 .taken))
+
+returns-2 : tie.Need-returns-2
+returns-2 c = rw (le-leb (c .before .args .low) (c .before .args .x) (c .if1 .left))
+
+pub between-spec : {M : Type 1} → statement M
+between-spec = tie.close (tie.spec returns returns-2)

@@ -1,0 +1,69 @@
+-- `lines::lot_line` meets its contract.
+use mathlib.Core.List.{[], _∷_}
+use lib.Seq.{slice}
+use lib.Dec.{leb}
+use borrow.Author.Tests.{not-true, not-false, leb-true}
+use native.Mathlib.Omega.{arith}
+use mathlib.Core.Path.{sym, _∙_}
+use denote.Ref.{now}
+use borrow.Author.Needs.{needs}
+use Rattle.laws.specs.Choice.{and-right}
+use Rattle.model.specs.Grammar.{fields}
+use Rattle.text.proofs.Lines.{numbered, line-yes, line-no}
+use Rattle.lines.proofs.Asks.{lot-form, lot-1, lot-2, lot-read, word-LOT}
+use Rattle.lines.proofs.lot_line.Statement.{statement}
+use Rattle.lines.proofs.lot_line.Tie as tie
+use Rattle.lines.proofs.lot_line.Reads as reads
+use Rattle.lines.proofs.lot_line.Lts as lts
+use Rattle.lines.proofs.between.Reads as between-reads
+use Rattle.text.proofs.form.Reads as form-reads
+use Rattle.text.proofs.get.Reads as get-reads
+
+slice-aggregate-form : tie.Need-slice-aggregate-form
+slice-aggregate-form c = search needs
+
+form-requires : tie.Need-form-requires
+form-requires c κs = search needs
+
+returns : tie.Need-returns
+returns c = let a = c .before .before .before .before .args in let x = slice (a .at) (a .end) (now (a .s)) in λ n k eb. lot-form n k (fields x) (line-no "LOT" (76 ∷ 79 ∷ 84 ∷ []) 2 (c .before .form .result) x word-LOT (c .before .form .ensures) (c .if1 .taken))
+
+get-requires : tie.Need-get-requires
+get-requires c κs = let a = c .before .before .before .before .args in let x = slice (a .at) (a .end) (now (a .s)) in (omega arith, omega arith, numbered (76 ∷ 79 ∷ 84 ∷ []) (fields x) 2 1 (sym (c .before .form .ensures) ∙ c .if1 .left) (omega arith) (omega arith))
+
+get-requires-2 : tie.Need-get-requires-2
+get-requires-2 c κs = let a = c .before .before .before .before .before .args in let x = slice (a .at) (a .end) (now (a .s)) in (omega arith, omega arith, numbered (76 ∷ 79 ∷ 84 ∷ []) (fields x) 2 2 (sym (c .before .before .form .ensures) ∙ c .before .if1 .left) (omega arith) (omega arith))
+
+between-requires : tie.Need-between-requires
+between-requires c κs = search needs
+
+returns-2 : tie.Need-returns-2
+returns-2 c = let a = c .before .before .before .before .before .before .before .before .args in let x = slice (a .at) (a .end) (now (a .s)) in λ n k eb. lot-1 n k (fields x) (line-yes "LOT" (76 ∷ 79 ∷ 84 ∷ []) 2 (c .before .before .before .before .before .form .result) x word-LOT (c .before .before .before .before .before .form .ensures) (c .before .before .before .before .if1 .left)) (c .before .before .before .get .result) (c .before .before .get2 .result) (a .blocks) (c .before .before .before .get .ensures) (c .before .before .get2 .ensures) eb (sym (c .before .between .ensures) ∙ not-true _ (c .if2 .taken))
+
+between-requires-2 : tie.Need-between-requires-2
+between-requires-2 c κs = search needs
+
+returns-3 : tie.Need-returns-3
+returns-3 c = let a = c .before .before .before .before .before .before .before .before .before .before .args in let x = slice (a .at) (a .end) (now (a .s)) in λ n k eb. lot-2 n k (fields x) (line-yes "LOT" (76 ∷ 79 ∷ 84 ∷ []) 2 (c .before .before .before .before .before .before .before .form .result) x word-LOT (c .before .before .before .before .before .before .before .form .ensures) (c .before .before .before .before .before .before .if1 .left)) (c .before .before .before .before .before .get .result) (c .before .before .before .before .get2 .result) (a .blocks) (c .before .before .before .before .before .get .ensures) (c .before .before .before .before .get2 .ensures) eb (sym (c .before .before .before .between .ensures) ∙ not-false _ (c .before .before .if2 .left)) (sym (c .before .between2 .ensures) ∙ not-true _ (c .if3 .taken))
+
+cast-t14 : tie.Need-cast-t14
+cast-t14 c = omega (arith, leb-true (c .before .before .before .before .get2 .result) (c .before .before .before .before .before .before .before .before .before .before .args .blocks) (and-right (leb 1 (c .before .before .before .before .get2 .result)) _ (sym (c .before .between2 .ensures) ∙ not-false _ (c .if3 .left))))
+
+returns-4 : tie.Need-returns-4
+returns-4 c = let a = c .before .before .before .before .before .before .before .before .before .before .args in let x = slice (a .at) (a .end) (now (a .s)) in λ n k eb. lot-read n k (fields x) (line-yes "LOT" (76 ∷ 79 ∷ 84 ∷ []) 2 (c .before .before .before .before .before .before .before .form .result) x word-LOT (c .before .before .before .before .before .before .before .form .ensures) (c .before .before .before .before .before .before .if1 .left)) (c .before .before .before .before .before .get .result) (c .before .before .before .before .get2 .result) (a .blocks) (c .before .before .before .before .before .get .ensures) (c .before .before .before .before .get2 .ensures) eb (sym (c .before .before .before .between .ensures) ∙ not-false _ (c .before .before .if2 .left)) (sym (c .before .between2 .ensures) ∙ not-false _ (c .if3 .left))
+
+pub lot-line-spec : {M : Type 1} → statement M
+lot-line-spec =
+    tie.close
+    (tie.spec
+    slice-aggregate-form
+    form-requires
+    returns
+    get-requires
+    get-requires-2
+    between-requires
+    returns-2
+    between-requires-2
+    returns-3
+    cast-t14
+    returns-4)

@@ -1,0 +1,66 @@
+-- The marks of one buyer, the stamps that tell which lots it has marked, and a buyer's line. Rests on Line. Assumes nothing.
+use Prim.Native.Nat.{ℕ, _+_, _-_, _≤_, _<_}
+use mathlib.Core.Path.{_≡_}
+use mathlib.Core.Bool.{cond}
+use mathlib.Core.List.{List, []}
+use lib.Dec.{eqb}
+use lib.ListN.{length, getD, take}
+use lib.Seq.{slice}
+use Rattle.laws.specs.Fold.{any}
+use Rattle.model.specs.Catalogue.{Hypergraph, vertices}
+use Rattle.model.specs.Grammar.{Fields, Book, Reading, stopped, Marking, marked, wrong, mark, marking, bought, buyLine}
+use Rattle.lines.specs.Line.{Past}
+use Rattle.lines.specs.declared.Pinned.{Pinned}
+use Rattle.lines.specs.declared.Pinned.the-variants.{Good, Wrong}
+use Rattle.lines.specs.declared.Buy.{Buy}
+use Rattle.lines.specs.declared.Buy.the-variants.{Bought, NoBuy}
+
+-- the marks from `first` to m are those of buyer j, and the stamp of a lot is j if and only if it is among them
+pub record Stamped (first m j : ℕ) (marks stamps : List ℕ) : Type 0 where
+  pub f-le : first ≤ m
+  pub m-le : m ≤ 8192
+  pub below : (x : ℕ) → getD stamps x 0 ≤ j
+  pub told : (v : ℕ) → 1 ≤ v → v ≤ 1024 → any (slice first m marks) (λ x. eqb x v) ≡ eqb (getD stamps (v - 1) 0) j
+
+-- no stamp is buyer j's yet
+pub record Fresh (j : ℕ) (stamps : List ℕ) : Type 0 where
+  pub below : (x : ℕ) → getD stamps x 0 < j
+
+-- one mark: r is 0 or the refusal
+abbrev pub markSeen : ℕ → ℕ → ℕ → List ℕ → Marking
+markSeen r first m marks = cond (eqb r 0) (marked (slice first (m + 1) marks) (m + 1)) (wrong r)
+
+pub record MarkOne (v lots j m r : ℕ) (marks stamps marks′ stamps′ : List ℕ) : Type 0 where
+  pub keep : take m marks′ ≡ take m marks
+  pub past : Past (m + 1) marks marks′
+  pub len : length marks′ ≡ length marks
+  pub slen : length stamps′ ≡ length stamps
+  pub says : (h : Hypergraph) (first : ℕ) → vertices h ≡ lots → Stamped first m j marks stamps → mark h (marked (slice first m marks) m) v ≡ markSeen r first m marks′
+  pub next : (first : ℕ) → r ≡ 0 → Stamped first m j marks stamps → Stamped first (m + 1) j marks′ stamps′
+  pub room : r ≡ 0 → m < 8192
+
+-- the marks of a line
+abbrev pub marksSeen : ℕ → Pinned → List ℕ → Marking
+marksSeen first (Good m) marks = marked (slice first m marks) m
+marksSeen first (Wrong q) marks = wrong q
+
+pub record MarksRead (fs : Fields) (lots j first : ℕ) (r : Pinned) (marks marks′ stamps′ : List ℕ) : Type 0 where
+  pub keep : take first marks′ ≡ take first marks
+  pub past : (m : ℕ) → r ≡ Good m → Past m marks marks′
+  pub len : length marks′ ≡ length marks
+  pub slen : length stamps′ ≡ 1024
+  pub says : (h : Hypergraph) → vertices h ≡ lots → marksSeen first r marks′ ≡ marking h (marked [] first) fs
+  pub next : (m : ℕ) → r ≡ Good m → Stamped first m j marks′ stamps′
+
+-- a buyer's line
+abbrev pub buySeen : ℕ → Book → ℕ → Buy → List ℕ → Reading
+buySeen n k first (Bought w m) marks = bought n k w (marked (slice first m marks) m)
+buySeen n k first (NoBuy q) marks = stopped q n
+
+pub record BuyRead (fs : Fields) (lots j first : ℕ) (r : Buy) (marks marks′ stamps′ : List ℕ) : Type 0 where
+  pub keep : take first marks′ ≡ take first marks
+  pub past : (w m : ℕ) → r ≡ Bought w m → Past m marks marks′
+  pub len : length marks′ ≡ length marks
+  pub slen : length stamps′ ≡ 1024
+  pub says : (n : ℕ) (k : Book) → vertices (k .graph) ≡ lots → k .marks ≡ first → buySeen n k first r marks′ ≡ buyLine n k fs
+  pub next : (w m : ℕ) → r ≡ Bought w m → Stamped first m j marks′ stamps′

@@ -1,0 +1,161 @@
+-- An accepted file: its tables are those of a fresh machine, its numbers fit, and no session is above its cap. Rests on Fill, Stretches and guarantees' laws of accepted files.
+use Prim.Native.Nat.{ℕ, zero, suc, _+_, _-_, _*_, _/_, _≤_, _<_}
+use mathlib.Core.Path.{_≡_, refl, ap, sym, _∙_}
+use mathlib.Core.Bool.{Bool, cond}
+use mathlib.Core.List.{List, []}
+use native.Mathlib.Omega.{arith}
+use native.Mathlib.Nat.{div-le-self}
+use lib.Dec.{ltb}
+use lib.ListN.{length, getD, take}
+use lib.Seq.{length-take-le, getD-take}
+use Rattle.laws.specs.Fold.{sumOver, sumOver-le}
+use Rattle.laws.specs.Occurrence.{occ}
+use Rattle.laws.specs.Choice.{one}
+use Rattle.model.specs.Catalogue.{Limits, Hypergraph, vertices, drafted, capacity}
+use Rattle.model.specs.Measure.{pin, size, weight}
+use Rattle.model.specs.Machine.{fresh}
+use Rattle.model.specs.Grammar.{Book, reading, parse}
+use Rattle.model.specs.Memory.{Filled, net, allPins, firstPlace, weightEntry, blockEntry, weightWhenGone}
+use Rattle.guarantees.specs.Caps.{Capped}
+use Rattle.guarantees.specs.Loads.{Loaded as Good, parsed, held-start}
+use Rattle.guarantees.specs.Splits.{board-none, above-none, weight-none}
+use Rattle.guarantees.specs.Distinct.{parsed-once}
+use Rattle.lines.specs.Line.{book}
+use Rattle.reader.specs.Seen.{callsOf}
+use Rattle.reader.specs.Whole.{averageOf, graphOf, Fitted, FileRead, seen as told}
+use Rattle.reader.specs.declared.Outcome.{Outcome}
+use Rattle.reader.specs.declared.Outcome.the-variants.{Taken, Refused as Stopped}
+use Rattle.reader.specs.Buyers.{netsOf, Laid}
+use Rattle.reader.proofs.Loads.{average-is, capacity-is}
+use Rattle.loader.specs.Tables.{lists, Started, Loads, sizesOf}
+use Rattle.loader.specs.declared.Sizes.{Sizes}
+use Rattle.loader.specs.declared.Loaded.the-variants.{Accepted, Refused}
+use Rattle.loader.proofs.Fill.{filled, filled-in, filled-out, filled-as}
+use Rattle.loader.proofs.Stretches.{count-is, size-is, first-is, pins-count, pins-at, present-is, sets-is}
+
+refused-accepted : {A : Type 0} {q n : ℕ} {z : Sizes} → Refused q n ≡ Accepted z → A
+refused-accepted e = absurd (let z : _≡_ {A = ℕ} 0 1 = cc in omega arith)
+
+-- a refused file
+pub refused : (limits : Limits) (file : List ℕ) (r : Outcome) (q n : ℕ) (w₀ d₀ a pp pc f₀ c₀ lp₀ w d nw f c lp calls : List ℕ) → FileRead limits file r w₀ d₀ f₀ c₀ lp₀ w d nw f c lp calls → r ≡ Stopped q n
+    → Loads limits file (Refused q n) (lists w₀ d₀ a lp₀ pp f₀ c₀ pc) (lists w d a lp pp f c pc) nw calls
+refused limits file r q n w₀ d₀ a pp pc f₀ c₀ lp₀ w d nw f c lp calls read is = record { says = ap (λ (x : Outcome). told x w d nw f c lp calls) (sym is) ∙ read .says; accepts = λ z y. refused-accepted y }
+
+-- ---- weights are small
+pub small-average : (limits : Limits) (h : Hypergraph) → Good limits h → vertices h ≤ 1024 → (k : ℕ) → averageOf k (h .weights) ≤ 67107855 + k
+small-average limits h g l k =
+    let s = sumOver-le (h .weights) (λ w. (1 ≤ w) × (w ≤ 65535)) (λ w. w) 65535 (g .bales-in) (λ w r. r .1) in
+    omega (arith, div-le-self (sumOver (h .weights) (λ w. w) + (k - 1)) k)
+
+module _ (limits : Limits) (file : List ℕ) (l b k t m n : ℕ) (w₀ d₀ a₀ lp₀ pp₀ f₀ c₀ pc₀ w d a lp pp f c pc nw calls : List ℕ) where
+  abbrev h : Hypergraph
+  h = graphOf l b k t w d nw f c lp
+
+  abbrev k′ : Book
+  k′ = book l b h m (callsOf n calls)
+
+  module _ (r : Outcome) (read : FileRead limits file r w₀ d₀ f₀ c₀ lp₀ w d nw f c lp calls) (is : r ≡ Taken l b k t m n) (v-le : limits .vertexLimit ≤ 1024)
+      (w-len : length w ≡ length w₀) (d-len : length d ≡ length d₀) (lp-len : length lp ≡ length lp₀) (f-len : length f ≡ length f₀) (c-len : length c ≡ length c₀)
+      (w-long : limits .vertexLimit ≤ length w₀) (d-long : limits .vertexLimit ≤ length d₀) (lp-long : 8192 ≤ length lp₀) (pp-long : 8192 ≤ length pp₀) where
+    says : reading k′ ≡ parse limits file
+    says = ap (λ (x : Outcome). told x w d nw f c lp calls) (sym is) ∙ read .says
+
+    fit : Fitted limits l b k t m n w₀ d₀ f₀ c₀ lp₀ w d f c lp calls
+    fit = read .fitted l b k t m n is
+
+    good : Good limits h
+    good = parsed limits file k′ (sym says)
+
+    l-le : l ≤ length w
+    l-le = omega (arith, fit .range .l-high)
+
+    count : vertices h ≡ l
+    count = length-take-le l w l-le
+
+    wide : 8192 ≤ length lp
+    wide = omega arith
+
+    pub small : averageOf k (take l w) ≤ 67107855 + k
+    small = small-average limits h good (omega (arith, count, fit .range .l-high)) k
+
+    module _ (fa : Filled 0 (λ i. ltb i l) (λ i. 0) a₀ a) (fp : Filled 0 (λ i. ltb i m) (λ i. getD lp i 0) pp₀ pp) (fc : Filled 0 (λ i. ltb i b) (λ i. getD c i 0) pc₀ pc) where
+      weight-at : (i : ℕ) → i < l → i < length w₀ → getD w i 0 ≡ weightEntry h [] (drafted h) (suc i)
+      unfolding weightEntry
+      weight-at i u _ =
+          let z : suc i - 1 ≡ i = omega arith in
+          sym (ap (λ (t : Bool). cond t (weight h [] (suc i)) (weightWhenGone h [] (suc i))) (board-none (suc i))
+          ∙ weight-none h (suc i) (omega arith) (omega (arith, count))
+          ∙ ap (λ (j : ℕ). getD (take l w) j 0) z
+          ∙ getD-take l w i 0 u)
+
+      block-at : (i : ℕ) → i < l → i < length d₀ → getD d i 0 ≡ blockEntry h [] (drafted h) (suc i)
+      unfolding blockEntry
+      block-at i u _ =
+          let z : suc i - 1 ≡ i = omega arith in
+          sym (ap (λ (t : Bool). cond t (drafted h (suc i)) 0) (board-none (suc i))
+          ∙ ap (λ (j : ℕ). getD (take l d) j 0) z
+          ∙ getD-take l d i 0 u)
+
+      abbrev laid : Laid b m f₀ c₀ lp₀ f c lp
+      laid = fit .settled .laid
+
+      copied : (i : ℕ) → i < m → getD pp i 0 ≡ getD lp i 0
+      copied i u = filled-in m (λ i. getD lp i 0) pp₀ pp fp i u (omega (arith, laid .m-le))
+
+      total : length (allPins (h .nets)) ≡ m
+      total = pins-count h b m f₀ c₀ lp₀ nw f c lp refl laid wide
+
+      known : length (h .nets) ≡ b
+      known = count-is h b m f₀ c₀ lp₀ nw f c lp refl laid wide
+
+      pin-at : (i : ℕ) → i < m → getD lp i 0 ≡ getD (allPins (h .nets)) i 0
+      pin-at i u = sym (pins-at h b m f₀ c₀ lp₀ nw f c lp refl laid wide i u)
+
+      first-at : (i : ℕ) → i < b → getD f i 0 ≡ firstPlace h (suc i)
+      first-at = first-is h b m f₀ c₀ lp₀ nw f c lp refl laid wide
+
+      present-at : (i : ℕ) → i < b → size h [] (net h (suc i)) ≡ getD c i 0
+      present-at = present-is h b m f₀ c₀ lp₀ nw f c lp refl laid wide (good .nets-in) (parsed-once limits file k′ (sym says))
+
+      sets-at : (e v : ℕ) → 1 ≤ e → e ≤ length (h .nets) → occ pp (firstPlace h e) (size h [] (net h e)) v ≡ one (pin [] (net h e) v)
+      sets-at zero v l u = absurd (omega arith)
+      sets-at (suc y) v l u =
+          let z : y < b = omega (arith, known) in
+          ap (λ (x : ℕ). occ pp x (size h [] (net h (suc y))) v) (sym (first-at y z))
+          ∙ ap (λ (x : ℕ). occ pp (getD f y 0) x v) (present-at y z)
+          ∙ sets-is h b m f₀ c₀ lp₀ nw f c lp refl laid wide (good .nets-in) (parsed-once limits file k′ (sym says)) pp copied y v z
+
+      pub started : Started h (lists w₀ d₀ a₀ lp₀ pp₀ f₀ c₀ pc₀) (lists w d a lp pp f c pc)
+      started = record {
+        weights = filled-as l (vertices h) _ _ w₀ w (filled l (λ i. weightEntry h [] (drafted h) (suc i)) w₀ w w-len weight-at (fit .w-past)) (sym count) (λ i u. refl);
+        blocks = filled-as l (vertices h) _ _ d₀ d (filled l (λ i. blockEntry h [] (drafted h) (suc i)) d₀ d d-len block-at (fit .d-past)) (sym count) (λ i u. refl);
+        aboves = filled-as l (vertices h) (λ i. 0) _ a₀ a fa (sym count) (λ i u. sym (above-none (suc i)));
+        loadedPins = filled-as m (length (allPins (h .nets))) (λ i. getD lp i 0) _ lp₀ lp (filled m (λ i. getD lp i 0) lp₀ lp lp-len (λ i u v. refl) (laid .past)) (sym total) pin-at;
+        copiedPins = filled-as m (length (allPins (h .nets))) (λ i. getD lp i 0) _ pp₀ pp fp (sym total) pin-at;
+        presentPins = record { as-long = fp .as-long; sets = sets-at; past = λ i u v. filled-out m (λ i. getD lp i 0) pp₀ pp fp i (omega (arith, total)) v };
+        firsts = filled-as b (length (h .nets)) (λ i. getD f i 0) _ f₀ f (filled b (λ i. getD f i 0) f₀ f f-len (λ i u v. refl) (laid .f-past)) (sym known) first-at;
+        loadedSizes = filled-as b (length (h .nets)) (λ i. getD c i 0) _ c₀ c (filled b (λ i. getD c i 0) c₀ c c-len (λ i u v. refl) (laid .c-past)) (sym known) (λ i u. sym (size-is h b m f₀ c₀ lp₀ nw f c lp refl laid wide i u));
+        presentSizes = filled-as b (length (h .nets)) (λ i. getD c i 0) _ pc₀ pc fc (sym known) (λ i u. sym (present-at i u));
+      }
+
+      capped : Capped h [] (drafted h)
+      unfolding fresh
+      capped = held-start limits file k′ (sym says) .capped
+
+      pub accepted : (s : Sizes) → s ≡ sizesOf l b k t m n (averageOf k (take l w)) ((1000 + t) * averageOf k (take l w) / 1000)
+          → Loads limits file (Accepted s) (lists w₀ d₀ a₀ lp₀ pp₀ f₀ c₀ pc₀) (lists w d a lp pp f c pc) nw calls
+      accepted s e = record {
+        says = rw e says;
+        accepts = λ z q.
+            let p : s ≡ z = cc in
+            rw (← p, e) (record {
+              range = fit .range;
+              pins-le = laid .m-le;
+              calls-le = fit .settled .n-le;
+              known = fit .settled .known;
+              average = sym (average-is l k t w d (netsOf b nw f c lp));
+              capacity = sym (capacity-is l k t w d (netsOf b nw f c lp));
+              capped = capped;
+              started = started;
+            });
+      }

@@ -1,0 +1,41 @@
+-- `loader::measure` meets its contract.
+use native.Mathlib.Omega.{arith}
+use mathlib.Core.Path.{_∙_, ap}
+use Prim.Native.Nat.{ℕ, _+_, _*_, _/_}
+use native.Mathlib.Nat.{mul-le-mul-right}
+use lib.ListN.{take}
+use Rattle.reader.specs.Whole.{averageOf}
+use Rattle.loader.specs.Tables.{sizesOf}
+use denote.Ref.{now}
+use borrow.Author.Needs.{needs}
+use Rattle.loader.proofs.measure.Statement.{statement}
+use Rattle.loader.proofs.measure.Tie as tie
+use Rattle.loader.proofs.measure.Reads as reads
+use Rattle.loader.proofs.measure.Lts as lts
+use Rattle.reader.proofs.average_weight.Reads as average-weight-reads
+use Rattle.reader.proofs.capacity.Reads as capacity-reads
+
+average-weight-requires : tie.Need-average-weight-requires
+average-weight-requires c κs = search needs
+
+capacity-requires : tie.Need-capacity-requires
+capacity-requires c κs = search needs
+
+cast-t11 : tie.Need-cast-t11
+cast-t11 c = search needs
+
+cast-t12 : tie.Need-cast-t12
+cast-t12 c =
+    let a = c .before .before .before .args in
+    let e = c .before .average-weight .ensures .0 in
+    omega (arith, c .capacity .ensures, e, mul-le-mul-right {m = 1000 + a .imbalance} {n = 2000} (c .before .average-weight .result) (omega arith))
+
+returns : tie.Need-returns
+returns c = let a = c .before .before .before .args in
+    let e = c .before .average-weight .ensures .0 in
+    ap (λ (x : ℕ). sizesOf (a .vertices) (a .nets) (a .blocks) (a .imbalance) (a .pins) (a .calls) x (c .capacity .result)) e
+    ∙ ap (sizesOf (a .vertices) (a .nets) (a .blocks) (a .imbalance) (a .pins) (a .calls) (averageOf (a .blocks) (take (a .vertices) (now (a .weights))))) (c .capacity .ensures ∙ ap (λ (x : ℕ). (1000 + a .imbalance) * x / 1000) e)
+
+pub measure-spec : {M : Type 1} → statement M
+measure-spec =
+    tie.close (tie.spec average-weight-requires capacity-requires cast-t11 cast-t12 returns)

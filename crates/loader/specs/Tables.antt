@@ -1,0 +1,85 @@
+-- What loading leaves in lent memory: for an accepted file, exactly what document 01's "Lent memory" says before any call. Rests on model's Memory and on reader. Assumes nothing.
+use Prim.Native.Nat.{ℕ, _≤_}
+use mathlib.Core.Path.{_≡_}
+use mathlib.Core.List.{List, []}
+use lib.Dec.{ltb}
+use lib.ListN.{length, getD}
+use Rattle.model.specs.Catalogue.{Limits, Hypergraph, vertices, drafted, averageWeight, capacity}
+use Rattle.model.specs.Measure.{above, size}
+use Rattle.model.specs.Grammar.{Reading, reading, stopped, parse}
+use Rattle.model.specs.Memory.{Filled, Column, Pins, net, allPins, firstPlace, weightEntry, blockEntry}
+use Rattle.guarantees.specs.Caps.{Capped}
+use Rattle.lines.specs.Line.{book, InRange}
+use Rattle.reader.specs.Seen.{callsOf}
+use Rattle.reader.specs.Whole.{graphOf}
+use Rattle.loader.specs.declared.Sizes.{Sizes}
+use Rattle.loader.specs.declared.Loaded.{Loaded}
+use Rattle.loader.specs.declared.Loaded.the-variants.{Accepted, Refused}
+
+-- the lent lists that loading writes. Lots: bales, session and the lot above. Marks: as loaded, and as they stand. Buyers: first place,
+-- loaded marks and present marks
+pub record Lists : Type 0 where
+  pub weights : List ℕ
+  pub blocks : List ℕ
+  pub aboves : List ℕ
+  pub loadedPins : List ℕ
+  pub presentPins : List ℕ
+  pub firsts : List ℕ
+  pub loadedSizes : List ℕ
+  pub presentSizes : List ℕ
+
+abbrev pub lists : List ℕ → List ℕ → List ℕ → List ℕ → List ℕ → List ℕ → List ℕ → List ℕ → Lists
+lists w d a lp pp f c pc = record { weights = w; blocks = d; aboves = a; loadedPins = lp; presentPins = pp; firsts = f; loadedSizes = c; presentSizes = pc }
+
+-- the lists have the lengths of document 01, lots by the entry's limit
+pub record LongLists (v : ℕ) (t : Lists) : Type 0 where
+  pub weights : v ≤ length (t .weights)
+  pub blocks : v ≤ length (t .blocks)
+  pub aboves : v ≤ length (t .aboves)
+  pub loadedPins : 8192 ≤ length (t .loadedPins)
+  pub presentPins : 8192 ≤ length (t .presentPins)
+  pub firsts : 1024 ≤ length (t .firsts)
+  pub loadedSizes : 1024 ≤ length (t .loadedSizes)
+  pub presentSizes : 1024 ≤ length (t .presentSizes)
+
+-- what the lists hold for a fresh machine over h; entries that h has no use for keep what they held. The present marks stand in
+-- the order of the loaded ones
+pub record Started (h : Hypergraph) (old new : Lists) : Type 0 where
+  pub weights : Column (vertices h) (weightEntry h [] (drafted h)) (old .weights) (new .weights)
+  pub blocks : Column (vertices h) (blockEntry h [] (drafted h)) (old .blocks) (new .blocks)
+  pub aboves : Column (vertices h) (above []) (old .aboves) (new .aboves)
+  pub loadedPins : Filled 0 (λ i. ltb i (length (allPins (h .nets)))) (λ i. getD (allPins (h .nets)) i 0) (old .loadedPins) (new .loadedPins)
+  pub copiedPins : Filled 0 (λ i. ltb i (length (allPins (h .nets)))) (λ i. getD (allPins (h .nets)) i 0) (old .presentPins) (new .presentPins)
+  pub presentPins : Pins h [] (old .presentPins) (new .presentPins)
+  pub firsts : Column (length (h .nets)) (firstPlace h) (old .firsts) (new .firsts)
+  pub loadedSizes : Column (length (h .nets)) (λ e. length (net h e .pins)) (old .loadedSizes) (new .loadedSizes)
+  pub presentSizes : Column (length (h .nets)) (λ e. size h [] (net h e)) (old .presentSizes) (new .presentSizes)
+
+-- sizes by their parts
+abbrev pub sizesOf : ℕ → ℕ → ℕ → ℕ → ℕ → ℕ → ℕ → ℕ → Sizes
+sizesOf l b k t m n a c = record { vertices = l; nets = b; blocks = k; imbalance = t; pins = m; calls = n; average = a; capacity = c }
+
+-- the catalogue that sizes, lists and net weights show
+abbrev pub graph : Sizes → Lists → List ℕ → Hypergraph
+graph z t nw = graphOf (z .vertices) (z .nets) (z .blocks) (z .imbalance) (t .weights) (t .blocks) nw (t .firsts) (t .loadedSizes) (t .loadedPins)
+
+-- what the loader's answer and the tables say
+abbrev pub seen : Loaded → Lists → List ℕ → List ℕ → Reading
+seen (Accepted z) t nw calls = reading (book (z .vertices) (z .nets) (graph z t nw) (z .pins) (callsOf (z .calls) calls))
+seen (Refused q n) t nw calls = stopped q n
+
+-- an accepted file: sizes in range, each three numbers of the table a call, the capacity and ⌈W/k⌉, no session above its cap, the lists
+pub record Accepts (limits : Limits) (z : Sizes) (old new : Lists) (nw calls : List ℕ) : Type 0 where
+  pub range : InRange limits (z .vertices) (z .nets) (z .blocks) (z .imbalance)
+  pub pins-le : z .pins ≤ 8192
+  pub calls-le : z .calls ≤ 512
+  pub known : length (callsOf (z .calls) calls) ≡ z .calls
+  pub average : z .average ≡ averageWeight (graph z new nw)
+  pub capacity : z .capacity ≡ capacity (graph z new nw)
+  pub capped : Capped (graph z new nw) [] (drafted (graph z new nw))
+  pub started : Started (graph z new nw) old new
+
+-- the loader's promise: model's grammar on the same bytes, and the tables of an accepted file
+pub record Loads (limits : Limits) (file : List ℕ) (r : Loaded) (old new : Lists) (nw calls : List ℕ) : Type 0 where
+  pub says : seen r new nw calls ≡ parse limits file
+  pub accepts : (z : Sizes) → r ≡ Accepted z → Accepts limits z old new nw calls

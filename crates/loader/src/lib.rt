@@ -1,0 +1,213 @@
+// Loads a sale file into lent tables, or says its first refusal; hands out a buyer's marks.
+use reader::Outcome;
+ghost use mathlib.Core.Path.{_≡_};
+ghost use Prim.Native.Nat.{ℕ, _+_, _*_, _/_, _≤_};
+ghost use mathlib.Core.Bool.{cond};
+ghost use lib.Dec.{ltb};
+ghost use lib.ListN.{length, getD, take};
+ghost use Rattle.model.specs.Memory.{Filled, longLists, partOf, handedOut};
+ghost use Rattle.lines.specs.Line.{limitsOf};
+ghost use Rattle.reader.specs.Whole.{averageOf};
+ghost use Rattle.loader.specs.Handed.{netTables, Backed, partIn};
+ghost use Rattle.loader.specs.Tables.{lists, LongLists, sizesOf, Loads};
+
+// The sizes of an accepted catalogue: how many lots, buyers, sessions, thousandths of slack, marks and calls; ⌈W/k⌉; the cap.
+pub struct Sizes {
+    pub vertices: u32,
+    pub nets: u32,
+    pub blocks: u32,
+    pub imbalance: u32,
+    pub pins: usize,
+    pub calls: usize,
+    pub average: u32,
+    pub capacity: u32,
+}
+
+// An accepted file's sizes; or the refusal's number and the line's.
+pub enum Loaded {
+    Accepted(Sizes),
+    Refused(u8, usize),
+}
+
+// The first n entries become 0.
+pub fn clear(to: &mut [u16], n: usize)
+    requires { ⌜ n ≤ length (now to) ⌝ }
+    ensures { λ _. ⌜ Filled 0 (λ i. ltb i n) (λ i. 0) (now (to .entry)) (now (to .exit)) ⌝ }
+{
+    let mut i = 0;
+    while i < n {
+        to[i] = 0;
+        i += 1;
+    }
+}
+
+// The first n entries become those of `from`.
+pub fn copy(from: &[u16], to: &mut [u16], n: usize)
+    requires { ⌜ (n ≤ length (now from)) × (n ≤ length (now to)) ⌝ }
+    ensures { λ _. ⌜ Filled 0 (λ i. ltb i n) (λ i. getD (now (from .entry)) i 0) (now (to .entry)) (now (to .exit)) ⌝ }
+{
+    let mut i = 0;
+    while i < n {
+        to[i] = from[i];
+        i += 1;
+    }
+}
+
+// No lot is joined into another, and the present marks are the loaded ones.
+pub fn start(
+    vertices: usize,
+    nets: usize,
+    m: usize,
+    pins: &[u16],
+    sizes: &[u16],
+    aboves: &mut [u16],
+    present: &mut [u16],
+    counts: &mut [u16],
+)
+    requires { ⌜ (vertices ≤ length (now aboves)) × (m ≤ length (now pins)) × (m ≤ length (now present)) × (nets ≤ length (now sizes)) × (nets ≤ length (now counts)) ⌝ }
+    ensures { λ _. ⌜ Filled 0 (λ i. ltb i vertices) (λ i. 0) (now (aboves .entry)) (now (aboves .exit)) × Filled 0 (λ i. ltb i m) (λ i. getD (now (pins .entry)) i 0) (now (present .entry)) (now (present .exit)) × Filled 0 (λ i. ltb i nets) (λ i. getD (now (sizes .entry)) i 0) (now (counts .entry)) (now (counts .exit)) ⌝ }
+{
+    clear(aboves, vertices);
+    copy(pins, present, m);
+    copy(sizes, counts, nets);
+}
+
+// The sizes of an accepted catalogue, with ⌈W/k⌉ and the cap.
+pub fn measure(
+    weights: &[u32],
+    vertices: u32,
+    nets: u32,
+    blocks: u32,
+    imbalance: u32,
+    pins: usize,
+    calls: usize,
+) -> Sizes
+    requires { ⌜ (vertices ≤ 1024) × (vertices ≤ length (now weights)) × (1 ≤ blocks) × (blocks ≤ 16) × (imbalance ≤ 1000) × (averageOf blocks (take vertices (now weights)) ≤ 67107871) ⌝ }
+    ensures { λ r. ⌜ r ≡ sizesOf vertices nets blocks imbalance pins calls (averageOf blocks (take vertices (now (weights .entry)))) ((1000 + imbalance) * averageOf blocks (take vertices (now (weights .entry))) / 1000) ⌝ }
+{
+    let average = reader::average_weight(weights, vertices as usize, blocks);
+    let capacity = reader::capacity(average, imbalance);
+    Sizes {
+        vertices: vertices,
+        nets: nets,
+        blocks: blocks,
+        imbalance: imbalance,
+        pins: pins,
+        calls: calls,
+        average: average as u32,
+        capacity: capacity as u32,
+    }
+}
+
+// Loads a sale file: vmax lots and bmax sessions are its limits. The calls are three numbers each: the letter's byte and two numbers.
+pub fn load(
+    s: &[u8],
+    vmax: u32,
+    bmax: u32,
+    weights: &mut [u32],
+    draft: &mut [u16],
+    aboves: &mut [u16],
+    pins: &mut [u16],
+    present: &mut [u16],
+    firsts: &mut [u16],
+    sizes: &mut [u16],
+    counts: &mut [u16],
+    costs: &mut [u16; 1024],
+    calls: &mut [u32],
+) -> Loaded
+    requires { ⌜ (vmax ≤ 1024) × (bmax ≤ 16) × (length (now costs) ≡ 1024) × (1536 ≤ length (now calls)) × LongLists vmax (lists (now weights) (now draft) (now aboves) (now pins) (now present) (now firsts) (now sizes) (now counts)) ⌝ }
+    ensures { λ r. ⌜ Loads (limitsOf vmax bmax) (now (s .entry)) r (lists (now (weights .entry)) (now (draft .entry)) (now (aboves .entry)) (now (pins .entry)) (now (present .entry)) (now (firsts .entry)) (now (sizes .entry)) (now (counts .entry))) (lists (now (weights .exit)) (now (draft .exit)) (now (aboves .exit)) (now (pins .exit)) (now (present .exit)) (now (firsts .exit)) (now (sizes .exit)) (now (counts .exit))) (now (costs .exit)) (now (calls .exit)) ⌝ }
+{
+    match reader::read(
+        s,
+        vmax,
+        bmax,
+        weights,
+        draft,
+        costs,
+        firsts,
+        sizes,
+        pins,
+        calls,
+    ) {
+        Outcome::Refused(q, n) => Loaded::Refused(q, n),
+        Outcome::Taken(l, b, k, t, m, n) => {
+            start(
+                l as usize,
+                b as usize,
+                m,
+                pins,
+                sizes,
+                aboves,
+                present,
+                counts,
+            );
+            Loaded::Accepted(measure(weights, l, b, k, t, m, n))
+        }
+    }
+}
+
+// The buyers' tables and both mark tables have their lengths.
+pub fn long(loaded: &[u16], present: &[u16], firsts: &[u16], sizes: &[u16], counts: &[u16]) -> bool
+    ensures { λ r. ⌜ r ≡ longLists (netTables (now (loaded .entry)) (now (present .entry)) (now (firsts .entry)) (now (sizes .entry)) (now (counts .entry))) ⌝ }
+{
+    if loaded.len() < 8192 {
+        return false;
+    }
+    if present.len() < 8192 {
+        return false;
+    }
+    if firsts.len() < 1024 {
+        return false;
+    }
+    if sizes.len() < 1024 {
+        return false;
+    }
+    1024 <= counts.len()
+}
+
+// The stretch of a table that holds the pins of net e, or the empty one at its start; `long` says whether the tables are long enough.
+pub fn hand_out<'a>(
+    table: &'a [u16],
+    firsts: &[u16],
+    sizes: &[u16],
+    long: bool,
+    e: u32,
+) -> &'a [u16]
+    requires { ⌜ Backed long (now firsts) (now sizes) ⌝ }
+    ensures { λ r. ⌜ now r ≡ partOf (now (table .entry)) (partIn (now (table .entry)) (now (firsts .entry)) (now (sizes .entry)) long e) ⌝ }
+{
+    if !long {
+        return &table[0..0];
+    }
+    if !lines::between(1, 1024, e) {
+        return &table[0..0];
+    }
+    let x = (e - 1) as usize;
+    let from = firsts[x] as usize;
+    let end = from + sizes[x] as usize;
+    if table.len() < end {
+        return &table[0..0];
+    }
+    &table[from..end]
+}
+
+// A net's pins as loaded, or as they stand where `standing` is true: the stretch of the table that holds them, and the empty stretch at
+// the table's start for a number that no net has, for a short table and for a stretch that reaches past its table.
+pub fn pins_of<'a>(
+    loaded: &'a [u16],
+    present: &'a [u16],
+    firsts: &[u16],
+    sizes: &[u16],
+    counts: &[u16],
+    standing: bool,
+    e: u32,
+) -> &'a [u16]
+    ensures { λ r. ⌜ now r ≡ partOf (cond standing (now (present .entry)) (now (loaded .entry))) (handedOut (netTables (now (loaded .entry)) (now (present .entry)) (now (firsts .entry)) (now (sizes .entry)) (now (counts .entry))) standing e) ⌝ }
+{
+    let backed = long(loaded, present, firsts, sizes, counts);
+    if standing {
+        return hand_out(present, firsts, counts, backed, e);
+    }
+    hand_out(loaded, firsts, sizes, backed, e)
+}

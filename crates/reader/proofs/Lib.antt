@@ -1,0 +1,5 @@
+pub mod Turns
+pub mod Lots
+pub mod NetLines
+pub mod Ranges
+pub mod Loads

@@ -1,0 +1,197 @@
+-- One line after another: what the lines from a cursor on say; the table of calls. Rests on Seen and on text's laws of parts.
+use Prim.Native.Nat.{ℕ, zero, suc, _+_, _-_, _*_, _≤_, _<_}
+use mathlib.Core.Path.{_≡_, refl, ap, sym, _∙_}
+use mathlib.Core.List.{List, [], _∷_, _++_}
+use mathlib.Core.Bool.{Bool, true, false, _&&_, cond}
+use native.Mathlib.Omega.{arith}
+use native.Mathlib.Numerals.{add-one}
+use lib.ListN.{length, getD, set, length-append, length-set}
+use lib.Seq.{slice, slice-empty, getD-set-same, getD-set-other}
+use lib.Dec.{eqb, ltb}
+use borrow.Author.Tests.{eqb-true, le-ltb, le-leb, lt-leb, ltb-true, ltb-false}
+use Rattle.laws.specs.Choice.{and-left, and-right}
+use Rattle.model.specs.Catalogue.{Limits, Hypergraph}
+use Rattle.model.specs.Machine.{Call}
+use Rattle.model.specs.Grammar.{Reading, reading, stopped, parts, fields, Asked, asks, nothing, asked, callOf, withCall, whole, full, callLine, line, ending, lines}
+use Rattle.text.specs.Field.{first, FirstAt}
+use Rattle.text.proofs.Walk.{slice-at, first-within, parts-some}
+use Rattle.text.proofs.Lines.{parts-on, parts-last}
+use Rattle.lines.specs.Line.{book, Named}
+use Rattle.reader.specs.Seen.{listed, callsOf, CallsRead}
+use Rattle.reader.specs.declared.Ended.the-variants.{Up, Stop}
+
+pub lines-stopped : (limits : Limits) (n q m : ℕ) (ls : List (List ℕ)) → lines limits n (stopped q m) ls ≡ stopped q m
+unfolding lines ending line
+lines-stopped limits n q m [] = refl
+lines-stopped limits n q m (l ∷ []) = refl
+lines-stopped limits n q m (l ∷ (k ∷ ls)) = lines-stopped limits (suc n) q m (k ∷ ls)
+
+lines-on : (limits : Limits) (n : ℕ) (r : Reading) (l rest : List ℕ) → lines limits n r (l ∷ parts 10 rest) ≡ lines limits (n + 1) (line limits n r l) (parts 10 rest)
+unfolding lines
+lines-on limits n r l rest = rw add-one (go (parts 10 rest) refl)
+  where
+    go : (ps : List (List ℕ)) → parts 10 rest ≡ ps → lines limits n r (l ∷ ps) ≡ lines limits (suc n) (line limits n r l) ps
+    go [] e = absurd (parts-some 10 rest e)
+    go (p ∷ ps) e = refl
+
+pub finish : (limits : Limits) (s : List ℕ) (len i n : ℕ) (r : Reading) → i ≡ len → lines limits n r (parts 10 (slice i len s)) ≡ ending n r []
+unfolding lines parts
+finish limits s len i n r e = rw (e, slice-empty)
+
+module _ (limits : Limits) (s : List ℕ) (len i e n : ℕ) (lt : i < len) (within : len ≤ length s) (found : FirstAt s i len 10 e) where
+  pub turn : (r : Reading) → e < len → lines limits n r (parts 10 (slice i len s)) ≡ lines limits (n + 1) (line limits n r (slice i e s)) (parts 10 (slice (e + 1) len s))
+  turn r more = ap (lines limits n r) (parts-on s i len 10 e (omega arith) within found more) ∙ lines-on limits n r (slice i e s) (slice (e + 1) len s)
+
+  pub turn-stop : (r : Reading) (q m : ℕ) → e < len → line limits n r (slice i e s) ≡ stopped q m → lines limits n r (parts 10 (slice i len s)) ≡ stopped q m
+  turn-stop r q m more h = turn r more ∙ ap (λ (x : Reading). lines limits (n + 1) x (parts 10 (slice (e + 1) len s))) h ∙ lines-stopped limits (n + 1) q m (parts 10 (slice (e + 1) len s))
+
+  pub unended : (r : Reading) (x : Reading) → e ≡ len → ((b : ℕ) (bs : List ℕ) → ending n r (b ∷ bs) ≡ x) → lines limits n r (parts 10 (slice i len s)) ≡ x
+  unfolding lines
+  unended r x last h =
+      ap (lines limits n r) (parts-last s i len 10 e (omega arith) within found last)
+      ∙ ap (λ (m : ℕ). ending n r (slice i m s)) last
+      ∙ ap (ending n r) (slice-at s i len lt within)
+      ∙ h (getD s i 0) (slice (i + 1) len s)
+
+-- no line feed any more, wherever the cursor stands
+pub no-more : (limits : Limits) (s : List ℕ) (len i e n : ℕ) → i ≤ len → len ≤ length s → FirstAt s i len 10 e → (r x : Reading) → e ≡ len → ((l : List ℕ) → ending n r l ≡ x) → lines limits n r (parts 10 (slice i len s)) ≡ x
+unfolding lines
+no-more limits s len i e n le within found r x last h = ap (lines limits n r) (parts-last s i len 10 e le within found last) ∙ h (slice i e s)
+
+-- the same of `turn`, at any cursor before a line feed
+pub turned : (limits : Limits) (s : List ℕ) (len i e n : ℕ) → i ≤ len → len ≤ length s → FirstAt s i len 10 e → (r : Reading) → e < len → lines limits n r (parts 10 (slice i len s)) ≡ lines limits (n + 1) (line limits n r (slice i e s)) (parts 10 (slice (e + 1) len s))
+turned limits s len i e n le within found r more = ap (lines limits n r) (parts-on s i len 10 e le within found more) ∙ lines-on limits n r (slice i e s) (slice (e + 1) len s)
+
+-- ---- the calls
+module _ (limits : Limits) (l b m : ℕ) (h : Hypergraph) (cs : List Call) (w : whole (book l b h m []) ≡ true) (n : ℕ) where
+  call-turn : (x : List ℕ) → line limits n (reading (book l b h m cs)) x ≡ callLine n (book l b h m cs) (fields x)
+  unfolding line
+  call-turn x =
+      rw (
+        le-ltb (length (h .weights)) l (omega (arith, eqb-true (length (h .weights)) l (and-left _ _ w))),
+        le-ltb (length (h .nets)) b (omega (arith, eqb-true (length (h .nets)) b (and-right (eqb (length (h .weights)) l) _ w))),
+      )
+
+  not-full : length cs < 512 → full (book l b h m cs) ≡ false
+  not-full u = rw (lt-leb 512 (length cs) u) (go (whole (book l b h m [])))
+    where
+      go : (t : Bool) → (t && false) ≡ false
+      go true = refl
+      go false = refl
+
+  is-full : 512 ≤ length cs → full (book l b h m cs) ≡ true
+  is-full u = rw (w, le-leb 512 (length cs) u)
+
+  call-line-is : (x : List ℕ) (t : Bool) → full (book l b h m cs) ≡ t → line limits n (reading (book l b h m cs)) x ≡ cond t (stopped 7 n) (withCall n (book l b h m cs) (asked (fields x)))
+  unfolding callLine
+  call-line-is x t e = call-turn x ∙ ap (λ (u : Bool). cond u (stopped 7 n) (withCall n (book l b h m cs) (asked (fields x)))) e
+
+  pub call-bad : (x : List ℕ) → length cs < 512 → nothing ≡ asked (fields x) → line limits n (reading (book l b h m cs)) x ≡ stopped 2 n
+  unfolding withCall
+  call-bad x u e = call-line-is x false (not-full u) ∙ ap (withCall n (book l b h m cs)) (sym e)
+
+  pub call-more : (x : List ℕ) (c : Call) → length cs < 512 → asks c ≡ asked (fields x) → line limits n (reading (book l b h m cs)) x ≡ reading (book l b h m (cs ++ (c ∷ [])))
+  unfolding withCall
+  call-more x c u e = call-line-is x false (not-full u) ∙ ap (withCall n (book l b h m cs)) (sym e)
+
+  pub call-end : ending n (reading (book l b h m cs)) [] ≡ reading (book l b h m cs)
+  unfolding ending
+  call-end = ap (λ (t : Bool). cond t (reading (book l b h m cs)) (stopped 2 n)) w
+
+  pub call-unended : length cs < 512 → (x : ℕ) (xs : List ℕ) → ending n (reading (book l b h m cs)) (x ∷ xs) ≡ stopped 2 n
+  unfolding ending
+  call-unended u x xs = ap (λ (t : Bool). cond t (stopped 7 n) (stopped 2 n)) (not-full u)
+
+  pub call-full : (s : List ℕ) (len i : ℕ) → i < len → len ≤ length s → 512 ≤ length cs → lines limits n (reading (book l b h m cs)) (parts 10 (slice i len s)) ≡ stopped 7 n
+  unfolding ending
+  call-full s len i lt within u = go (ltb e len) refl
+    where
+      e : ℕ
+      e = i + first 10 (slice i len s)
+
+      found : FirstAt s i len 10 e
+      found = record { is = refl; low = omega arith; high = first-within s i len 10 (omega arith) within }
+
+      go : (t : Bool) → ltb e len ≡ t → lines limits n (reading (book l b h m cs)) (parts 10 (slice i len s)) ≡ stopped 7 n
+      go true q = turn-stop limits s len i e n lt within found (reading (book l b h m cs)) 7 n (ltb-true e len q) (call-line-is (slice i e s) true (is-full u))
+      go false q = unended limits s len i e n lt within found (reading (book l b h m cs)) (stopped 7 n) (omega (arith, ltb-false e len q, found .high))
+          (λ x xs. ap (λ (t : Bool). cond t (stopped 7 n) (stopped 2 n)) (is-full u))
+
+-- ---- the table of calls
+calls-frame : (c : ℕ) (t : List ℕ) (x v : ℕ) → 3 * c ≤ x → callsOf c (set t x v) ≡ callsOf c t
+unfolding callsOf
+calls-frame zero t x v l = refl
+calls-frame (suc c) t x v l =
+    rw (calls-frame c t x v (omega arith), getD-set-other t x (3 * c) v 0 (λ e. omega arith), getD-set-other t x (3 * c + 1) v 0 (λ e. omega arith), getD-set-other t x (3 * c + 2) v 0 (λ e. omega arith))
+
+module _ (t : List ℕ) (c k a b : ℕ) (inside : 3 * c + 2 < length t) where
+  abbrev put : List ℕ
+  put = set (set (set t (3 * c) k) (3 * c + 1) a) (3 * c + 2) b
+
+  put-0 : getD put (3 * c) 0 ≡ k
+  put-0 = getD-set-other (set (set t (3 * c) k) (3 * c + 1) a) (3 * c + 2) (3 * c) b 0 (λ e. omega arith) ∙ getD-set-other (set t (3 * c) k) (3 * c + 1) (3 * c) a 0 (λ e. omega arith) ∙ getD-set-same t (3 * c) k 0 (omega arith)
+
+  put-1 : getD put (3 * c + 1) 0 ≡ a
+  put-1 = getD-set-other (set (set t (3 * c) k) (3 * c + 1) a) (3 * c + 2) (3 * c + 1) b 0 (λ e. omega arith) ∙ getD-set-same (set t (3 * c) k) (3 * c + 1) a 0 (simp length-set (omega arith))
+
+  put-2 : getD put (3 * c + 2) 0 ≡ b
+  put-2 = getD-set-same (set (set t (3 * c) k) (3 * c + 1) a) (3 * c + 2) b 0 (simp length-set (omega arith))
+
+  put-below : callsOf c put ≡ callsOf c t
+  put-below = calls-frame c (set (set t (3 * c) k) (3 * c + 1) a) (3 * c + 2) b (omega arith) ∙ calls-frame c (set t (3 * c) k) (3 * c + 1) a (omega arith) ∙ calls-frame c t (3 * c) k (omega arith)
+
+  pub calls-more : callsOf (c + 1) put ≡ callsOf c t ++ listed (callOf k a b)
+  unfolding callsOf
+  calls-more = rw add-one (ap (λ (l : List Call). l ++ listed (callOf (getD put (3 * c) 0) (getD put (3 * c + 1) 0) (getD put (3 * c + 2) 0))) put-below
+      ∙ ap (λ (x : ℕ). callsOf c t ++ listed (callOf x (getD put (3 * c + 1) 0) (getD put (3 * c + 2) 0))) put-0
+      ∙ ap (λ (x : ℕ). callsOf c t ++ listed (callOf k x (getD put (3 * c + 2) 0))) put-1
+      ∙ ap (λ (x : ℕ). callsOf c t ++ listed (callOf k a x)) put-2)
+
+stop-up : {A : Type 0} {q n c : ℕ} → Stop q n ≡ Up c → A
+stop-up e = absurd (let z : _≡_ {A = ℕ} 0 1 = cc in omega arith)
+
+pub record OnCalls (s : List ℕ) (at n : ℕ) (t₀ t : List ℕ) (i c : ℕ) : Type 0 where
+  pub i-le : i ≤ length s
+  pub c-le : c ≤ 512
+  pub n-le : n ≤ 4096
+  pub wide : 1536 ≤ length t
+  pub same : length t ≡ length t₀
+  pub count : length (callsOf c t) ≡ c
+  pub says : (limits : Limits) (l b m : ℕ) (h : Hypergraph) → whole (book l b h m []) ≡ true
+      → lines limits n (reading (book l b h m [])) (parts 10 (slice at (length s) s)) ≡ lines limits (n + c) (reading (book l b h m (callsOf c t))) (parts 10 (slice i (length s) s))
+
+pub calls-start : (s : List ℕ) (at n : ℕ) (t : List ℕ) → at ≤ length s → n ≤ 4096 → 1536 ≤ length t → OnCalls s at n t t at 0
+unfolding callsOf
+calls-start s at n t a b c = record { i-le = a; c-le = omega arith; n-le = b; wide = c; same = refl; count = refl; says = λ limits l b m h w. let z : n + 0 ≡ n = omega arith in rw z }
+
+module _ (s : List ℕ) (at n : ℕ) (t₀ t : List ℕ) (i c : ℕ) (on : OnCalls s at n t₀ t i c) where
+  pub calls-done : i ≡ length s → CallsRead s at n (Up c) t
+  calls-done e = record { known = λ d q. let z : c ≡ d = cc in (omega (arith, on .c-le), rw (← z) (on .count)); says = λ limits l b m h w. sym (on .says limits l b m h w ∙ finish limits s (length s) i (n + c) (reading (book l b h m (callsOf c t))) e ∙ call-end limits l b m h (callsOf c t) w (n + c)) }
+
+  module _ (lt : i < length s) where
+    pub calls-full : c ≡ 512 → CallsRead s at n (Stop 7 (n + c)) t
+    calls-full e = record { known = λ d q. stop-up q; says = λ limits l b m h w. sym (on .says limits l b m h w ∙ call-full limits l b m h (callsOf c t) w (n + c) s (length s) i lt (omega arith) (omega (arith, on .count))) }
+
+    module _ (e : ℕ) (found : FirstAt s i (length s) 10 e) (room : c < 512) where
+      pub calls-unended : e ≡ length s → CallsRead s at n (Stop 2 (n + c)) t
+      calls-unended x = record { known = λ d q. stop-up q; says = λ limits l b m h w. sym (on .says limits l b m h w ∙ unended limits s (length s) i e (n + c) lt (omega arith) found (reading (book l b h m (callsOf c t))) (stopped 2 (n + c)) x (call-unended limits l b m h (callsOf c t) w (n + c) (omega (arith, on .count)))) }
+
+      module _ (more : e < length s) where
+        pub calls-bad : nothing ≡ asked (fields (slice i e s)) → CallsRead s at n (Stop 2 (n + c)) t
+        calls-bad x = record { known = λ d q. stop-up q; says = λ limits l b m h w. sym (on .says limits l b m h w ∙ turn-stop limits s (length s) i e (n + c) lt (omega arith) found (reading (book l b h m (callsOf c t))) 2 (n + c) more (call-bad limits l b m h (callsOf c t) w (n + c) (slice i e s) (omega (arith, on .count)) x)) }
+
+        pub calls-on : (k a b : ℕ) → Named (fields (slice i e s)) k a b → OnCalls s at n t₀ (set (set (set t (3 * c) k) (3 * c + 1) a) (3 * c + 2) b) (e + 1) (c + 1)
+        calls-on k a b x = record {
+          i-le = omega arith;
+          c-le = omega arith;
+          n-le = on .n-le;
+          wide = simp length-set (on .wide);
+          same = simp length-set (on .same);
+          count = ap length (calls-more t c k a b (omega (arith, on .wide)) ∙ ap (λ (y : Asked). callsOf c t ++ listed y) (x .is)) ∙ length-append (callsOf c t) (x .call ∷ []) ∙ ap (λ (y : ℕ). y + 1) (on .count);
+          says = λ limits l q m h w.
+              let z : n + (c + 1) ≡ n + c + 1 = omega arith in
+              on .says limits l q m h w
+              ∙ turn limits s (length s) i e (n + c) lt (omega arith) found (reading (book l q h m (callsOf c t))) more
+              ∙ ap (λ (r : Reading). lines limits (n + c + 1) r (parts 10 (slice (e + 1) (length s) s))) (call-more limits l q m h (callsOf c t) w (n + c) (slice i e s) (x .call) (omega (arith, on .count)) (sym (x .says)))
+              ∙ rw (z, calls-more t c k a b (omega (arith, on .wide)), x .is);
+        }

@@ -1,0 +1,77 @@
+-- `reader::after_head` meets its contract.
+use native.Mathlib.Omega.{arith}
+use mathlib.Core.Path.{_≡_, refl, sym, _∙_, ap}
+use Rattle.reader.proofs.Ranges.{lots-cut, lots-go, fresh-start}
+use denote.Ref.{now}
+use borrow.Author.Needs.{needs}
+use Rattle.reader.proofs.after_head.Statement.{statement}
+use Rattle.reader.proofs.after_head.Tie as tie
+use Rattle.reader.proofs.after_head.Reads as reads
+use Rattle.reader.proofs.after_head.Lts as lts
+use Rattle.reader.proofs.after_vertices.Reads as after-vertices-reads
+use Rattle.reader.proofs.read_vertices.Reads as read-vertices-reads
+
+cast-read-vertices : tie.Need-cast-read-vertices
+cast-read-vertices c = search needs
+
+read-vertices-requires : tie.Need-read-vertices-requires
+read-vertices-requires c κs = let p = c .before .before .before .before .before .before .before .before .before .pre in (p .0, p .1 .l-low, p .2 .l-le, p .2 .w-len, p .2 .d-len)
+
+enum-known-q : tie.Need-enum-known-q
+enum-known-q c = search needs
+
+enum-known-i : tie.Need-enum-known-i
+enum-known-i c = search needs
+
+after-vertices-requires : tie.Need-after-vertices-requires
+after-vertices-requires c κs = let p = c .before .before .before .before .before .before .before .before .before .before .before .before .before .before .before .before .before .before .before .before .before .before .before .before .before .pre in record { at-le = c .before .before .before .before .before .before .before .before .before .before .before .before .before .before .before .read-vertices .ensures .inside (c .before .before .before .before .before .before .before .before .before .i .given .0 .0) (c .before .before .before .before .before .before .before .before .before .i .given .1); range = p .1; long = record { l-le = p .2 .l-le; w-len = omega (arith, p .2 .w-len, c .before .before .before .before .before .before .before .before .before .before .before .before .before .before .before .read-vertices .kept .1 .1 .1 .1 .0); d-len = omega (arith, p .2 .d-len, c .before .before .before .before .before .before .before .before .before .before .before .before .before .before .before .read-vertices .kept .1 .1 .1 .1 .1 .0); nw-len = p .2 .nw-len; f-len = p .2 .f-len; c-len = p .2 .c-len; wide = p .2 .wide; calls-len = p .2 .calls-len }; slen = refl; fresh = fresh-start }
+
+same-length : tie.Need-same-length
+same-length c = search needs
+
+same-length-2 : tie.Need-same-length-2
+same-length-2 c = search needs
+
+returns : tie.Need-returns
+returns c = let a = c .before .before .before .before .before .before .before .before .before .before .before .before .before .before .before .before .before .args in lots-cut (now (a .s)) (a .at) (a .vertices) (a .nets) (a .blocks) (a .imbalance) (now (a .weights)) (now (a .draft)) (now (a .firsts)) (now (a .sizes)) (now (a .pins)) _ _ (c .before .before .before .before .before .before .before .read-vertices .result) (c .before .before .before .before .before .before .before .read-vertices .ensures) (c .before .q .given .0 .0) (c .before .q .given .0 .1 .0) (c .before .q .given .1) (now (a .costs)) (now (a .firsts)) (now (a .sizes)) (now (a .pins)) (now (a .calls))
+
+same-length-3 : tie.Need-same-length-3
+same-length-3 c = search needs
+
+same-length-4 : tie.Need-same-length-4
+same-length-4 c = search needs
+
+same-length-5 : tie.Need-same-length-5
+same-length-5 c = search needs
+
+same-length-6 : tie.Need-same-length-6
+same-length-6 c = search needs
+
+same-length-7 : tie.Need-same-length-7
+same-length-7 c = search needs
+
+same-length-8 : tie.Need-same-length-8
+same-length-8 c = search needs
+
+returns-2 : tie.Need-returns-2
+returns-2 c = let a = c .before .before .before .before .before .before .before .before .before .before .before .before .before .before .before .before .before .before .before .before .before .before .before .before .before .before .before .before .before .before .before .before .before .before .args in lots-go (now (a .s)) (a .at) (a .vertices) (a .nets) (a .blocks) (a .imbalance) (now (a .weights)) (now (a .draft)) (now (a .firsts)) (now (a .sizes)) (now (a .pins)) _ _ (c .before .before .before .before .before .before .before .before .before .before .before .before .before .before .before .before .before .before .before .before .before .before .before .before .read-vertices .result) (c .before .before .before .before .before .before .before .before .before .before .before .before .before .before .before .before .before .before .before .before .before .before .before .before .read-vertices .ensures) (c .before .before .before .before .before .before .before .before .before .before .before .before .before .before .before .before .before .before .i .given .0 .0) (c .before .before .before .before .before .before .before .before .before .before .before .before .before .before .before .before .before .before .i .given .1) (c .before .before .before .before .before .before .before .before .after-vertices .result) _ _ _ _ _ (c .before .before .before .before .before .before .before .before .after-vertices .ensures)
+
+pub after-head-spec : {M : Type 1} → statement M
+after-head-spec =
+    tie.close
+    (tie.spec
+    cast-read-vertices
+    read-vertices-requires
+    enum-known-q
+    enum-known-i
+    after-vertices-requires
+    same-length
+    same-length-2
+    returns
+    same-length-3
+    same-length-4
+    same-length-5
+    same-length-6
+    same-length-7
+    same-length-8
+    returns-2)

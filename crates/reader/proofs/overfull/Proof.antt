@@ -1,0 +1,66 @@
+-- `reader::overfull` meets its contract.
+use native.Mathlib.Omega.{arith}
+use mathlib.Core.Path.{_≡_}
+use denote.Ref.{now}
+use borrow.Author.Needs.{needs}
+use Prim.Native.Nat.{_-_, _≤_}
+use mathlib.Core.Bool.{false}
+use mathlib.Core.List.{List}
+use Rattle.model.specs.Catalogue.{Net}
+use Rattle.reader.proofs.Loads.{upTo, over-none, over-next, over-found, over-all}
+use Rattle.reader.proofs.overfull.Statement.{statement}
+use Rattle.reader.proofs.overfull.Tie as tie
+use Rattle.reader.proofs.overfull.Reads as reads
+use Rattle.reader.proofs.overfull.Lts as lts
+use Rattle.reader.proofs.average_weight.Reads as average-weight-reads
+use Rattle.reader.proofs.block_weight.Reads as block-weight-reads
+use Rattle.reader.proofs.capacity.Reads as capacity-reads
+
+abbrev Inv-loop : tie.InvT-loop
+Inv-loop vertices blocks imbalance weights draft most b₀ b = (b ≤ blocks) × ((ns : List Net) → upTo vertices blocks imbalance weights draft ns b ≡ false)
+
+abbrev μ-loop : tie.MeasureT-loop
+μ-loop vertices blocks imbalance weights draft most b₀ b = blocks - b
+
+average-weight-requires : tie.Need-average-weight-requires Inv-loop μ-loop
+average-weight-requires c κs = search needs
+
+capacity-requires : tie.Need-capacity-requires Inv-loop μ-loop
+capacity-requires c κs = search needs
+
+loop-holds : tie.Need-loop-holds Inv-loop μ-loop
+loop-holds c = let a = c .before .before .before .before .args in (omega arith, λ ns. over-none (a .vertices) (a .blocks) (a .imbalance) (now (a .weights)) (now (a .draft)) ns)
+
+add-b : tie.Need-add-b Inv-loop μ-loop
+add-b c = omega arith
+
+block-weight-requires : tie.Need-block-weight-requires Inv-loop μ-loop
+block-weight-requires c κs = search needs
+
+returns : tie.Need-returns Inv-loop μ-loop
+returns c = let a = c .before .before .before .before .before .before .before .before .args in λ ns. over-found (a .vertices) (a .blocks) (a .imbalance) (now (a .weights)) (now (a .draft)) ns (omega arith) (c .before .before .before .loop .b) (c .before .before .before .before .before .average-weight .result) (c .before .before .before .before .capacity .result) (c .before .block-weight .result) (c .before .before .before .before .before .average-weight .ensures .0) (c .before .before .before .before .capacity .ensures) (c .before .block-weight .ensures) (omega arith) (c .if1 .taken)
+
+loop-less : tie.Need-loop-less Inv-loop μ-loop
+loop-less c = omega arith
+
+loop-again : tie.Need-loop-again Inv-loop μ-loop
+loop-again c = let a = c .before .before .before .before .before .before .before .before .args in (omega arith, λ ns. over-next (a .vertices) (a .blocks) (a .imbalance) (now (a .weights)) (now (a .draft)) ns (omega arith) (c .before .before .before .loop .b) (c .before .before .before .before .before .average-weight .result) (c .before .before .before .before .capacity .result) (c .before .block-weight .result) (c .before .before .before .before .before .average-weight .ensures .0) (c .before .before .before .before .capacity .ensures) (c .before .block-weight .ensures) (c .before .before .before .loop .inv .1 ns) (c .if1 .left))
+
+returns-2 : tie.Need-returns-2 Inv-loop μ-loop
+returns-2 c = let a = c .before .before .before .before .before .before .args in λ ns. over-all (a .vertices) (a .blocks) (a .imbalance) (now (a .weights)) (now (a .draft)) ns (c .before .loop .b) (omega arith) (c .before .loop .inv .1 ns)
+
+pub overfull-spec : {M : Type 1} → statement M
+overfull-spec =
+    tie.close
+    (tie.spec
+    Inv-loop
+    μ-loop
+    average-weight-requires
+    capacity-requires
+    loop-holds
+    add-b
+    block-weight-requires
+    returns
+    loop-less
+    loop-again
+    returns-2)

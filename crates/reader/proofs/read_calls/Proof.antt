@@ -1,0 +1,146 @@
+-- `reader::read_calls` meets its contract.
+use Prim.Native.Nat.{_-_}
+use lib.ListN.{length, length-set}
+use native.Mathlib.Omega.{arith}
+use mathlib.Core.Path.{subst}
+use denote.Ref.{now}
+use borrow.Author.Needs.{needs}
+use lib.Seq.{slice}
+use Rattle.model.specs.Grammar.{fields}
+use Rattle.lines.specs.Line.{CallRead}
+use Rattle.reader.proofs.Turns.{OnCalls, calls-start, calls-done, calls-full, calls-unended, calls-bad, calls-on}
+use Rattle.reader.proofs.read_calls.Statement.{statement}
+use Rattle.reader.proofs.read_calls.Tie as tie
+use Rattle.reader.proofs.read_calls.Reads as reads
+use Rattle.reader.proofs.read_calls.Lts as lts
+use Rattle.text.proofs.find.Reads as find-reads
+use Rattle.lines.proofs.call_line.Reads as call-line-reads
+
+abbrev Inv-loop : tie.InvT-loop
+Inv-loop s at n calls₀ len i₀ c₀ calls i c = OnCalls s at n calls₀ calls i c
+
+abbrev μ-loop : tie.MeasureT-loop
+μ-loop s at n calls₀ len i₀ c₀ calls i c = length s - i
+
+loop-holds : tie.Need-loop-holds Inv-loop μ-loop
+loop-holds c = let a = c .before .before .args in calls-start (now (a .s)) (a .at) (a .n) (now (a .calls)) (omega arith) (omega arith) (omega arith)
+
+add-t14 : tie.Need-add-t14 Inv-loop μ-loop
+add-t14 c = omega arith
+
+same-length : tie.Need-same-length Inv-loop μ-loop
+same-length c = c .before .before .loop .inv .same
+
+returns : tie.Need-returns Inv-loop μ-loop
+returns c = let a = c .before .before .before .before .before .args in let l = c .before .before .loop in calls-full (now (a .s)) (a .at) (a .n) (now (a .calls)) (l .calls) (l .i) (l .c) (l .inv) (omega arith) (c .if1 .taken)
+
+find-requires : tie.Need-find-requires Inv-loop μ-loop
+find-requires c κs = search needs
+
+add-t15 : tie.Need-add-t15 Inv-loop μ-loop
+add-t15 c = omega arith
+
+same-length-2 : tie.Need-same-length-2 Inv-loop μ-loop
+same-length-2 c = c .before .before .before .before .loop .inv .same
+
+returns-2 : tie.Need-returns-2 Inv-loop μ-loop
+returns-2 c = let a = c .before .before .before .before .before .before .before .args in let l = c .before .before .before .before .loop in calls-unended (now (a .s)) (a .at) (a .n) (now (a .calls)) (l .calls) (l .i) (l .c) (l .inv) (omega arith) (c .before .find .result) (c .before .find .ensures) (omega arith) (omega arith)
+
+call-line-requires : tie.Need-call-line-requires Inv-loop μ-loop
+call-line-requires c κs = search needs
+
+enum-told : tie.Need-enum-told Inv-loop μ-loop
+enum-told c = search needs
+
+add-t17 : tie.Need-add-t17 Inv-loop μ-loop
+add-t17 c = omega arith
+
+same-length-3 : tie.Need-same-length-3 Inv-loop μ-loop
+same-length-3 c = c .before .before .before .before .before .before .before .loop .inv .same
+
+returns-3 : tie.Need-returns-3 Inv-loop μ-loop
+returns-3 c = let a = c .before .before .before .before .before .before .before .before .before .before .args in let l = c .before .before .before .before .before .before .before .loop in calls-bad (now (a .s)) (a .at) (a .n) (now (a .calls)) (l .calls) (l .i) (l .c) (l .inv) (omega arith) (c .before .before .before .before .find .result) (c .before .before .before .before .find .ensures) (omega arith) (omega arith) (subst (CallRead (fields (slice (l .i) (c .before .before .before .before .find .result) (now (a .s))))) (c .enum-told .given .1) (c .before .before .call-line .ensures))
+
+enum-known-k : tie.Need-enum-known-k Inv-loop μ-loop
+enum-known-k c = search needs
+
+mul-x : tie.Need-mul-x Inv-loop μ-loop
+mul-x c = omega arith
+
+mul-calls : tie.Need-mul-calls Inv-loop μ-loop
+mul-calls c = omega arith
+
+slice-write-calls : tie.Need-slice-write-calls Inv-loop μ-loop
+slice-write-calls c = omega arith
+
+add-calls : tie.Need-add-calls Inv-loop μ-loop
+add-calls c = omega arith
+
+mul-calls-2 : tie.Need-mul-calls-2 Inv-loop μ-loop
+mul-calls-2 c = omega arith
+
+slice-write-calls-2 : tie.Need-slice-write-calls-2 Inv-loop μ-loop
+slice-write-calls-2 c = simp length-set (omega arith)
+
+add-calls-2 : tie.Need-add-calls-2 Inv-loop μ-loop
+add-calls-2 c = omega arith
+
+mul-calls-3 : tie.Need-mul-calls-3 Inv-loop μ-loop
+mul-calls-3 c = omega arith
+
+slice-write-calls-3 : tie.Need-slice-write-calls-3 Inv-loop μ-loop
+slice-write-calls-3 c = simp length-set (omega arith)
+
+add-c : tie.Need-add-c Inv-loop μ-loop
+add-c c = omega arith
+
+add-i : tie.Need-add-i Inv-loop μ-loop
+add-i c = omega arith
+
+loop-less : tie.Need-loop-less Inv-loop μ-loop
+loop-less c = omega arith
+
+loop-again : tie.Need-loop-again Inv-loop μ-loop
+loop-again c = let a = c .before .before .before .before .before .before .before .before .before .before .before .args in let l = c .before .before .before .before .before .before .before .before .loop in calls-on (now (a .s)) (a .at) (a .n) (now (a .calls)) (l .calls) (l .i) (l .c) (l .inv) (omega arith) (c .before .before .before .before .before .find .result) (c .before .before .before .before .before .find .ensures) (omega arith) (omega arith) (c .before .k .given .0 .0) (c .before .k .given .0 .1 .0) (c .before .k .given .0 .1 .1 .0) (subst (CallRead (fields (slice (l .i) (c .before .before .before .before .before .find .result) (now (a .s))))) (c .before .k .given .1) (c .before .before .before .call-line .ensures))
+
+same-length-4 : tie.Need-same-length-4 Inv-loop μ-loop
+same-length-4 c = c .before .loop .inv .same
+
+returns-4 : tie.Need-returns-4 Inv-loop μ-loop
+returns-4 c = let a = c .before .before .before .before .args in let l = c .before .loop in calls-done (now (a .s)) (a .at) (a .n) (now (a .calls)) (l .calls) (l .i) (l .c) (l .inv) (omega arith)
+
+pub read-calls-spec : {M : Type 1} → statement M
+read-calls-spec =
+    tie.close
+    (tie.spec
+    Inv-loop
+    μ-loop
+    loop-holds
+    add-t14
+    same-length
+    returns
+    find-requires
+    add-t15
+    same-length-2
+    returns-2
+    call-line-requires
+    enum-told
+    add-t17
+    same-length-3
+    returns-3
+    enum-known-k
+    mul-x
+    mul-calls
+    slice-write-calls
+    add-calls
+    mul-calls-2
+    slice-write-calls-2
+    add-calls-2
+    mul-calls-3
+    slice-write-calls-3
+    add-c
+    add-i
+    loop-less
+    loop-again
+    same-length-4
+    returns-4)

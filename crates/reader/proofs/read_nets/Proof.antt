@@ -1,0 +1,166 @@
+-- `reader::read_nets` meets its contract.
+use Prim.Native.Nat.{_-_}
+use native.Mathlib.Omega.{arith}
+use mathlib.Core.Path.{_∙_}
+use denote.Ref.{now}
+use borrow.Author.Needs.{needs}
+use Rattle.reader.proofs.NetLines.{OnBuys, buys-start, buys-none, buys-stop, buys-on, buys-done}
+use Rattle.reader.proofs.read_nets.Statement.{statement}
+use Rattle.reader.proofs.read_nets.Tie as tie
+use Rattle.reader.proofs.read_nets.Reads as reads
+use Rattle.reader.proofs.read_nets.Lts as lts
+use Rattle.text.proofs.find.Reads as find-reads
+use Rattle.lines.proofs.buy_line.Reads as buy-line-reads
+
+abbrev Inv-loop : tie.InvT-loop
+Inv-loop s at vertices nets costs₀ firsts₀ sizes₀ pins₀ stamps₀ len base i₀ j₀ m₀ costs firsts sizes pins stamps i j m = OnBuys s at vertices nets firsts₀ sizes₀ pins₀ costs firsts sizes pins stamps i j m
+
+abbrev μ-loop : tie.MeasureT-loop
+μ-loop s at vertices nets costs₀ firsts₀ sizes₀ pins₀ stamps₀ len base i₀ j₀ m₀ costs firsts sizes pins stamps i j m = nets - j
+
+add-base : tie.Need-add-base Inv-loop μ-loop
+add-base c = omega arith
+
+loop-holds : tie.Need-loop-holds Inv-loop μ-loop
+loop-holds c = let a = c .before .before .before .before .args in buys-start (now (a .s)) (a .at) (a .vertices) (a .nets) (now (a .costs)) (now (a .firsts)) (now (a .sizes)) (now (a .pins)) (now (a .stamps)) (c .before .before .before .before .pre)
+
+find-requires : tie.Need-find-requires Inv-loop μ-loop
+find-requires c κs = (omega arith, omega arith)
+
+add-t21 : tie.Need-add-t21 Inv-loop μ-loop
+add-t21 c = omega arith
+
+same-length : tie.Need-same-length Inv-loop μ-loop
+same-length c = c .before .before .before .loop .inv .f-same
+
+same-length-2 : tie.Need-same-length-2 Inv-loop μ-loop
+same-length-2 c = c .before .before .before .loop .inv .c-same
+
+same-length-3 : tie.Need-same-length-3 Inv-loop μ-loop
+same-length-3 c = c .before .before .before .loop .inv .m-same
+
+returns : tie.Need-returns Inv-loop μ-loop
+returns c = let a = c .before .before .before .before .before .before .before .before .args in let l = c .before .before .before .loop in buys-none (now (a .s)) (a .at) (a .vertices) (a .nets) (now (a .firsts)) (now (a .sizes)) (now (a .pins)) (l .costs) (l .firsts) (l .sizes) (l .pins) (l .stamps) (l .i) (l .j) (l .m) (l .inv) (omega arith) (c .before .find .result) (c .before .find .ensures) (omega arith)
+
+add-buy-line : tie.Need-add-buy-line Inv-loop μ-loop
+add-buy-line c = omega arith
+
+cast-buy-line : tie.Need-cast-buy-line Inv-loop μ-loop
+cast-buy-line c = omega arith
+
+buy-line-requires : tie.Need-buy-line-requires Inv-loop μ-loop
+buy-line-requires c κs = let a = c .before .before .before .before .before .before .before .before .before .before .args in let l = c .before .before .before .before .before .loop in (omega arith, omega arith, l .inv .l-le, l .inv .m-le, l .inv .wide, l .inv .slen, l .inv .fresh)
+
+enum-known-q : tie.Need-enum-known-q Inv-loop μ-loop
+enum-known-q c = search needs
+
+add-t28 : tie.Need-add-t28 Inv-loop μ-loop
+add-t28 c = omega arith
+
+same-length-4 : tie.Need-same-length-4 Inv-loop μ-loop
+same-length-4 c = c .before .before .before .before .before .before .before .before .before .before .before .loop .inv .f-same
+
+same-length-5 : tie.Need-same-length-5 Inv-loop μ-loop
+same-length-5 c = c .before .before .before .before .before .before .before .before .before .before .before .loop .inv .c-same
+
+same-length-6 : tie.Need-same-length-6 Inv-loop μ-loop
+same-length-6 c = c .before .before .before .before .before .buy-line .ensures .len ∙ c .before .before .before .before .before .before .before .before .before .before .before .loop .inv .m-same
+
+returns-2 : tie.Need-returns-2 Inv-loop μ-loop
+returns-2 c = let a = c .before .before .before .before .before .before .before .before .before .before .before .before .before .before .before .before .args in let l = c .before .before .before .before .before .before .before .before .before .before .before .loop in buys-stop (now (a .s)) (a .at) (a .vertices) (a .nets) (now (a .firsts)) (now (a .sizes)) (now (a .pins)) (l .costs) (l .firsts) (l .sizes) (l .pins) (l .stamps) (l .i) (l .j) (l .m) (l .inv) (omega arith) (c .before .before .before .before .before .before .before .before .before .find .result) (c .before .before .before .before .before .before .before .before .before .find .ensures) (omega arith) (c .before .before .before .before .before .buy-line .result) (c .before .before .before .before .before .buy-line .last .1 .1 .1 .1 .1 .1 .0) (c .before .before .before .before .before .buy-line .last .1 .1 .1 .1 .1 .1 .1 .0) (c .before .before .before .before .before .buy-line .ensures) (c .before .q .given .0 .0) (c .before .q .given .1)
+
+enum-known-w : tie.Need-enum-known-w Inv-loop μ-loop
+enum-known-w c = search needs
+
+mul-costs : tie.Need-mul-costs Inv-loop μ-loop
+mul-costs c = omega arith
+
+element-write-costs : tie.Need-element-write-costs Inv-loop μ-loop
+element-write-costs c = omega arith
+
+cast-firsts : tie.Need-cast-firsts Inv-loop μ-loop
+cast-firsts c = omega (arith, c .before .before .before .before .before .before .before .before .before .before .before .loop .inv .m-le)
+
+mul-firsts : tie.Need-mul-firsts Inv-loop μ-loop
+mul-firsts c = omega arith
+
+slice-write-firsts : tie.Need-slice-write-firsts Inv-loop μ-loop
+slice-write-firsts c = omega (arith, c .before .before .before .before .before .before .before .before .before .before .before .loop .inv .f-len, c .before .before .before .before .before .before .before .before .before .before .before .loop .inv .b-le)
+
+sub-sizes : tie.Need-sub-sizes Inv-loop μ-loop
+sub-sizes c = omega (arith, (let g = c .before .before .before .before .before .buy-line .ensures .next (c .before .w .given .0 .0) (c .before .w .given .0 .1 .0) (c .before .w .given .1) in g .f-le))
+
+cast-sizes : tie.Need-cast-sizes Inv-loop μ-loop
+cast-sizes c = omega (arith, (let g = c .before .before .before .before .before .buy-line .ensures .next (c .before .w .given .0 .0) (c .before .w .given .0 .1 .0) (c .before .w .given .1) in g .f-le), (let g = c .before .before .before .before .before .buy-line .ensures .next (c .before .w .given .0 .0) (c .before .w .given .0 .1 .0) (c .before .w .given .1) in g .m-le))
+
+mul-sizes : tie.Need-mul-sizes Inv-loop μ-loop
+mul-sizes c = omega arith
+
+slice-write-sizes : tie.Need-slice-write-sizes Inv-loop μ-loop
+slice-write-sizes c = omega (arith, c .before .before .before .before .before .before .before .before .before .before .before .loop .inv .c-len, c .before .before .before .before .before .before .before .before .before .before .before .loop .inv .b-le)
+
+add-j : tie.Need-add-j Inv-loop μ-loop
+add-j c = omega arith
+
+add-i : tie.Need-add-i Inv-loop μ-loop
+add-i c = omega arith
+
+loop-less : tie.Need-loop-less Inv-loop μ-loop
+loop-less c = omega arith
+
+loop-again : tie.Need-loop-again Inv-loop μ-loop
+loop-again c = let a = c .before .before .before .before .before .before .before .before .before .before .before .before .before .before .before .before .args in let l = c .before .before .before .before .before .before .before .before .before .before .before .loop in buys-on (now (a .s)) (a .at) (a .vertices) (a .nets) (now (a .firsts)) (now (a .sizes)) (now (a .pins)) (l .costs) (l .firsts) (l .sizes) (l .pins) (l .stamps) (l .i) (l .j) (l .m) (l .inv) (omega arith) (c .before .before .before .before .before .before .before .before .before .find .result) (c .before .before .before .before .before .before .before .before .before .find .ensures) (omega arith) (c .before .before .before .before .before .buy-line .result) (c .before .before .before .before .before .buy-line .last .1 .1 .1 .1 .1 .1 .0) (c .before .before .before .before .before .buy-line .last .1 .1 .1 .1 .1 .1 .1 .0) (c .before .before .before .before .before .buy-line .ensures) (c .before .w .given .0 .0) (c .before .w .given .0 .1 .0) (c .before .w .given .1)
+
+same-length-7 : tie.Need-same-length-7 Inv-loop μ-loop
+same-length-7 c = c .before .loop .inv .f-same
+
+same-length-8 : tie.Need-same-length-8 Inv-loop μ-loop
+same-length-8 c = c .before .loop .inv .c-same
+
+same-length-9 : tie.Need-same-length-9 Inv-loop μ-loop
+same-length-9 c = c .before .loop .inv .m-same
+
+returns-3 : tie.Need-returns-3 Inv-loop μ-loop
+returns-3 c = let a = c .before .before .before .before .before .before .args in let l = c .before .loop in buys-done (now (a .s)) (a .at) (a .vertices) (a .nets) (now (a .firsts)) (now (a .sizes)) (now (a .pins)) (l .costs) (l .firsts) (l .sizes) (l .pins) (l .stamps) (l .i) (l .j) (l .m) (l .inv) (omega arith)
+
+pub read-nets-spec : {M : Type 1} → statement M
+read-nets-spec =
+    tie.close
+    (tie.spec
+    Inv-loop
+    μ-loop
+    add-base
+    loop-holds
+    find-requires
+    add-t21
+    same-length
+    same-length-2
+    same-length-3
+    returns
+    add-buy-line
+    cast-buy-line
+    buy-line-requires
+    enum-known-q
+    add-t28
+    same-length-4
+    same-length-5
+    same-length-6
+    returns-2
+    enum-known-w
+    mul-costs
+    element-write-costs
+    cast-firsts
+    mul-firsts
+    slice-write-firsts
+    sub-sizes
+    cast-sizes
+    mul-sizes
+    slice-write-sizes
+    add-j
+    add-i
+    loop-less
+    loop-again
+    same-length-7
+    same-length-8
+    same-length-9
+    returns-3)

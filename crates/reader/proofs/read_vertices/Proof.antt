@@ -1,0 +1,121 @@
+-- `reader::read_vertices` meets its contract.
+use native.Mathlib.Omega.{arith}
+use denote.Ref.{now}
+use borrow.Author.Needs.{needs}
+use Prim.Native.Nat.{_-_}
+use Rattle.reader.proofs.Lots.{OnLots, lots-start, lots-none, lots-stop, lots-on, lots-done}
+use Rattle.reader.proofs.read_vertices.Statement.{statement}
+use Rattle.reader.proofs.read_vertices.Tie as tie
+use Rattle.reader.proofs.read_vertices.Reads as reads
+use Rattle.reader.proofs.read_vertices.Lts as lts
+use Rattle.lines.proofs.lot_line.Reads as lot-line-reads
+use Rattle.text.proofs.find.Reads as find-reads
+
+abbrev Inv-loop : tie.InvT-loop
+Inv-loop s at vertices blocks weights₀ draft₀ len i₀ k₀ weights draft i k = OnLots s at vertices blocks weights₀ draft₀ weights draft i k
+
+abbrev μ-loop : tie.MeasureT-loop
+μ-loop s at vertices blocks weights₀ draft₀ len i₀ k₀ weights draft i k = vertices - k
+
+loop-holds : tie.Need-loop-holds Inv-loop μ-loop
+loop-holds c = let a = c .before .before .before .args in lots-start (now (a .s)) (a .at) (a .vertices) (a .blocks) (now (a .weights)) (now (a .draft)) (omega arith) (omega arith) (omega arith) (c .before .before .before .pre .3) (c .before .before .before .pre .4)
+
+find-requires : tie.Need-find-requires Inv-loop μ-loop
+find-requires c κs = search needs
+
+add-t15 : tie.Need-add-t15 Inv-loop μ-loop
+add-t15 c = omega arith
+
+same-length : tie.Need-same-length Inv-loop μ-loop
+same-length c = c .before .before .before .loop .inv .w-same
+
+same-length-2 : tie.Need-same-length-2 Inv-loop μ-loop
+same-length-2 c = c .before .before .before .loop .inv .d-same
+
+returns : tie.Need-returns Inv-loop μ-loop
+returns c = let a = c .before .before .before .before .before .before .before .args in let l = c .before .before .before .loop in lots-none (now (a .s)) (a .at) (a .vertices) (a .blocks) (now (a .weights)) (now (a .draft)) (l .weights) (l .draft) (l .i) (l .k) (l .inv) (omega arith) (c .before .find .result) (c .before .find .ensures) (omega arith)
+
+lot-line-requires : tie.Need-lot-line-requires Inv-loop μ-loop
+lot-line-requires c κs = search needs
+
+enum-known-q : tie.Need-enum-known-q Inv-loop μ-loop
+enum-known-q c = search needs
+
+add-t17 : tie.Need-add-t17 Inv-loop μ-loop
+add-t17 c = omega arith
+
+same-length-3 : tie.Need-same-length-3 Inv-loop μ-loop
+same-length-3 c = c .before .before .before .before .before .before .before .loop .inv .w-same
+
+same-length-4 : tie.Need-same-length-4 Inv-loop μ-loop
+same-length-4 c = c .before .before .before .before .before .before .before .loop .inv .d-same
+
+returns-2 : tie.Need-returns-2 Inv-loop μ-loop
+returns-2 c = let a = c .before .before .before .before .before .before .before .before .before .before .before .args in let l = c .before .before .before .before .before .before .before .loop in lots-stop (now (a .s)) (a .at) (a .vertices) (a .blocks) (now (a .weights)) (now (a .draft)) (l .weights) (l .draft) (l .i) (l .k) (l .inv) (omega arith) (c .before .before .before .before .before .find .result) (c .before .before .before .before .before .find .ensures) (omega arith) (c .before .before .before .lot-line .result) (c .before .before .before .lot-line .ensures) (c .before .q .given .0 .0) (c .before .q .given .1)
+
+enum-known-w : tie.Need-enum-known-w Inv-loop μ-loop
+enum-known-w c = search needs
+
+mul-weights : tie.Need-mul-weights Inv-loop μ-loop
+mul-weights c = omega arith
+
+slice-write-weights : tie.Need-slice-write-weights Inv-loop μ-loop
+slice-write-weights c = omega arith
+
+mul-draft : tie.Need-mul-draft Inv-loop μ-loop
+mul-draft c = omega arith
+
+slice-write-draft : tie.Need-slice-write-draft Inv-loop μ-loop
+slice-write-draft c = omega arith
+
+add-k : tie.Need-add-k Inv-loop μ-loop
+add-k c = omega arith
+
+add-i : tie.Need-add-i Inv-loop μ-loop
+add-i c = omega arith
+
+loop-less : tie.Need-loop-less Inv-loop μ-loop
+loop-less c = omega arith
+
+loop-again : tie.Need-loop-again Inv-loop μ-loop
+loop-again c = let a = c .before .before .before .before .before .before .before .before .before .before .before .args in let l = c .before .before .before .before .before .before .before .loop in lots-on (now (a .s)) (a .at) (a .vertices) (a .blocks) (now (a .weights)) (now (a .draft)) (l .weights) (l .draft) (l .i) (l .k) (l .inv) (omega arith) (c .before .before .before .before .before .find .result) (c .before .before .before .before .before .find .ensures) (omega arith) (c .before .before .before .lot-line .result) (c .before .before .before .lot-line .ensures) (c .before .w .given .0 .0) (c .before .w .given .0 .1 .0) (c .before .w .given .1)
+
+same-length-5 : tie.Need-same-length-5 Inv-loop μ-loop
+same-length-5 c = c .before .loop .inv .w-same
+
+same-length-6 : tie.Need-same-length-6 Inv-loop μ-loop
+same-length-6 c = c .before .loop .inv .d-same
+
+returns-3 : tie.Need-returns-3 Inv-loop μ-loop
+returns-3 c = let a = c .before .before .before .before .before .args in let l = c .before .loop in lots-done (now (a .s)) (a .at) (a .vertices) (a .blocks) (now (a .weights)) (now (a .draft)) (l .weights) (l .draft) (l .i) (l .k) (l .inv) (omega arith)
+
+pub read-vertices-spec : {M : Type 1} → statement M
+read-vertices-spec =
+    tie.close
+    (tie.spec
+    Inv-loop
+    μ-loop
+    loop-holds
+    find-requires
+    add-t15
+    same-length
+    same-length-2
+    returns
+    lot-line-requires
+    enum-known-q
+    add-t17
+    same-length-3
+    same-length-4
+    returns-2
+    enum-known-w
+    mul-weights
+    slice-write-weights
+    mul-draft
+    slice-write-draft
+    add-k
+    add-i
+    loop-less
+    loop-again
+    same-length-5
+    same-length-6
+    returns-3)

@@ -1,0 +1,49 @@
+-- Books read off the tables, and what the lot lines and the call lines are read as. Rests on model's grammar. Assumes nothing.
+use Prim.Native.Nat.{ℕ, zero, suc, _+_, _-_, _*_, _≤_}
+use mathlib.Core.Path.{_≡_}
+use mathlib.Core.Bool.{true}
+use mathlib.Core.List.{List, [], _∷_, _++_}
+use lib.ListN.{length, getD, take}
+use lib.Seq.{slice}
+use Rattle.model.specs.Catalogue.{Limits, Hypergraph}
+use Rattle.model.specs.Machine.{Call}
+use Rattle.model.specs.Grammar.{Reading, reading, stopped, Asked, asks, nothing, callOf, grown, whole, lines, parts}
+use Rattle.lines.specs.Line.{book, Past}
+use Rattle.reader.specs.declared.Ended.{Ended}
+use Rattle.reader.specs.declared.Ended.the-variants.{Up, Stop}
+
+-- ---- calls
+-- a call as a list, which is empty where there is none
+abbrev pub listed : Asked → List Call
+listed (asks c) = c ∷ []
+listed nothing = []
+
+-- the first c calls of a table, three numbers each
+unfoldable pub callsOf : ℕ → List ℕ → List Call
+callsOf zero t = []
+callsOf (suc c) t = callsOf c t ++ listed (callOf (getD t (3 * c) 0) (getD t (3 * c + 1) 0) (getD t (3 * c + 2) 0))
+
+-- the calls of a file whose catalogue is read
+abbrev pub called : ℕ → ℕ → Hypergraph → ℕ → Ended → List ℕ → Reading
+called l b h m (Up c) t = reading (book l b h m (callsOf c t))
+called l b h m (Stop q n) t = stopped q n
+
+-- the call lines, of which the first is line n; each three numbers of an accepted table are a call
+pub record CallsRead (s : List ℕ) (at n : ℕ) (r : Ended) (t : List ℕ) : Type 0 where
+  pub known : (c : ℕ) → r ≡ Up c → (c ≤ 512) × (length (callsOf c t) ≡ c)
+  pub says : (limits : Limits) (l b m : ℕ) (h : Hypergraph) → whole (book l b h m []) ≡ true → called l b h m r t ≡ lines limits n (reading (book l b h m [])) (parts 10 (slice at (length s) s))
+
+-- the catalogue with no buyer yet: the first k lots of the tables
+abbrev pub lotsGraph : ℕ → ℕ → ℕ → List ℕ → List ℕ → Hypergraph
+lotsGraph blocks imbalance k w d = record { blocks = blocks; imbalance = imbalance; weights = take k w; draft = take k d; nets = [] }
+
+-- the lot lines of a file whose first line is read: what is left to read, from the place where they end
+abbrev pub lotsSeen : Limits → List ℕ → ℕ → ℕ → ℕ → ℕ → Ended → List ℕ → List ℕ → Reading
+lotsSeen limits s l b blocks imbalance (Up i) w d = lines limits (l + 2) (grown (l + 1) (book l b (lotsGraph blocks imbalance l w d) 0 [])) (parts 10 (slice i (length s) s))
+lotsSeen limits s l b blocks imbalance (Stop q n) w d = stopped q n
+
+pub record LotsRead (s : List ℕ) (at l blocks : ℕ) (r : Ended) (w₀ d₀ w d : List ℕ) : Type 0 where
+  pub inside : (i : ℕ) → r ≡ Up i → i ≤ length s
+  pub w-past : Past l w₀ w
+  pub d-past : Past l d₀ d
+  pub says : (limits : Limits) (b imbalance : ℕ) → lotsSeen limits s l b blocks imbalance r w d ≡ lines limits 2 (reading (book l b (lotsGraph blocks imbalance 0 w d) 0 [])) (parts 10 (slice at (length s) s))

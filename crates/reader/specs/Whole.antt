@@ -1,0 +1,101 @@
+-- The phases joined: what a whole file is read as. Rests on Seen and Stamps. Assumes nothing.
+use Prim.Native.Nat.{ℕ, _+_, _-_, _/_, _≤_}
+use mathlib.Core.Path.{_≡_}
+use mathlib.Core.Bool.{Bool, cond}
+use mathlib.Core.List.{List, []}
+use lib.Dec.{eqb}
+use lib.ListN.{length, getD}
+use lib.Seq.{slice}
+use Rattle.laws.specs.Fold.{sumOver}
+use Rattle.model.specs.Catalogue.{Limits, mainLimits, Net, Hypergraph}
+use Rattle.model.specs.Grammar.{Reading, reading, stopped, parts, lines, grown, overfull, parse}
+use Rattle.lines.specs.Line.{book, InRange, Past}
+use Rattle.reader.specs.Seen.{called, callsOf, lotsGraph}
+use Rattle.reader.specs.Buyers.{netsOf, withNets, Laid}
+use Rattle.lines.specs.Mark.{Fresh}
+use Rattle.reader.specs.declared.Ended.{Ended}
+use Rattle.reader.specs.declared.Ended.the-variants.{Up}
+use Rattle.reader.specs.declared.Rest.{Rest}
+use Rattle.reader.specs.declared.Rest.the-variants.{Kept, Not}
+use Rattle.reader.specs.declared.Outcome.{Outcome}
+use Rattle.reader.specs.declared.Outcome.the-variants.{Taken, Refused}
+
+-- the lengths that the tables must have, where l lots may come
+pub record Long (l : ℕ) (w d nw f c marks calls : List ℕ) : Type 0 where
+  pub l-le : l ≤ 1024
+  pub w-len : l ≤ length w
+  pub d-len : l ≤ length d
+  pub nw-len : length nw ≡ 1024
+  pub f-len : 1024 ≤ length f
+  pub c-len : 1024 ≤ length c
+  pub wide : 8192 ≤ length marks
+  pub calls-len : 1536 ≤ length calls
+
+-- what a function that runs after the first line presumes
+pub record Ready (s : List ℕ) (at l b k t : ℕ) (w d nw f c marks stamps calls : List ℕ) : Type 0 where
+  pub at-le : at ≤ length s
+  pub range : InRange mainLimits l b k t
+  pub long : Long l w d nw f c marks calls
+  pub slen : length stamps ≡ 1024
+  pub fresh : Fresh 1 stamps
+
+-- ⌈W/k⌉ of a list of weights
+abbrev pub averageOf : ℕ → List ℕ → ℕ
+averageOf k ws = (sumOver ws (λ w. w) + (k - 1)) / k
+
+-- what the i-th lot, counted from 0, adds to session b
+abbrev pub blockTerm : ℕ → List ℕ → List ℕ → ℕ → ℕ
+blockTerm b w d i = cond (eqb (getD d i 0) b) (getD w i 0) 0
+
+-- a session of the draft is above its cap, whoever the buyers are
+abbrev pub overfullIs : ℕ → ℕ → ℕ → List ℕ → List ℕ → Bool → Type 0
+overfullIs l k t w d r = (ns : List Net) → r ≡ overfull (withNets (lotsGraph k t l w d) ns)
+
+-- what follows the catalogue's last line
+pub record LastRead (s : List ℕ) (at l b k t m : ℕ) (r : Ended) (w d calls : List ℕ) : Type 0 where
+  pub known : (c : ℕ) → r ≡ Up c → (c ≤ 512) × (length (callsOf c calls) ≡ c)
+  pub says : (limits : Limits) (ns : List Net) → length ns ≡ b → called l b (withNets (lotsGraph k t l w d) ns) m r calls
+      ≡ lines limits (l + 2 + b) (grown (l + 1 + b) (book l b (withNets (lotsGraph k t l w d) ns) m [])) (parts 10 (slice at (length s) s))
+
+-- the whole catalogue of the tables
+abbrev pub graphOf : ℕ → ℕ → ℕ → ℕ → List ℕ → List ℕ → List ℕ → List ℕ → List ℕ → List ℕ → Hypergraph
+graphOf l b k t w d nw f c marks = withNets (lotsGraph k t l w d) (netsOf b nw f c marks)
+
+abbrev pub restSeen : ℕ → ℕ → Hypergraph → Rest → List ℕ → List ℕ → List ℕ → List ℕ → List ℕ → Reading
+restSeen l b h (Kept m n) nw f c marks calls = reading (book l b (withNets h (netsOf b nw f c marks)) m (callsOf n calls))
+restSeen l b h (Not q n) nw f c marks calls = stopped q n
+
+-- of an accepted file: each three numbers of the table are a call, and the buyers' marks are laid out
+pub record Settled (b m n : ℕ) (f₀ c₀ marks₀ f c marks calls : List ℕ) : Type 0 where
+  pub n-le : n ≤ 512
+  pub known : length (callsOf n calls) ≡ n
+  pub laid : Laid b m f₀ c₀ marks₀ f c marks
+
+-- what follows the lot lines
+pub record NetsRead (s : List ℕ) (at l b k t : ℕ) (r : Rest) (w d f₀ c₀ marks₀ nw f c marks calls : List ℕ) : Type 0 where
+  pub settled : (m n : ℕ) → r ≡ Kept m n → Settled b m n f₀ c₀ marks₀ f c marks calls
+  pub says : (limits : Limits) → restSeen l b (lotsGraph k t l w d) r nw f c marks calls ≡ lines limits (l + 2) (grown (l + 1) (book l b (lotsGraph k t l w d) 0 [])) (parts 10 (slice at (length s) s))
+
+-- what follows the first line
+pub record CatalogueRead (s : List ℕ) (at l b k t : ℕ) (r : Rest) (w₀ d₀ f₀ c₀ marks₀ w d nw f c marks calls : List ℕ) : Type 0 where
+  pub w-past : Past l w₀ w
+  pub d-past : Past l d₀ d
+  pub settled : (m n : ℕ) → r ≡ Kept m n → Settled b m n f₀ c₀ marks₀ f c marks calls
+  pub says : (limits : Limits) → restSeen l b (lotsGraph k t l w d) r nw f c marks calls ≡ lines limits 2 (reading (book l b (lotsGraph k t 0 w d) 0 [])) (parts 10 (slice at (length s) s))
+
+-- what an outcome and the tables say
+abbrev pub seen : Outcome → List ℕ → List ℕ → List ℕ → List ℕ → List ℕ → List ℕ → List ℕ → Reading
+seen (Taken l b k t m n) w d nw f c marks calls = reading (book l b (graphOf l b k t w d nw f c marks) m (callsOf n calls))
+seen (Refused q n) w d nw f c marks calls = stopped q n
+
+-- of an accepted file: sizes in range, entries past those in use kept
+pub record Fitted (limits : Limits) (l b k t m n : ℕ) (w₀ d₀ f₀ c₀ marks₀ w d f c marks calls : List ℕ) : Type 0 where
+  pub range : InRange limits l b k t
+  pub w-past : Past l w₀ w
+  pub d-past : Past l d₀ d
+  pub settled : Settled b m n f₀ c₀ marks₀ f c marks calls
+
+-- a whole file
+pub record FileRead (limits : Limits) (s : List ℕ) (r : Outcome) (w₀ d₀ f₀ c₀ marks₀ w d nw f c marks calls : List ℕ) : Type 0 where
+  pub says : seen r w d nw f c marks calls ≡ parse limits s
+  pub fitted : (l b k t m n : ℕ) → r ≡ Taken l b k t m n → Fitted limits l b k t m n w₀ d₀ f₀ c₀ marks₀ w d f c marks calls

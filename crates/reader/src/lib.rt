@@ -1,0 +1,382 @@
+// A sale file read into lent tables, or its first refusal, equal to model's grammar on the same bytes.
+use lines::Ask;
+use lines::Buy;
+use lines::Head;
+use lines::Lot;
+ghost use mathlib.Core.Path.{_≡_};
+ghost use mathlib.Core.Bool.{cond};
+ghost use Prim.Native.Nat.{ℕ, _+_, _-_, _*_, _/_, _≤_, _<_};
+ghost use lib.Dec.{eqb};
+ghost use lib.ListN.{length, take};
+ghost use Rattle.laws.specs.Fold.{sumOver};
+ghost use Rattle.laws.specs.Sum.{sum};
+ghost use Rattle.model.specs.Catalogue.{mainLimits};
+ghost use Rattle.lines.specs.Line.{limitsOf, InRange};
+ghost use Rattle.reader.specs.Seen.{CallsRead, LotsRead};
+ghost use Rattle.reader.specs.Buyers.{BuysRead, BuysReady};
+ghost use Rattle.reader.specs.Whole.{averageOf, blockTerm, Long, Ready, overfullIs, LastRead, NetsRead, CatalogueRead, FileRead};
+
+// How the buyers' lines ended: where, and with how many marks; or refused.
+pub enum Nets {
+    All(usize, usize),
+    Cut(u8, usize),
+}
+
+// What follows the lot lines: the marks and the calls, how many; or refused.
+pub enum Rest {
+    Kept(usize, usize),
+    Not(u8, usize),
+}
+
+// A file: lots, buyers, sessions, slack, marks, calls; or the refusal's number and the line's.
+pub enum Outcome {
+    Taken(u32, u32, u32, u32, usize, usize),
+    Refused(u8, usize),
+}
+
+// How a run of lines ended: with a number, or refused with the refusal's number and the line's.
+pub enum Ended {
+    Up(usize),
+    Stop(u8, usize),
+}
+
+// Reads the call lines, the first of which is the n-th line.
+pub fn read_calls(s: &[u8], at: usize, n: usize, calls: &mut [u32]) -> Ended
+    requires { ⌜ (at ≤ length (now s)) × (n ≤ 4096) × (1536 ≤ length (now calls)) ⌝ }
+    ensures { λ r. ⌜ CallsRead (now (s .entry)) at n r (now (calls .exit)) ⌝ }
+{
+    let len = s.len();
+    let mut i = at;
+    let mut c: usize = 0;
+    while i < len {
+        if c == 512 {
+            return Ended::Stop(7, n + c);
+        }
+        let e = text::find(s, i, len, 10);
+        if e == len {
+            return Ended::Stop(2, n + c);
+        }
+        match lines::call_line(s, i, e) {
+            Ask::Nothing => {
+                return Ended::Stop(2, n + c);
+            }
+            Ask::Asks(k, a, b) => {
+                let x = 3 * c;
+                calls[x] = k;
+                calls[x + 1] = a;
+                calls[x + 2] = b;
+                c += 1;
+            }
+        }
+        i = e + 1;
+    }
+    Ended::Up(c)
+}
+
+// Reads the lot lines, the first of which is line 2.
+pub fn read_vertices(
+    s: &[u8],
+    at: usize,
+    vertices: usize,
+    blocks: u16,
+    weights: &mut [u32],
+    draft: &mut [u16],
+) -> Ended
+    requires { ⌜ (at ≤ length (now s)) × (1 ≤ vertices) × (vertices ≤ 1024) × (vertices ≤ length (now weights)) × (vertices ≤ length (now draft)) ⌝ }
+    ensures { λ r. ⌜ LotsRead (now (s .entry)) at vertices blocks r (now (weights .entry)) (now (draft .entry)) (now (weights .exit)) (now (draft .exit)) ⌝ }
+{
+    let len = s.len();
+    let mut i = at;
+    let mut k: usize = 0;
+    while k < vertices {
+        let e = text::find(s, i, len, 10);
+        if e == len {
+            return Ended::Stop(2, k + 2);
+        }
+        match lines::lot_line(s, i, e, blocks) {
+            Lot::NoLot(q) => {
+                return Ended::Stop(q, k + 2);
+            }
+            Lot::Of(w, b) => {
+                weights[k] = w;
+                draft[k] = b;
+            }
+        }
+        k += 1;
+        i = e + 1;
+    }
+    Ended::Up(i)
+}
+
+// Reads the buyers' lines, which follow the lot lines.
+pub fn read_nets(
+    s: &[u8],
+    at: usize,
+    vertices: u32,
+    nets: usize,
+    costs: &mut [u16; 1024],
+    firsts: &mut [u16],
+    sizes: &mut [u16],
+    pins: &mut [u16],
+    stamps: &mut [u16; 1024],
+) -> Nets
+    requires { ⌜ BuysReady (now s) at vertices nets (now costs) (now firsts) (now sizes) (now pins) (now stamps) ⌝ }
+    ensures { λ r. ⌜ BuysRead (now (s .entry)) at vertices nets r (now (firsts .entry)) (now (sizes .entry)) (now (pins .entry)) (now (costs .exit)) (now (firsts .exit)) (now (sizes .exit)) (now (pins .exit)) ⌝ }
+{
+    let len = s.len();
+    let base = vertices as usize + 2;
+    let mut i = at;
+    let mut j: usize = 0;
+    let mut m: usize = 0;
+    while j < nets {
+        let e = text::find(s, i, len, 10);
+        if e == len {
+            return Nets::Cut(2, base + j);
+        }
+        match lines::buy_line(s, i, e, vertices, (j + 1) as u16, m, pins, stamps) {
+            Buy::NoBuy(q) => {
+                return Nets::Cut(q, base + j);
+            }
+            Buy::Bought(w, z) => {
+                costs[j] = w;
+                firsts[j] = m as u16;
+                sizes[j] = (z - m) as u16;
+                m = z;
+            }
+        }
+        j += 1;
+        i = e + 1;
+    }
+    Nets::All(i, m)
+}
+
+// The weights of the first n vertices together.
+pub fn total_weight(weights: &[u32], n: usize) -> u64
+    requires { ⌜ (n ≤ 1024) × (n ≤ length (now weights)) ⌝ }
+    ensures { λ r. ⌜ (r ≡ sumOver (take n (now (weights .entry))) (λ w. w)) × (r ≤ n * 4294967295) ⌝ }
+{
+    let mut i = 0;
+    let mut t: u64 = 0;
+    while i < n {
+        t += weights[i] as u64;
+        i += 1;
+    }
+    t
+}
+
+// ⌈W/k⌉, where W is what the first n vertices weigh.
+pub fn average_weight(weights: &[u32], n: usize, k: u32) -> u64
+    requires { ⌜ (n ≤ 1024) × (n ≤ length (now weights)) × (1 ≤ k) × (k ≤ 16) ⌝ }
+    ensures { λ r. ⌜ (r ≡ averageOf k (take n (now (weights .entry)))) × (r ≤ 4398046511104) ⌝ }
+{
+    (total_weight(weights, n) + (k as u64 - 1)) / k as u64
+}
+
+// The cap: (1,000 + slack) × ⌈W/k⌉ / 1,000, rounded down.
+pub fn capacity(average: u64, imbalance: u32) -> u64
+    requires { ⌜ (average ≤ 4398046511104) × (imbalance ≤ 1000) ⌝ }
+    ensures { λ r. ⌜ r ≡ (1000 + imbalance) * average / 1000 ⌝ }
+{
+    (1000 + imbalance as u64) * average / 1000
+}
+
+// What a vertex adds to the weight of block b.
+pub fn share(weight: u32, block: u16, b: u32) -> u32
+    ensures { λ r. ⌜ r ≡ cond (eqb block b) weight 0 ⌝ }
+{
+    if block as u32 == b { weight } else { 0 }
+}
+
+// What the vertices of block b weigh together, among the first n.
+pub fn block_weight(weights: &[u32], draft: &[u16], n: usize, b: u32) -> u64
+    requires { ⌜ (n ≤ 1024) × (n ≤ length (now weights)) × (n ≤ length (now draft)) ⌝ }
+    ensures { λ r. ⌜ r ≡ sum n (blockTerm b (now (weights .entry)) (now (draft .entry))) ⌝ }
+{
+    let mut i = 0;
+    let mut t: u64 = 0;
+    while i < n {
+        t += share(weights[i], draft[i], b) as u64;
+        i += 1;
+    }
+    t
+}
+
+// A session of the draft is above its cap.
+pub fn overfull(vertices: u32, blocks: u32, imbalance: u32, weights: &[u32], draft: &[u16]) -> bool
+    requires { ⌜ (vertices ≤ 1024) × (2 ≤ blocks) × (blocks ≤ 16) × (imbalance ≤ 1000) × (vertices ≤ length (now weights)) × (vertices ≤ length (now draft)) ⌝ }
+    ensures { λ r. ⌜ overfullIs vertices blocks imbalance (now (weights .entry)) (now (draft .entry)) r ⌝ }
+{
+    let most = capacity(
+        average_weight(weights, vertices as usize, blocks),
+        imbalance,
+    );
+    let mut b: u32 = 0;
+    while b < blocks {
+        b += 1;
+        if most < block_weight(weights, draft, vertices as usize, b) {
+            return true;
+        }
+    }
+    false
+}
+
+// What follows the catalogue's last line.
+pub fn finish(
+    s: &[u8],
+    at: usize,
+    vertices: u32,
+    nets: u32,
+    blocks: u32,
+    imbalance: u32,
+    m: usize,
+    weights: &[u32],
+    draft: &[u16],
+    calls: &mut [u32],
+) -> Ended
+    requires { ⌜ (at ≤ length (now s)) × (vertices ≤ 1024) × (nets ≤ 1024) × (2 ≤ blocks) × (blocks ≤ 16) × (imbalance ≤ 1000) × (vertices ≤ length (now weights)) × (vertices ≤ length (now draft)) × (1536 ≤ length (now calls)) ⌝ }
+    ensures { λ r. ⌜ LastRead (now (s .entry)) at vertices nets blocks imbalance m r (now (weights .entry)) (now (draft .entry)) (now (calls .exit)) ⌝ }
+{
+    let n = vertices as usize + 1 + nets as usize;
+    if overfull(vertices, blocks, imbalance, weights, draft) {
+        return Ended::Stop(6, n);
+    }
+    read_calls(s, at, n + 1, calls)
+}
+
+// What follows the lot lines.
+pub fn after_vertices(
+    s: &[u8],
+    at: usize,
+    vertices: u32,
+    nets: u32,
+    blocks: u32,
+    imbalance: u32,
+    weights: &[u32],
+    draft: &[u16],
+    costs: &mut [u16; 1024],
+    firsts: &mut [u16],
+    sizes: &mut [u16],
+    pins: &mut [u16],
+    stamps: &mut [u16; 1024],
+    calls: &mut [u32],
+) -> Rest
+    requires { ⌜ Ready (now s) at vertices nets blocks imbalance (now weights) (now draft) (now costs) (now firsts) (now sizes) (now pins) (now stamps) (now calls) ⌝ }
+    ensures { λ r. ⌜ NetsRead (now (s .entry)) at vertices nets blocks imbalance r (now (weights .entry)) (now (draft .entry)) (now (firsts .entry)) (now (sizes .entry)) (now (pins .entry)) (now (costs .exit)) (now (firsts .exit)) (now (sizes .exit)) (now (pins .exit)) (now (calls .exit)) ⌝ }
+{
+    match read_nets(
+        s,
+        at,
+        vertices,
+        nets as usize,
+        costs,
+        firsts,
+        sizes,
+        pins,
+        stamps,
+    ) {
+        Nets::Cut(q, n) => Rest::Not(q, n),
+        Nets::All(i, m) => match finish(
+            s,
+            i,
+            vertices,
+            nets,
+            blocks,
+            imbalance,
+            m,
+            weights,
+            draft,
+            calls,
+        ) {
+            Ended::Stop(q, n) => Rest::Not(q, n),
+            Ended::Up(c) => Rest::Kept(m, c),
+        },
+    }
+}
+
+// What follows the first line.
+pub fn after_head(
+    s: &[u8],
+    at: usize,
+    vertices: u32,
+    nets: u32,
+    blocks: u32,
+    imbalance: u32,
+    weights: &mut [u32],
+    draft: &mut [u16],
+    costs: &mut [u16; 1024],
+    firsts: &mut [u16],
+    sizes: &mut [u16],
+    pins: &mut [u16],
+    calls: &mut [u32],
+) -> Rest
+    requires { ⌜ (at ≤ length (now s)) × InRange mainLimits vertices nets blocks imbalance × Long vertices (now weights) (now draft) (now costs) (now firsts) (now sizes) (now pins) (now calls) ⌝ }
+    ensures { λ r. ⌜ CatalogueRead (now (s .entry)) at vertices nets blocks imbalance r (now (weights .entry)) (now (draft .entry)) (now (firsts .entry)) (now (sizes .entry)) (now (pins .entry)) (now (weights .exit)) (now (draft .exit)) (now (costs .exit)) (now (firsts .exit)) (now (sizes .exit)) (now (pins .exit)) (now (calls .exit)) ⌝ }
+{
+    let mut stamps = [0u16; 1024];
+    match read_vertices(s, at, vertices as usize, blocks as u16, weights, draft) {
+        Ended::Stop(q, n) => Rest::Not(q, n),
+        Ended::Up(i) => after_vertices(
+            s,
+            i,
+            vertices,
+            nets,
+            blocks,
+            imbalance,
+            weights,
+            draft,
+            costs,
+            firsts,
+            sizes,
+            pins,
+            &mut stamps,
+            calls,
+        ),
+    }
+}
+
+// Reads a whole sale file into the tables.
+pub fn read(
+    s: &[u8],
+    vmax: u32,
+    bmax: u32,
+    weights: &mut [u32],
+    draft: &mut [u16],
+    costs: &mut [u16; 1024],
+    firsts: &mut [u16],
+    sizes: &mut [u16],
+    pins: &mut [u16],
+    calls: &mut [u32],
+) -> Outcome
+    requires { ⌜ (bmax ≤ 16) × Long vmax (now weights) (now draft) (now costs) (now firsts) (now sizes) (now pins) (now calls) ⌝ }
+    ensures { λ r. ⌜ FileRead (limitsOf vmax bmax) (now (s .entry)) r (now (weights .entry)) (now (draft .entry)) (now (firsts .entry)) (now (sizes .entry)) (now (pins .entry)) (now (weights .exit)) (now (draft .exit)) (now (costs .exit)) (now (firsts .exit)) (now (sizes .exit)) (now (pins .exit)) (now (calls .exit)) ⌝ }
+{
+    let len = s.len();
+    if 60000 < len {
+        return Outcome::Refused(1, 0);
+    }
+    let e = text::find(s, 0, len, 10);
+    if e == len {
+        return Outcome::Refused(2, 1);
+    }
+    match lines::sale_line(s, 0, e, vmax, bmax) {
+        Head::NoSale(q) => Outcome::Refused(q, 1),
+        Head::Sale(vertices, nets, blocks, imbalance) => match after_head(
+            s,
+            e + 1,
+            vertices,
+            nets,
+            blocks,
+            imbalance,
+            weights,
+            draft,
+            costs,
+            firsts,
+            sizes,
+            pins,
+            calls,
+        ) {
+            Rest::Not(q, n) => Outcome::Refused(q, n),
+            Rest::Kept(m, c) => Outcome::Taken(vertices, nets, blocks, imbalance, m, c),
+        },
+    }
+}
