@@ -11,7 +11,7 @@ use Rattle.cycle.proofs.coarsening.coarsen_once.Lts as lts
 use Rattle.calls.proofs.joins.join.Reads as join-reads
 use Rattle.calls.proofs.pairs.Stack.push.Reads as push-reads
 use Rattle.choice.proofs.join.best_join.Reads as best-join-reads
-use Rattle.cycle.proofs.coarsening.short.Reads as short-reads
+use Rattle.cycle.proofs.numbers.short.Reads as short-reads
 
 best-join-requires : tie.Need-best-join-requires
 best-join-requires c κs = let p = c .before .before .before .before .before .before .before .before .before .before .before .before .before .before .before .before .pre in (tables-ok (p .0 .here .stands .sound), (p .1, p .0 .here .stands .sound .weights-fit))
