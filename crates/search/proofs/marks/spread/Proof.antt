@@ -1,0 +1,27 @@
+use native.Mathlib.Omega.{arith}
+use mathlib.Core.Path.{_≡_, refl, sym, _∙_, ap}
+use denote.Ref.{now}
+use borrow.Author.Needs.{needs}
+use Rattle.search.specs.Marks.{spread-law}
+use Rattle.search.proofs.marks.spread.Statement.{statement}
+use Rattle.search.proofs.marks.spread.Tie as tie
+use Rattle.search.proofs.marks.spread.Reads as reads
+use Rattle.search.proofs.marks.spread.Lts as lts
+use Rattle.incidence.proofs.put.Reads as put-reads
+use Rattle.incidence.proofs.take.Reads as take-reads
+use Rattle.search.proofs.marks.mark_nets.Reads as mark-nets-reads
+
+take-requires : tie.Need-take-requires
+take-requires c κs = search needs
+
+put-requires : tie.Need-put-requires
+put-requires c κs = search needs
+
+mark-nets-requires : tie.Need-mark-nets-requires
+mark-nets-requires c κs = search needs
+
+returns : tie.Need-returns
+returns c = spread-law (c .before .before .before .before .before .before .before .before .before .before .args .u) (c .before .before .before .before .take .ensures) (c .before .before .put .ensures) (c .mark-nets .ensures)
+
+pub spread-spec : {M : Type 1} → statement M
+spread-spec = tie.close (tie.spec take-requires put-requires mark-nets-requires returns)

@@ -1,0 +1,22 @@
+use native.Mathlib.Omega.{arith}
+use mathlib.Core.Path.{_≡_, refl, sym, _∙_, ap}
+use denote.Ref.{now}
+use borrow.Author.Needs.{needs}
+use Rattle.search.specs.Polishing.{placed-yes, placed-no}
+use Rattle.search.proofs.polishing.mark_placed.Statement.{statement}
+use Rattle.search.proofs.polishing.mark_placed.Tie as tie
+use Rattle.search.proofs.polishing.mark_placed.Reads as reads
+use Rattle.search.proofs.polishing.mark_placed.Lts as lts
+use Rattle.search.proofs.marks.mark_vertex.Reads as mark-vertex-reads
+
+returns : tie.Need-returns
+returns c = placed-no (now (c .before .args .marks)) (c .before .args .x) (c .before .args .b) (c .if1 .taken)
+
+mark-vertex-requires : tie.Need-mark-vertex-requires
+mark-vertex-requires c κs = search needs
+
+returns-2 : tie.Need-returns-2
+returns-2 c = placed-yes (c .before .before .before .args .x) (c .before .before .before .args .b) (c .before .before .if1 .left) (c .mark-vertex .ensures)
+
+pub mark-placed-spec : {M : Type 1} → statement M
+mark-placed-spec = tie.close (tie.spec returns mark-vertex-requires returns-2)

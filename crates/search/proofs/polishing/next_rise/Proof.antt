@@ -1,0 +1,45 @@
+use native.Mathlib.Omega.{arith}
+use mathlib.Core.Path.{_≡_, refl, sym, _∙_, ap}
+use denote.Ref.{now}
+use borrow.Author.Needs.{needs}
+use Rattle.choice.specs.Open.{gainIn}
+use Rattle.search.specs.Polishing.{rise-none, rise-yes, rise-no, rise-in}
+use Rattle.search.proofs.polishing.next_rise.Statement.{statement}
+use Rattle.search.proofs.polishing.next_rise.Tie as tie
+use Rattle.search.proofs.polishing.next_rise.Reads as reads
+use Rattle.search.proofs.polishing.next_rise.Lts as lts
+use Rattle.choice.proofs.open.best_open.Reads as best-open-reads
+use Rattle.search.proofs.polishing.rises.Reads as rises-reads
+
+best-open-requires : tie.Need-best-open-requires
+best-open-requires c κs = search needs
+
+enum-told : tie.Need-enum-told
+enum-told c = search needs
+
+enum-known-vertex : tie.Need-enum-known-vertex
+enum-known-vertex c = search needs
+
+rises-requires : tie.Need-rises-requires
+rises-requires c κs = rise-in (c .before .before .before .before .before .before .before .args .n) (c .before .before .before .before .before .before .before .args .k) _ _ _ (c .before .before .before .best-open .ensures .within) (c .before .vertex .given .1) (c .before .before .before .before .before .before .before .pre .n-to) (c .before .before .before .before .before .before .before .pre .k-to) (c .before .before .before .before .before .before .before .pre .in-gains)
+
+returns : tie.Need-returns
+returns c = rise-yes (gainIn (now (c .before .before .before .before .before .before .before .before .before .args .gains))) (c .before .before .before .before .before .before .before .before .before .args .n) (c .before .before .before .before .before .before .before .before .before .args .k) _ _ (c .before .before .before .before .before .best-open .ensures) (c .before .before .before .vertex .given .1) (sym (c .before .rises .ensures) ∙ c .if1 .taken)
+
+returns-2 : tie.Need-returns-2
+returns-2 c = rise-none (gainIn (now (c .before .before .before .before .before .before .args .gains))) (c .before .before .before .before .before .before .args .n) (c .before .before .before .before .before .before .args .k) (c .before .before .best-open .ensures) (c .enum-told .given .1)
+
+returns-3 : tie.Need-returns-3
+returns-3 c = rise-no (gainIn (now (c .before .before .before .before .before .before .before .before .before .args .gains))) (c .before .before .before .before .before .before .before .before .before .args .n) (c .before .before .before .before .before .before .before .before .before .args .k) _ _ (c .before .before .before .before .before .best-open .ensures) (c .before .before .before .vertex .given .1) (sym (c .before .rises .ensures) ∙ c .if1 .left)
+
+pub next-rise-spec : {M : Type 1} → statement M
+next-rise-spec =
+    tie.close
+    (tie.spec
+    best-open-requires
+    enum-told
+    enum-known-vertex
+    rises-requires
+    returns
+    returns-2
+    returns-3)

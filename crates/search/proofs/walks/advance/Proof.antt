@@ -1,0 +1,65 @@
+use native.Mathlib.Omega.{arith}
+use mathlib.Core.Path.{_≡_, refl, sym, _∙_, ap}
+use denote.Ref.{now}
+use borrow.Author.Needs.{needs}
+use Rattle.search.specs.Tabled.{search-ok}
+use Rattle.search.specs.Turning.{take-asks, turn-none, turn-move}
+use Rattle.search.proofs.walks.advance.Statement.{statement}
+use Rattle.search.proofs.walks.advance.Tie as tie
+use Rattle.search.proofs.walks.advance.Reads as reads
+use Rattle.search.proofs.walks.advance.Lts as lts
+use Rattle.search.proofs.walks.make_move.Reads as make-move-reads
+use Rattle.search.proofs.walks.next_move.Reads as next-move-reads
+
+next-move-requires : tie.Need-next-move-requires
+next-move-requires c κs = (c .before .before .before .before .before .before .before .before .before .before .before .before .before .before .pre .at .kept-to, omega (arith, c .before .before .before .before .before .before .before .before .before .before .before .before .before .before .pre .tried-to, c .before .before .before .before .before .before .before .before .before .before .before .before .before .before .pre .turn-to, c .before .before .before .before .before .before .before .before .before .before .before .before .before .before .pre .at .sound .follows .room .few-vertices), search-ok (c .before .before .before .before .before .before .before .before .before .before .before .before .before .before .pre .at .sound) (now (c .before .before .before .before .before .before .before .before .before .before .before .before .before .before .args .marks)) (omega (arith, c .before .before .before .before .before .before .before .before .before .before .before .before .before .before .pre .at .marks-fit)))
+
+enum-told : tie.Need-enum-told
+enum-told c = search needs
+
+enum-known-vertex : tie.Need-enum-known-vertex
+enum-known-vertex c = search needs
+
+make-move-requires : tie.Need-make-move-requires
+make-move-requires c κs = take-asks (c .before .before .before .before .before .before .before .before .before .before .before .before .before .before .before .before .before .before .before .before .before .before .before .before .pre) _ _ (c .before .before .before .before .before .before .before .before .before .next-move .ensures) (c .before .before .before .before .before .before .before .vertex .given .1)
+
+same-length : tie.Need-same-length
+same-length c = search needs
+
+same-length-2 : tie.Need-same-length-2
+same-length-2 c = search needs
+
+returns : tie.Need-returns
+returns c = λ aboves loaded. turn-none _ _ _ _ (c .before .before .before .before .before .before .before .before .before .before .before .before .before .before .before .before .before .pre .turn-to) (c .before .before .before .before .before .before .before .before .before .before .before .before .before .before .before .before .before .pre .tried-to) (c .before .before .next-move .ensures) (c .enum-told .given .1)
+
+same-length-3 : tie.Need-same-length-3
+same-length-3 c = search needs
+
+same-length-4 : tie.Need-same-length-4
+same-length-4 c = search needs
+
+same-length-5 : tie.Need-same-length-5
+same-length-5 c = search needs
+
+same-length-6 : tie.Need-same-length-6
+same-length-6 c = search needs
+
+returns-2 : tie.Need-returns-2
+returns-2 c = λ aboves loaded. turn-move _ _ _ _ _ (c .before .before .before .before .before .before .before .before .before .before .before .before .before .before .before .before .before .before .before .before .before .before .before .before .before .before .before .before .before .before .before .before .pre .turn-to) (c .before .before .before .before .before .before .before .before .before .before .before .before .before .before .before .before .before .before .before .before .before .before .before .before .before .before .before .before .before .before .before .before .pre .tried-to) (c .before .before .before .before .before .before .before .before .before .before .before .before .before .before .before .before .before .next-move .ensures) (c .before .before .before .before .before .before .before .before .before .before .before .before .before .before .before .vertex .given .1) (c .before .before .before .before .before .before .before .make-move .ensures aboves loaded)
+
+pub advance-spec : {M : Type 1} → statement M
+advance-spec =
+    tie.close
+    (tie.spec
+    next-move-requires
+    enum-told
+    enum-known-vertex
+    make-move-requires
+    same-length
+    same-length-2
+    returns
+    same-length-3
+    same-length-4
+    same-length-5
+    same-length-6
+    returns-2)

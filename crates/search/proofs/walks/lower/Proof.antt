@@ -1,0 +1,18 @@
+use native.Mathlib.Omega.{arith}
+use mathlib.Core.Path.{_≡_, refl, sym, _∙_, ap}
+use denote.Ref.{now}
+use borrow.Author.Needs.{needs}
+use Rattle.search.specs.Taking.{lower-new, lower-old}
+use Rattle.search.proofs.walks.lower.Statement.{statement}
+use Rattle.search.proofs.walks.lower.Tie as tie
+use Rattle.search.proofs.walks.lower.Reads as reads
+use Rattle.search.proofs.walks.lower.Lts as lts
+
+returns : tie.Need-returns
+returns c = (lower-new (c .before .args .total) (c .before .args .low) _ _ (c .if1 .taken), lower-new (c .before .args .total) (c .before .args .low) _ _ (c .if1 .taken))
+
+returns-2 : tie.Need-returns-2
+returns-2 c = (lower-old (c .before .args .total) (c .before .args .low) _ _ (c .if1 .left), lower-old (c .before .args .total) (c .before .args .low) _ _ (c .if1 .left))
+
+pub lower-spec : {M : Type 1} → statement M
+lower-spec = tie.close (tie.spec returns returns-2)

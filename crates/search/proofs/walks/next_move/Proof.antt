@@ -1,0 +1,25 @@
+use native.Mathlib.Omega.{arith}
+use mathlib.Core.Path.{_≡_, refl, sym, _∙_, ap}
+use denote.Ref.{now}
+use borrow.Author.Needs.{needs}
+use Rattle.search.specs.Turning.{next-stop, next-best}
+use Rattle.search.proofs.walks.next_move.Statement.{statement}
+use Rattle.search.proofs.walks.next_move.Tie as tie
+use Rattle.search.proofs.walks.next_move.Reads as reads
+use Rattle.search.proofs.walks.next_move.Lts as lts
+use Rattle.choice.proofs.open.best_open.Reads as best-open-reads
+
+add-if1 : tie.Need-add-if1
+add-if1 c = search needs
+
+returns : tie.Need-returns
+returns c = next-stop (now (c .before .before .before .args .gains)) (now (c .before .before .before .args .blocks)) (now (c .before .before .before .args .weights)) (now (c .before .before .before .args .loads)) (now (c .before .before .before .args .marks)) (c .before .before .before .args .n) (c .before .before .before .args .k) (c .before .before .before .args .capacity) (c .before .before .before .args .tried) (c .before .before .before .args .kept) (c .if1 .taken)
+
+best-open-requires : tie.Need-best-open-requires
+best-open-requires c κs = search needs
+
+returns-2 : tie.Need-returns-2
+returns-2 c = next-best (now (c .before .before .before .before .before .args .gains)) (now (c .before .before .before .before .before .args .blocks)) (now (c .before .before .before .before .before .args .weights)) (now (c .before .before .before .before .before .args .loads)) (now (c .before .before .before .before .before .args .marks)) (c .before .before .before .before .before .args .n) (c .before .before .before .before .before .args .k) (c .before .before .before .before .before .args .capacity) (c .before .before .before .before .before .args .tried) (c .before .before .before .before .before .args .kept) _ (c .before .before .if1 .left) (c .best-open .ensures)
+
+pub next-move-spec : {M : Type 1} → statement M
+next-move-spec = tie.close (tie.spec add-if1 returns best-open-requires returns-2)

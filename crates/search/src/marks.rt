@@ -1,0 +1,74 @@
+// The candidates of a search as two rows of bits: row 0 has the vertices that may be chosen, row 1 those that have moved in this search.
+// Vertices and nets count from 0.
+use crate::numbers::index;
+use incidence::is_pin;
+use incidence::next_net;
+use incidence::put;
+use incidence::take;
+ghost use mathlib.Core.Path.{_≡_};
+ghost use Prim.Native.Nat.{ℕ, _+_, _-_, _*_, _<_, _≤_};
+ghost use lib.Dec.{eqb};
+ghost use lib.ListN.{length};
+ghost use Rattle.connectivity.specs.Listed.{has};
+ghost use Rattle.search.specs.Marks.{Marked, PinsOk, near, NetsOk, Spread};
+
+// Makes `x` a candidate, unless it has moved.
+pub fn mark_vertex(marks: &mut [u64; 32], x: usize)
+    requires { ⌜ (length (now marks) ≡ 32) × (x < 1024) ⌝ }
+    ensures { λ _. ⌜ Marked (now (marks .entry)) (now (marks .exit)) (λ y. eqb y x) ⌝ }
+{
+    if is_pin(marks, 1, x) {
+        return;
+    }
+    put(marks, 0, x);
+}
+
+// Makes the pins of one net candidates.
+fn mark_pins(marks: &mut [u64; 32], pins: &[u16], first: usize, size: usize)
+    requires { ⌜ (length (now marks) ≡ 32) × PinsOk (now pins) first size ⌝ }
+    ensures { λ _. ⌜ Marked (now (marks .entry)) (now (marks .exit)) (has (now (pins .entry)) first size) ⌝ }
+{
+    let mut j: usize = 0;
+    while j < size {
+        mark_vertex(marks, index(pins[first + j]) - 1);
+        j += 1;
+    }
+}
+
+// Makes the pins of the nets of `u` candidates.
+fn mark_nets(
+    marks: &mut [u64; 32],
+    bits: &[u64],
+    pins: &[u16],
+    firsts: &[u16],
+    sizes: &[u16],
+    m: usize,
+    u: usize,
+)
+    requires { ⌜ (length (now marks) ≡ 32) × NetsOk (now bits) (now pins) (now firsts) (now sizes) m u ⌝ }
+    ensures { λ _. ⌜ Marked (now (marks .entry)) (now (marks .exit)) (near (now (bits .entry)) (now (pins .entry)) (now (firsts .entry)) (now (sizes .entry)) u m) ⌝ }
+{
+    let mut e = next_net(bits, u, 0, m);
+    while e < m {
+        mark_pins(marks, pins, index(firsts[e]), index(sizes[e]));
+        e = next_net(bits, u, e + 1, m);
+    }
+}
+
+// After `u` has moved: it is no candidate any more, and those that share a net with it become candidates.
+pub fn spread(
+    marks: &mut [u64; 32],
+    bits: &[u64],
+    pins: &[u16],
+    firsts: &[u16],
+    sizes: &[u16],
+    m: usize,
+    u: usize,
+)
+    requires { ⌜ (length (now marks) ≡ 32) × (u < 1024) × NetsOk (now bits) (now pins) (now firsts) (now sizes) m u ⌝ }
+    ensures { λ _. ⌜ Spread (now (marks .entry)) (now (marks .exit)) u (near (now (bits .entry)) (now (pins .entry)) (now (firsts .entry)) (now (sizes .entry)) u m) ⌝ }
+{
+    take(marks, 0, u);
+    put(marks, 1, u);
+    mark_nets(marks, bits, pins, firsts, sizes, m, u);
+}

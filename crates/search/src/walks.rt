@@ -1,0 +1,337 @@
+// W, a walk from two vertices (localized FM search): moves by the best open pair, the worse ones too, until none is open or 25 have been made
+// since the first prefix of lowest metric; then the moves after that prefix are reversed.
+use crate::marks::mark_vertex;
+use crate::marks::spread;
+use crate::numbers::index;
+use calls::moves::go;
+use calls::pairs::Journal;
+use choice::open::Pick;
+use choice::open::best_open;
+ghost use mathlib.Core.Path.{_≡_};
+ghost use mathlib.Core.Bool.{cond};
+ghost use mathlib.Core.List.{List};
+ghost use Prim.Native.Nat.{ℕ, _+_, _-_, _*_, _<_, _≤_};
+ghost use lib.Dec.{ltb};
+ghost use lib.ListN.{length};
+ghost use Rattle.choice.specs.Open.{SearchOk, Chosen, gainIn};
+ghost use Rattle.search.specs.Back.{RewindOk, Rewinds};
+ghost use Rattle.search.specs.Steps.{lent, locals, nextOf, TakeOk, Took, TurnOk, Turned, WalkOk, Walks};
+
+// What W answers: how many moves were made, the length of the kept prefix, and the metric after it.
+pub struct Walked {
+    pub tried: usize,
+    pub kept: usize,
+    pub total: u32,
+}
+
+// A walk on its way. `turn` counts the moves made, and is the number of vertices once the walk has ended.
+struct Steps {
+    journal: Journal,
+    turn: usize,
+    kept: usize,
+    low: u32,
+    total: u32,
+}
+
+struct Prefix {
+    kept: usize,
+    low: u32,
+}
+
+// The prefix to keep after one more move: a later one is kept if its metric is lower.
+fn lower(tried: usize, kept: usize, low: u32, total: u32) -> Prefix
+    ensures { λ r. ⌜ (r .kept ≡ cond (ltb total low) tried kept) × (r .low ≡ cond (ltb total low) total low) ⌝ }
+{
+    if total < low {
+        return Prefix {
+            kept: tried,
+            low: total,
+        };
+    }
+    Prefix {
+        kept: kept,
+        low: low,
+    }
+}
+
+// The next move: none once 25 have been made since the kept prefix.
+fn next_move(
+    gains: &[i32],
+    blocks: &[u16],
+    weights: &[u32],
+    loads: &[u64; 16],
+    marks: &[u64; 32],
+    n: usize,
+    k: usize,
+    capacity: u64,
+    tried: usize,
+    kept: usize,
+) -> Pick
+    requires { ⌜ (kept ≤ tried) × (tried ≤ 1024) × SearchOk (length (now gains)) (length (now blocks)) (length (now weights)) (length (now marks)) n k ⌝ }
+    ensures { λ r. ⌜ Chosen (gainIn (now (gains .entry))) n k r (nextOf (now (gains .entry)) (now (blocks .entry)) (now (weights .entry)) (now (loads .entry)) (now (marks .entry)) n k capacity tried kept) ⌝ }
+{
+    if kept + 25 <= tried {
+        return Pick::Nothing;
+    }
+    best_open(gains, blocks, weights, loads, marks, n, k, capacity)
+}
+
+// One more move, put on the journal.
+fn make_move(
+    counts: &mut [u16],
+    visited: &mut [u16],
+    gains: &mut [i32],
+    blocks: &mut [u16],
+    loads: &mut [u64; 16],
+    marks: &mut [u64; 32],
+    pins: &[u16],
+    sizes: &[u16],
+    bits: &[u64],
+    weights: &[u32],
+    netweights: &[u16],
+    firsts: &[u16],
+    n: usize,
+    m: usize,
+    k: usize,
+    v: u16,
+    b: u16,
+    s: Steps,
+) -> Steps
+    requires { ⌜ TakeOk (lent (now counts) (now visited) (now gains) (now blocks) (now loads) (now pins) (now sizes) (now bits) (now weights) (now netweights) (now firsts) n m k (s .total)) (locals (now marks) (s .journal .vertices) (s .journal .blocks) (s .journal .len) (s .kept) (s .low)) (s .turn) v b ⌝ }
+    ensures { λ r. ⌜ ((aboves loaded : List ℕ) → Took (lent (now (counts .entry)) (now (visited .entry)) (now (gains .entry)) (now (blocks .entry)) (now (loads .entry)) (now (pins .entry)) (now (sizes .entry)) (now (bits .entry)) (now (weights .entry)) (now (netweights .entry)) (now (firsts .entry)) n m k (s .total) aboves loaded) (locals (now (marks .entry)) (s .journal .vertices) (s .journal .blocks) (s .journal .len) (s .kept) (s .low)) (s .turn) v b
+        (lent (now (counts .exit)) (now (visited .exit)) (now (gains .exit)) (now (blocks .exit)) (now (loads .exit)) (now (pins .exit)) (now (sizes .exit)) (now (bits .exit)) (now (weights .exit)) (now (netweights .exit)) (now (firsts .exit)) n m k (r .total) aboves loaded) (locals (now (marks .exit)) (r .journal .vertices) (r .journal .blocks) (r .journal .len) (r .kept) (r .low)) (r .turn)) ⌝ }
+{
+    let x = index(v) - 1;
+    let before = s.journal;
+    let journal = before.push(v, blocks[x]);
+    let total = go(
+        counts,
+        visited,
+        gains,
+        blocks,
+        loads,
+        pins,
+        sizes,
+        bits,
+        weights,
+        netweights,
+        firsts,
+        n,
+        m,
+        k,
+        s.total,
+        x,
+        b,
+    );
+    spread(marks, bits, pins, firsts, sizes, m, x);
+    let p = lower(journal.len, s.kept, s.low, total);
+    Steps {
+        journal: journal,
+        turn: s.turn + 1,
+        kept: p.kept,
+        low: p.low,
+        total: total,
+    }
+}
+
+// A turn of the walk: the next move, or the walk's end.
+fn advance(
+    counts: &mut [u16],
+    visited: &mut [u16],
+    gains: &mut [i32],
+    blocks: &mut [u16],
+    loads: &mut [u64; 16],
+    marks: &mut [u64; 32],
+    pins: &[u16],
+    sizes: &[u16],
+    bits: &[u64],
+    weights: &[u32],
+    netweights: &[u16],
+    firsts: &[u16],
+    n: usize,
+    m: usize,
+    k: usize,
+    capacity: u64,
+    s: Steps,
+) -> Steps
+    requires { ⌜ TurnOk (lent (now counts) (now visited) (now gains) (now blocks) (now loads) (now pins) (now sizes) (now bits) (now weights) (now netweights) (now firsts) n m k (s .total)) (locals (now marks) (s .journal .vertices) (s .journal .blocks) (s .journal .len) (s .kept) (s .low)) capacity (s .turn) ⌝ }
+    ensures { λ r. ⌜ ((aboves loaded : List ℕ) → Turned (lent (now (counts .entry)) (now (visited .entry)) (now (gains .entry)) (now (blocks .entry)) (now (loads .entry)) (now (pins .entry)) (now (sizes .entry)) (now (bits .entry)) (now (weights .entry)) (now (netweights .entry)) (now (firsts .entry)) n m k (s .total) aboves loaded) (locals (now (marks .entry)) (s .journal .vertices) (s .journal .blocks) (s .journal .len) (s .kept) (s .low)) capacity (s .turn)
+        (lent (now (counts .exit)) (now (visited .exit)) (now (gains .exit)) (now (blocks .exit)) (now (loads .exit)) (now (pins .exit)) (now (sizes .exit)) (now (bits .exit)) (now (weights .exit)) (now (netweights .exit)) (now (firsts .exit)) n m k (r .total) aboves loaded) (locals (now (marks .exit)) (r .journal .vertices) (r .journal .blocks) (r .journal .len) (r .kept) (r .low)) (r .turn)) ⌝ }
+{
+    let journal = s.journal;
+    match next_move(
+        gains,
+        blocks,
+        weights,
+        loads,
+        marks,
+        n,
+        k,
+        capacity,
+        journal.len,
+        s.kept,
+    ) {
+        Pick::Nothing => Steps {
+            journal: journal,
+            turn: n,
+            kept: s.kept,
+            low: s.low,
+            total: s.total,
+        },
+        Pick::Move { vertex, block } => make_move(
+            counts,
+            visited,
+            gains,
+            blocks,
+            loads,
+            marks,
+            pins,
+            sizes,
+            bits,
+            weights,
+            netweights,
+            firsts,
+            n,
+            m,
+            k,
+            vertex,
+            block,
+            s,
+        ),
+    }
+}
+
+// Reverses the moves after the first `kept`, the last one first, and returns the metric.
+fn rewind(
+    counts: &mut [u16],
+    visited: &mut [u16],
+    gains: &mut [i32],
+    blocks: &mut [u16],
+    loads: &mut [u64; 16],
+    pins: &[u16],
+    sizes: &[u16],
+    bits: &[u64],
+    weights: &[u32],
+    netweights: &[u16],
+    firsts: &[u16],
+    n: usize,
+    m: usize,
+    k: usize,
+    total: u32,
+    journal: Journal,
+    kept: usize,
+) -> u32
+    requires { ⌜ RewindOk (lent (now counts) (now visited) (now gains) (now blocks) (now loads) (now pins) (now sizes) (now bits) (now weights) (now netweights) (now firsts) n m k total) (journal .vertices) (journal .blocks) (journal .len) kept ⌝ }
+    ensures { λ r. ⌜ ((aboves loaded : List ℕ) → Rewinds (lent (now (counts .entry)) (now (visited .entry)) (now (gains .entry)) (now (blocks .entry)) (now (loads .entry)) (now (pins .entry)) (now (sizes .entry)) (now (bits .entry)) (now (weights .entry)) (now (netweights .entry)) (now (firsts .entry)) n m k total aboves loaded) (journal .vertices) (journal .blocks) (journal .len) kept
+        (lent (now (counts .exit)) (now (visited .exit)) (now (gains .exit)) (now (blocks .exit)) (now (loads .exit)) (now (pins .exit)) (now (sizes .exit)) (now (bits .exit)) (now (weights .exit)) (now (netweights .exit)) (now (firsts .exit)) n m k r aboves loaded)) ⌝ }
+{
+    let mut t = total;
+    let mut j = journal.len;
+    while kept < j {
+        j -= 1;
+        let x = index(journal.vertices[j]) - 1;
+        t = go(
+            counts,
+            visited,
+            gains,
+            blocks,
+            loads,
+            pins,
+            sizes,
+            bits,
+            weights,
+            netweights,
+            firsts,
+            n,
+            m,
+            k,
+            t,
+            x,
+            journal.blocks[j],
+        );
+    }
+    t
+}
+
+// W,u,v. Vertices count from 0.
+pub fn walk(
+    counts: &mut [u16],
+    visited: &mut [u16],
+    gains: &mut [i32],
+    blocks: &mut [u16],
+    loads: &mut [u64; 16],
+    pins: &[u16],
+    sizes: &[u16],
+    bits: &[u64],
+    weights: &[u32],
+    netweights: &[u16],
+    firsts: &[u16],
+    n: usize,
+    m: usize,
+    k: usize,
+    capacity: u64,
+    total: u32,
+    u: usize,
+    v: usize,
+) -> Walked
+    requires { ⌜ WalkOk (lent (now counts) (now visited) (now gains) (now blocks) (now loads) (now pins) (now sizes) (now bits) (now weights) (now netweights) (now firsts) n m k total) capacity u v ⌝ }
+    ensures { λ r. ⌜ ((aboves loaded : List ℕ) → Walks (lent (now (counts .entry)) (now (visited .entry)) (now (gains .entry)) (now (blocks .entry)) (now (loads .entry)) (now (pins .entry)) (now (sizes .entry)) (now (bits .entry)) (now (weights .entry)) (now (netweights .entry)) (now (firsts .entry)) n m k total aboves loaded) capacity u v
+        (lent (now (counts .exit)) (now (visited .exit)) (now (gains .exit)) (now (blocks .exit)) (now (loads .exit)) (now (pins .exit)) (now (sizes .exit)) (now (bits .exit)) (now (weights .exit)) (now (netweights .exit)) (now (firsts .exit)) n m k (r .total) aboves loaded) (r .tried) (r .kept)) ⌝ }
+{
+    let mut marks = [0u64; 32];
+    mark_vertex(&mut marks, u);
+    mark_vertex(&mut marks, v);
+    let mut s = Steps {
+        journal: Journal::new(),
+        turn: 0,
+        kept: 0,
+        low: total,
+        total: total,
+    };
+    while s.turn < n {
+        s = advance(
+            counts,
+            visited,
+            gains,
+            blocks,
+            loads,
+            &mut marks,
+            pins,
+            sizes,
+            bits,
+            weights,
+            netweights,
+            firsts,
+            n,
+            m,
+            k,
+            capacity,
+            s,
+        );
+    }
+    let j = s.journal;
+    let t = rewind(
+        counts,
+        visited,
+        gains,
+        blocks,
+        loads,
+        pins,
+        sizes,
+        bits,
+        weights,
+        netweights,
+        firsts,
+        n,
+        m,
+        k,
+        s.total,
+        j,
+        s.kept,
+    );
+    Walked {
+        tried: j.len,
+        kept: s.kept,
+        total: t,
+    }
+}
