@@ -26,7 +26,7 @@ use Rattle.choice.specs.Rating.{scoreOf}
 use Rattle.choice.specs.JoinPair.{BestJoin, joinOf, joinOf-none, joinOf-some}
 use Rattle.choice.specs.JoinLink.{join-is, join-may}
 use Rattle.choice.specs.declared.join.Join.{Join}
-use Rattle.cycle.specs.Keeping.{keeps-none, keeps-more}
+use Rattle.search.specs.Keeping.{keeps-none, keeps-more}
 use Rattle.cycle.specs.Linked.{linked, block-at, block-from}
 
 -- tables and the stack's arrays are those of the state c

@@ -16,7 +16,7 @@ use Rattle.pins.specs.Board.{join}
 use Rattle.calls.specs.Pairs.{stackOf, pairs-none, pairs-some, pairs-length}
 use Rattle.calls.specs.Tables.{Tables, Sound, Keeps}
 use Rattle.calls.specs.Move.{own-block, in-range}
-use Rattle.calls.specs.Join.{CanSplit, Split}
+use Rattle.calls.specs.Join.{Split}
 use Rattle.search.specs.Keeping.{keeps-none, keeps-more}
 use Rattle.search.specs.Steps.{WalkOk, Walks, Ended}
 
@@ -34,9 +34,6 @@ pub record Parts (T : Tables) (limit u v : ℕ) (T′ : Tables) (tried kept : �
   pub is : (h : Hypergraph) (cs : List Contraction) (block : ℕ → ℕ) → limit ≡ capacity h → Sound h (join u v ∷ cs) block T
       → Ended h cs (walk h cs (uncontract block (join u v)) (u + 1) (v + 1)) T′ tried kept
   pub keeps : Keeps T T′
-
-pub split-asks : {T : List ℕ → Tables} (loads : List ℕ) {limit u v : ℕ} → PartOk (T loads) limit u v → CanSplit T u v
-split-asks loads o = record { loads = loads; splits = record { h = o .h; cs = o .cs; block = o .block; sound = o .sound } }
 
 -- the parted pair is on the board
 pub walk-asks : {T : Tables} (T′ : List ℕ → List ℕ → Tables) (aboves loaded : List ℕ) {limit u v : ℕ} → PartOk T limit u v → Split T (T′ aboves loaded) u v → WalkOk T′ limit u v
@@ -122,7 +119,7 @@ stack-to {into = into} {gone = gone} {len = len} o = omega (
   o .sound .follows .room .few-vertices,
 )
 
-module _ {h : Hypergraph} {block : ℕ → ℕ} {T : Tables} {into gone : List ℕ} (i : ℕ) (l : 1 ≤ i) (s : Sound h (stackOf into gone i) block T) where
+module _ {h : Hypergraph} {block : ℕ → ℕ} {T : Tables} (into gone : List ℕ) (i : ℕ) (l : 1 ≤ i) (s : Sound h (stackOf into gone i) block T) where
   -- its top is a pair of vertices
   pub top-from : (1 ≤ getD into (i - 1) 0) × (1 ≤ getD gone (i - 1) 0)
   top-from = let a = subst (AllInside h) (pairs-some (λ u v. record { into = u; gone = v }) into gone i l) (s .inside) in (a .0 .0, a .0 .2)
@@ -142,13 +139,13 @@ part-asks {T′ = T′} {into = into} {gone = gone} i {u = u} {v = v} o r l qu q
       h = o .h;
       cs = stackOf into gone (i - 1);
       block = b .there;
-      sound = subst (λ (cs : List Contraction). Sound (o .h) cs (b .there) T′) (top-is i l (b .sound) u v qu qv) (b .sound);
+      sound = subst (λ (cs : List Contraction). Sound (o .h) cs (b .there) T′) (top-is into gone i l (b .sound) u v qu qv) (b .sound);
       limit-is = o .limit-is;
     }
 
 pub top-asks : {T T′ : Tables} {limit : ℕ} {into gone : List ℕ} {len : ℕ} (i : ℕ) {tried kept : ℕ} → RefineOk T limit into gone len → Refining T limit into gone len i T′ tried kept → 1 ≤ i
     → (1 ≤ getD into (i - 1) 0) × (1 ≤ getD gone (i - 1) 0)
-top-asks i o r l = top-from i l (r .is (o .h) (o .block) (o .limit-is) (o .sound) .sound)
+top-asks {into = into} {gone = gone} i o r l = top-from into gone i l (r .is (o .h) (o .block) (o .limit-is) (o .sound) .sound)
 
 refine-step : (h : Hypergraph) (u v : ℕ) (cs : List Contraction) (block : ℕ → ℕ) (tried kept a b : ℕ) → a ≡ walk h cs (uncontract block (join u v)) (u + 1) (v + 1) .tried → b ≡ walk h cs (uncontract block (join u v)) (u + 1) (v + 1) .kept
     → refine h (join u v ∷ cs) (record { block = block; tried = tried; kept = kept })
@@ -163,7 +160,7 @@ pub refining-more : {T T′ T″ : Tables} {limit : ℕ} {into gone : List ℕ} 
 refining-more {T′ = T′} {T″ = T″} {into = into} {gone = gone} i {tried} {kept} {u} {v} {a} {b} {tried′} {kept′} qn qm qk qf ql r l qu qv p qt qp = record {
   is = λ h block q s.
       let x = r .is h block q s in
-      let top = top-is i l (x .sound) u v qu qv in
+      let top = top-is into gone i l (x .sound) u v qu qv in
       let e = p .is h (stackOf into gone (i - 1)) (x .there) q (subst (λ (cs : List Contraction). Sound h cs (x .there) T′) top (x .sound)) in
       let new : ℕ → ℕ = walked h (stackOf into gone (i - 1)) (walk h (stackOf into gone (i - 1)) (uncontract (x .there) (join u v)) (u + 1) (v + 1)) in
       record {

@@ -77,16 +77,17 @@ refine-asks {T′ = T′} o qi qg z k =
 full-board : (h : Hypergraph) → boardSize h [] ≡ vertices h
 full-board h = omega (arith, board-stack h [] tt tt)
 
-pub levels : {T T′ T″ : Tables} {average limit : ℕ} {into gone into′ gone′ : List ℕ} {len len′ tried kept : ℕ} → T′ .n ≡ T .n → T′ .m ≡ T .m → T′ .k ≡ T .k → T′ .firsts ≡ T .firsts → T′ .loaded ≡ T .loaded
-    → length into ≡ 1024 → length gone ≡ 1024 → len ≡ 0 → Coarsens T into gone len average T′ into′ gone′ len′ → Refines T′ limit into′ gone′ len′ T″ tried kept → Levels T average limit T″ len′ tried kept
-levels {T} {T′} {T″} {average} {limit} {into′ = into′} {gone′ = gone′} {len′ = len′} {tried = tried} {kept = kept} qn qm qk qf ql qi qg z k r = record {
+pub levels : {T T′ T″ : Tables} {average limit : ℕ} {into gone into′ gone′ : List ℕ} {len len′ joins tried kept : ℕ} → T′ .n ≡ T .n → T′ .m ≡ T .m → T′ .k ≡ T .k → T′ .firsts ≡ T .firsts → T′ .loaded ≡ T .loaded
+    → length into ≡ 1024 → length gone ≡ 1024 → len ≡ 0 → Coarsens T into gone len average T′ into′ gone′ len′ → Refines T′ limit into′ gone′ len′ T″ tried kept → joins ≡ len′
+    → Levels T average limit T″ joins tried kept
+levels {T} {T′} {T″} {average} {limit} {into′ = into′} {gone′ = gone′} {len′ = len′} {tried = tried} {kept = kept} qn qm qk qf ql qi qg z k r qj = record {
   is = λ h block qa qc s.
       let d = k .is h (record { stack = []; block = block }) qa (bare s qi qg z) in
       let c : Coarse = coarsen h (boardSize h []) (record { stack = []; block = block }) in
       let e : c ≡ coarse h block = ap (λ (f : ℕ). coarsen h f (record { stack = []; block = block })) (full-board h) in
       let f = r .is h (c .block) qc (subst (λ (cs : List Contraction). Sound h cs (c .block) T′) (d .stack-is) (d .sound)) in
       record {
-        joins-are = sym (pairs-length {A = Contraction} (λ u v. record { into = u; gone = v }) into′ gone′ len′) ∙ ap length (sym (d .stack-is)) ∙ ap (λ (x : Coarse). length (x .stack)) e;
+        joins-are = qj ∙ sym (pairs-length {A = Contraction} (λ u v. record { into = u; gone = v }) into′ gone′ len′) ∙ ap length (sym (d .stack-is)) ∙ ap (λ (x : Coarse). length (x .stack)) e;
         fined =
             subst (λ (x : Coarse). Fined h (refine h (x .stack) (record { block = x .block; tried = 0; kept = 0 })) T″ tried kept) e
             (subst (λ (cs : List Contraction). Fined h (refine h cs (record { block = c .block; tried = 0; kept = 0 })) T″ tried kept) (sym (d .stack-is)) f);
