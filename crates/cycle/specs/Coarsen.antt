@@ -1,27 +1,25 @@
 -- A's contractions on sound tables: what one of them and the loop of them ask and do, with the laws that the proofs of the code cite. Rests on
 -- Linked, on calls' Join and on guarantees' Calls and Fuel. Assumes nothing.
-use Prim.Native.Nat.{ℕ, zero, suc, _+_, _*_, _-_, _<_, _≤_}
+use Prim.Native.Nat.{ℕ, suc, _+_, _*_, _-_, _<_, _≤_}
 use native.Mathlib.Omega.{arith}
 use mathlib.Core.Path.{_≡_, refl, sym, ap, ap₂, _∙_, subst}
 use mathlib.Core.Logic.{inl, inr}
-use mathlib.Core.Bool.{Bool, true, cond}
+use mathlib.Core.Bool.{Bool, cond}
 use mathlib.Core.List.{List, _∷_}
 use borrow.Author.Tests.{lt-ltb, le-ltb}
-use lib.Dec.{ltb}
 use lib.IntN.{pos}
 use lib.ListN.{length, length-set}
 use Rattle.laws.specs.Place.{place}
-use Rattle.model.specs.Catalogue.{Hypergraph, vertices, averageWeight}
+use Rattle.model.specs.Catalogue.{Hypergraph, averageWeight}
 use Rattle.model.specs.Measure.{Contraction}
-use Rattle.model.specs.Search.{Best, none, best, Coarse, joinBest, joinTurn, boardSize, coarsen}
+use Rattle.model.specs.Search.{best, Coarse, joinBest, joinTurn, boardSize, coarsen}
 use Rattle.guarantees.specs.Climbs.{Joins}
 use Rattle.guarantees.specs.Calls.{can-join, board-join, Coarsest}
 use Rattle.guarantees.specs.Fuel.{coarsest-rests}
 use Rattle.guarantees.specs.StateBounds.{board-stack}
-use Rattle.pins.specs.Board.{join}
 use Rattle.calls.specs.Pairs.{stackOf, Pushed, pairs-push, pairs-length}
 use Rattle.calls.specs.Tables.{Tables, Sound, Keeps}
-use Rattle.calls.specs.Join.{Pair, CanJoin, Joined}
+use Rattle.calls.specs.Join.{Pair, Joined}
 use Rattle.choice.specs.Rating.{scoreOf}
 use Rattle.choice.specs.JoinPair.{BestJoin, joinOf, joinOf-none, joinOf-some}
 use Rattle.choice.specs.JoinLink.{join-is, join-may}

@@ -1,20 +1,19 @@
 -- What sound tables tell the choice of a pair to contract: they hold the state that choice's laws speak of. Rests on calls' Sound and choice's
 -- JoinLink. Assumes nothing.
-use Prim.Native.Nat.{ℕ, _+_, _*_, _-_, _<_, _≤_}
+use Prim.Native.Nat.{ℕ, _+_, _-_, _<_, _≤_}
 use native.Mathlib.Decide.{decLt}
 use native.Mathlib.Omega.{arith}
-use mathlib.Core.Path.{_≡_, refl, sym, ap, _∙_}
-use mathlib.Core.Bool.{Bool, true, false}
+use mathlib.Core.Path.{_≡_, sym, ap, _∙_}
 use mathlib.Core.List.{List}
 use borrow.Author.Tests.{eqb-true, eqb-false}
-use lib.ListN.{length, getD, replicate, length-replicate, getD-replicate, List·getD-eq-default}
+use lib.ListN.{getD, replicate, length-replicate, getD-replicate, List·getD-eq-default}
 use Rattle.laws.specs.Choice.{one}
 use Rattle.laws.specs.Fold.{all-get}
 use Rattle.laws.specs.Occurrence.{occ, occ-total}
 use Rattle.laws.specs.Sum.{sumTo, sumTo-ext, countTo-le}
 use Rattle.model.specs.Catalogue.{Hypergraph, vertices, averageWeight}
 use Rattle.model.specs.Memory.{noNet}
-use Rattle.model.specs.Measure.{Contraction, above, onBoard, pin, size, weight}
+use Rattle.model.specs.Measure.{Contraction, above, pin, size, weight}
 use Rattle.pins.specs.Stack.{present-le, present-pin, loadedPin, row-pin}
 use Rattle.levels.specs.Running.{netAt}
 use Rattle.calls.specs.Tables.{Tables, Sound}

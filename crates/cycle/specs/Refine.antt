@@ -1,14 +1,14 @@
 -- A's way back on sound tables: contractions are undone, the last one first, each with a walk from the parted pair. What one of them and the
 -- loop of them ask and do, with the laws that the proofs of the code cite. Rests on calls' Join and search's Steps. Assumes nothing.
-use Prim.Native.Nat.{ℕ, zero, suc, _+_, _*_, _-_, _<_, _≤_}
+use Prim.Native.Nat.{ℕ, _+_, _-_, _<_, _≤_}
 use native.Mathlib.Omega.{arith}
 use mathlib.Core.Path.{_≡_, refl, sym, ap, ap₂, _∙_, subst}
 use mathlib.Core.List.{List, [], _∷_}
 use lib.ListN.{length, getD}
-use Rattle.model.specs.Catalogue.{Hypergraph, vertices, capacity}
-use Rattle.model.specs.Measure.{Contraction, above}
+use Rattle.model.specs.Catalogue.{Hypergraph, capacity}
+use Rattle.model.specs.Measure.{Contraction}
 use Rattle.model.specs.Machine.{uncontract}
-use Rattle.model.specs.Search.{Fine, Walk, walk, walked, refine}
+use Rattle.model.specs.Search.{Fine, walk, walked, refine}
 use Rattle.guarantees.specs.Splits.{AllInside}
 use Rattle.guarantees.specs.SearchBounds.{tried-le, walk-counts}
 use Rattle.guarantees.specs.StateBounds.{stack-le}

@@ -1,14 +1,14 @@
 -- A as a whole on sound tables without contractions: contractions, the way back, then P; equal to what model says that A does and answers.
 -- Rests on Coarsen, Refine and search's Polished. Assumes nothing.
-use Prim.Native.Nat.{ℕ, _+_, _≤_}
+use Prim.Native.Nat.{ℕ}
 use native.Mathlib.Omega.{arith}
-use mathlib.Core.Path.{_≡_, refl, sym, ap, ap₂, _∙_, subst}
+use mathlib.Core.Path.{_≡_, sym, ap, _∙_, subst}
 use mathlib.Core.List.{List, []}
 use lib.ListN.{length}
 use Rattle.model.specs.Catalogue.{Hypergraph, vertices, averageWeight, capacity}
-use Rattle.model.specs.Measure.{Contraction, metric}
-use Rattle.model.specs.Machine.{State, Step, Answer, saysA}
-use Rattle.model.specs.Search.{Coarse, Fine, Polish, boardSize, coarsen, refine, polish, doesA}
+use Rattle.model.specs.Measure.{Contraction}
+use Rattle.model.specs.Machine.{State, Step, saysA}
+use Rattle.model.specs.Search.{Coarse, Fine, boardSize, coarsen, refine, doesA}
 use Rattle.guarantees.specs.StateBounds.{board-stack}
 use Rattle.calls.specs.Pairs.{stackOf, pairs-none, pairs-length}
 use Rattle.calls.specs.Tables.{Tables, Sound, Keeps}

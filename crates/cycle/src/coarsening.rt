@@ -1,5 +1,5 @@
 // A's contractions: while more than 2 × k vertices are on the board, the best pair is contracted.
-ghost use Prim.Native.Nat.{ℕ, _+_, _-_, _*_, _<_, _≤_};
+ghost use Prim.Native.Nat.{ℕ, _-_, _*_, _<_, _≤_};
 ghost use mathlib.Core.Path.{_≡_};
 ghost use mathlib.Core.List.{List};
 ghost use Rattle.calls.specs.Tables.{tables};

@@ -1,5 +1,5 @@
 // A's way back: contractions are undone, the last one first, each with a walk from the parted pair.
-ghost use Prim.Native.Nat.{ℕ, _+_, _-_, _*_, _<_, _≤_};
+ghost use Prim.Native.Nat.{_+_, _-_, _<_, _≤_};
 ghost use mathlib.Core.Path.{_≡_};
 ghost use Rattle.calls.specs.Tables.{tables};
 ghost use Rattle.cycle.specs.Refine.{PartOk, Parts, RefineOk, Refines};

@@ -1,6 +1,4 @@
 // A as a whole: contractions, the way back, then P.
-ghost use Prim.Native.Nat.{ℕ};
-ghost use mathlib.Core.List.{List};
 ghost use Rattle.calls.specs.Tables.{tables};
 ghost use Rattle.cycle.specs.Whole.{CycleOk, Levels, Does};
 use crate::coarsening::coarsen;

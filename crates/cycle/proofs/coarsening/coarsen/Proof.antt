@@ -1,20 +1,15 @@
-use native.Mathlib.Omega.{arith}
-use mathlib.Core.Path.{_≡_, refl, sym, _∙_, ap}
-use mathlib.Core.List.{List}
+-- `coarsen`: what is left to contract leads to model's end, and nothing is left once no vertex has to leave the board.
 use Prim.Native.Nat.{ℕ}
+use native.Mathlib.Omega.{arith}
+use mathlib.Core.Path.{_≡_, refl}
+use mathlib.Core.List.{List}
 use lib.ListN.{length}
 use Rattle.calls.specs.Tables.{tables}
 use Rattle.choice.specs.Rating.{Blank}
 use Rattle.cycle.specs.Linked.{blank}
 use Rattle.cycle.specs.Coarsen.{locals, Going, len-is, going-none, going-more, going-done, once-asks}
-use denote.Ref.{now}
-use borrow.Author.Needs.{needs}
 use Rattle.cycle.proofs.coarsening.coarsen.Statement.{statement}
 use Rattle.cycle.proofs.coarsening.coarsen.Tie as tie
-use Rattle.cycle.proofs.coarsening.coarsen.Reads as reads
-use Rattle.cycle.proofs.coarsening.coarsen.Lts as lts
-use Rattle.cycle.proofs.coarsening.coarsen_once.Reads as coarsen-once-reads
-use Rattle.cycle.proofs.coarsening.excess.Reads as excess-reads
 
 abbrev Inv-loop : tie.InvT-loop
 Inv-loop counts₀ visited₀ gains₀ pins₀ sizes₀ bits₀ blocks₀ weights₀ aboves₀ netweights firsts n m k average total acc₀ s₀ counts visited gains pins sizes bits blocks weights aboves acc s =
@@ -33,7 +28,7 @@ loop-holds : tie.Need-loop-holds Inv-loop μ-loop
 loop-holds c = (λ loads loaded. going-none _ _ _ _ _ _ (c .excess .ensures), blank 1025 refl, refl, refl, refl, refl, refl, refl, refl, refl, refl)
 
 coarsen-once-requires : tie.Need-coarsen-once-requires Inv-loop μ-loop
-coarsen-once-requires c κs = (once-asks (c .before .before .before .before .before .before .before .before .before .before .before .before .before .before .before .before .before .before .before .before .before .before .before .before .pre) (c .before .before .before .before .before .before .before .before .before .before .before .before .loop .inv .0) (c .before .before .before .before .before .before .before .before .before .before .if1 .taken), c .before .before .before .before .before .before .before .before .before .before .before .before .loop .inv .1)
+coarsen-once-requires c κs = (once-asks (c .before .before .before .before .before .before .before .before .before .before .before .before .before .before .before .before .before .before .before .before .before .before .before .before .pre) (c .before .before .before .before .before .before .before .before .before .before .before .before .loop .inv .0) (omega (arith, c .before .before .before .before .before .before .before .before .before .before .if1 .taken)), c .before .before .before .before .before .before .before .before .before .before .before .before .loop .inv .1)
 
 loop-less : tie.Need-loop-less Inv-loop μ-loop
 loop-less c = c .before .before .before .before .before .before .before .before .before .before .before .before .before .before .before .before .before .coarsen-once .ensures .0 (c .before .before .before .before .before .before .before .before .before .before .before .before .before .before .before .before .before .before .before .before .before .before .before .before .before .before .before .before .before .before .before .before .before .before .before .before .before .before .before .before .before .before .pre .loads) (c .before .before .before .before .before .before .before .before .before .before .before .before .before .before .before .before .before .before .before .before .before .before .before .before .before .before .before .before .before .before .before .before .before .before .before .before .before .before .before .before .before .before .pre .loaded) .less

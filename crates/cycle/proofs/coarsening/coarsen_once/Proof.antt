@@ -1,17 +1,11 @@
+-- `coarsen_once`: the pair that the tables give is model's; where there is one, it may be contracted, and the stack has room for it.
 use native.Mathlib.Omega.{arith}
-use mathlib.Core.Path.{_≡_, refl, sym, _∙_, ap}
-use denote.Ref.{now}
+use mathlib.Core.Path.{refl}
 use borrow.Author.Needs.{needs}
 use Rattle.cycle.specs.Linked.{tables-ok}
 use Rattle.cycle.specs.Coarsen.{once-none, once-join, once-room, pair-ok}
 use Rattle.cycle.proofs.coarsening.coarsen_once.Statement.{statement}
 use Rattle.cycle.proofs.coarsening.coarsen_once.Tie as tie
-use Rattle.cycle.proofs.coarsening.coarsen_once.Reads as reads
-use Rattle.cycle.proofs.coarsening.coarsen_once.Lts as lts
-use Rattle.calls.proofs.joins.join.Reads as join-reads
-use Rattle.calls.proofs.pairs.Stack.push.Reads as push-reads
-use Rattle.choice.proofs.join.best_join.Reads as best-join-reads
-use Rattle.cycle.proofs.numbers.short.Reads as short-reads
 
 best-join-requires : tie.Need-best-join-requires
 best-join-requires c κs = let p = c .before .before .before .before .before .before .before .before .before .before .before .before .before .before .before .before .pre in (tables-ok (p .0 .here .stands .sound), (p .1, p .0 .here .stands .sound .weights-fit))

@@ -7,11 +7,6 @@ use Rattle.calls.specs.Tables.{tables}
 use Rattle.cycle.specs.Refine.{Refining, stack-to, top-asks, part-asks, parts-few, refining-none, refining-more, refining-done}
 use Rattle.cycle.proofs.refining.refine.Statement.{statement}
 use Rattle.cycle.proofs.refining.refine.Tie as tie
-use Rattle.cycle.proofs.refining.refine.Reads as reads
-use Rattle.cycle.proofs.refining.refine.Lts as lts
-use Rattle.cycle.proofs.numbers.place_of.Reads as place-of-reads
-use Rattle.cycle.proofs.refining.add_walk.Reads as add-walk-reads
-use Rattle.cycle.proofs.refining.refine_once.Reads as refine-once-reads
 
 abbrev Inv-loop : tie.InvT-loop
 Inv-loop counts₀ visited₀ gains₀ pins₀ sizes₀ bits₀ blocks₀ weights₀ aboves₀ loads₀ netweights firsts loaded n m k capacity total stack f₀ i₀ counts visited gains pins sizes bits blocks weights aboves loads f i =

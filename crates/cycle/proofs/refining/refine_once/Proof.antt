@@ -5,10 +5,6 @@ use borrow.Author.Needs.{needs}
 use Rattle.cycle.specs.Refine.{walk-asks, parts}
 use Rattle.cycle.proofs.refining.refine_once.Statement.{statement}
 use Rattle.cycle.proofs.refining.refine_once.Tie as tie
-use Rattle.cycle.proofs.refining.refine_once.Reads as reads
-use Rattle.cycle.proofs.refining.refine_once.Lts as lts
-use Rattle.calls.proofs.joins.split.Reads as split-reads
-use Rattle.search.proofs.walks.walk.Reads as walk-reads
 
 split-requires : tie.Need-split-requires
 split-requires c κs = let p = c .before .before .before .before .before .before .before .before .before .before .before .before .before .before .before .before .before .before .before .before .pre in record { loads = c .before .before .before .before .before .before .before .before .before .before .before .before .before .before .before .before .before .before .before .before .args .loads .now; splits = record { h = p .h; cs = p .cs; block = p .block; sound = p .sound } }

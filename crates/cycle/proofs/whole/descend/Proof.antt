@@ -6,12 +6,6 @@ use Rattle.cycle.specs.Refine.{stack-to}
 use Rattle.cycle.specs.Whole.{coarsen-asks, refine-asks, levels}
 use Rattle.cycle.proofs.whole.descend.Statement.{statement}
 use Rattle.cycle.proofs.whole.descend.Tie as tie
-use Rattle.cycle.proofs.whole.descend.Reads as reads
-use Rattle.cycle.proofs.whole.descend.Lts as lts
-use Rattle.calls.proofs.pairs.Stack.new.Reads as new-reads
-use Rattle.cycle.proofs.coarsening.coarsen.Reads as coarsen-reads
-use Rattle.cycle.proofs.numbers.counted.Reads as counted-reads
-use Rattle.cycle.proofs.refining.refine.Reads as refine-reads
 
 new-requires : tie.Need-new-requires
 new-requires c κs = search needs

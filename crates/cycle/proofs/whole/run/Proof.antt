@@ -4,10 +4,6 @@ use borrow.Author.Needs.{needs}
 use Rattle.cycle.specs.Whole.{polish-asks, done}
 use Rattle.cycle.proofs.whole.run.Statement.{statement}
 use Rattle.cycle.proofs.whole.run.Tie as tie
-use Rattle.cycle.proofs.whole.run.Reads as reads
-use Rattle.cycle.proofs.whole.run.Lts as lts
-use Rattle.cycle.proofs.whole.descend.Reads as descend-reads
-use Rattle.search.proofs.polishing.polish.Reads as polish-reads
 
 descend-requires : tie.Need-descend-requires
 descend-requires c κs = search needs
