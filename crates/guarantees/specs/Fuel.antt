@@ -60,7 +60,7 @@ module _ (h : Hypergraph) (cs : List Contraction) where
   polish-rests p ok = stuck-rests (polish h cs p) (polish-ends h cs p ok .stuck)
 
 module _ (h : Hypergraph) where
-  coarsest-rests : (c : Coarse) → Coarsest h c → (n : ℕ) → coarsen h n c ≡ c
+  pub coarsest-rests : (c : Coarse) → Coarsest h c → (n : ℕ) → coarsen h n c ≡ c
   unfolding coarsen joinTurn
   coarsest-rests c o zero = refl
   coarsest-rests c (inl e) (suc n) = ap (λ (b : Bool). cond b (joinTurn h c (coarsen h n) (joinBest h (c .stack) (c .block))) c) e

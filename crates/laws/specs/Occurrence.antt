@@ -12,7 +12,7 @@ use lib.ListN.{length, getD, set, length-append, List·getD-append}
 use lib.Seq.{getD-set-same, getD-set-other}
 use Rattle.laws.specs.Choice.{one}
 use Rattle.laws.specs.Fold.{any}
-use Rattle.laws.specs.Sum.{sum, sum-zero, sum-suc, sum-step, sum-ext, sum-change, sum-nil, sum-split, term-le}
+use Rattle.laws.specs.Sum.{sum, sum-zero, sum-suc, sum-step, sum-ext, sum-change, sum-nil, sum-split, term-le, sumTo, sumTo-ext, sumTo-nil, sumTo-add, sumTo-change}
 
 -- what stands at place i of the stretch that begins at f
 abbrev pub at : List ℕ → ℕ → ℕ → ℕ
@@ -128,6 +128,26 @@ module _ (l : List ℕ) (f : ℕ) where
 pub occ-ext : (l l′ : List ℕ) (f n x : ℕ) → ((i : ℕ) → i < n → at l′ f i ≡ at l f i) → occ l′ f n x ≡ occ l f n x
 unfolding occ
 occ-ext l l′ f n x h = sum-ext n (λ i. same (at l′ f i) x) (λ i. same (at l f i) x) (λ i k. ap (λ (z : ℕ). same z x) (h i k))
+
+-- a number from 1 to k is one of them
+sumTo-same : (k a : ℕ) → 1 ≤ a → a ≤ k → sumTo k (λ x. same a x) ≡ 1
+sumTo-same k a l u = omega (
+  arith,
+  sumTo-change k a (λ x. same a x) (λ x. 0) l u (λ x _ _ ne. same-no a x (λ q. ne (sym q))),
+  sumTo-nil k (λ x. 0) (λ i _ _. refl),
+  same-yes a a refl,
+)
+
+-- a stretch of numbers from 1 to k is as long as they stand in it, all together
+pub occ-total : (l : List ℕ) (f n k : ℕ) → ((i : ℕ) → i < n → (1 ≤ at l f i) × (at l f i ≤ k)) → sumTo k (occ l f n) ≡ n
+occ-total l f zero k r = sumTo-nil k (occ l f 0) (λ x _ _. occ-zero l f x)
+occ-total l f (suc n) k r = omega (
+  arith,
+  sumTo-ext k (occ l f (suc n)) (λ x. occ l f n x + same (at l f n) x) (λ x _ _. occ-suc l f n x),
+  sumTo-add k (occ l f n) (λ x. same (at l f n) x),
+  occ-total l f n k (λ i k. r i (omega arith)),
+  sumTo-same k (at l f n) (r n (omega arith) .0) (r n (omega arith) .1),
+)
 
 -- ---- a whole list: one more element that does not stand in it
 pub any-getD : (l : List ℕ) (x : ℕ) → any l (λ y. eqb y x) ≡ false → (i : ℕ) → i < length l → getD l i 0 ≡ x → ⊥

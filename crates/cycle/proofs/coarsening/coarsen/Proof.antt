@@ -1,0 +1,89 @@
+-- `coarsen`: what is left to contract leads to model's end, and nothing is left once no vertex has to leave the board.
+use Prim.Native.Nat.{ℕ}
+use native.Mathlib.Omega.{arith}
+use mathlib.Core.Path.{_≡_, refl}
+use mathlib.Core.List.{List}
+use lib.ListN.{length}
+use Rattle.calls.specs.Tables.{tables}
+use Rattle.choice.specs.Rating.{Blank}
+use Rattle.cycle.specs.Linked.{blank}
+use Rattle.cycle.specs.Coarsen.{locals, Going, len-is, going-none, going-more, going-done, once-asks}
+use Rattle.cycle.proofs.coarsening.coarsen.Statement.{statement}
+use Rattle.cycle.proofs.coarsening.coarsen.Tie as tie
+
+abbrev Inv-loop : tie.InvT-loop
+Inv-loop counts₀ visited₀ gains₀ pins₀ sizes₀ bits₀ blocks₀ weights₀ aboves₀ netweights firsts n m k average total acc₀ s₀ counts visited gains pins sizes bits blocks weights aboves acc s =
+    ((loads loaded : List ℕ) → Going (tables counts₀ visited₀ gains₀ pins₀ sizes₀ bits₀ blocks₀ weights₀ aboves₀ loads netweights firsts loaded n m k total) (s₀ .stack .into) (s₀ .stack .gone) (s₀ .stack .len) average (tables counts visited gains pins sizes bits blocks weights aboves loads netweights firsts loaded n m k total) (locals (s .stack .into) (s .stack .gone) (s .stack .len) (s .left)))
+    × Blank acc
+    × (length counts ≡ length counts₀) × (length visited ≡ length visited₀) × (length gains ≡ length gains₀) × (length pins ≡ length pins₀) × (length sizes ≡ length sizes₀) × (length bits ≡ length bits₀) × (length blocks ≡ length blocks₀) × (length weights ≡ length weights₀) × (length aboves ≡ length aboves₀)
+
+abbrev μ-loop : tie.MeasureT-loop
+μ-loop counts₀ visited₀ gains₀ pins₀ sizes₀ bits₀ blocks₀ weights₀ aboves₀ netweights firsts n m k average total acc₀ s₀ counts visited gains pins sizes bits blocks weights aboves acc s =
+    s .left
+
+excess-requires : tie.Need-excess-requires Inv-loop μ-loop
+excess-requires c κs = let p = c .before .before .before .before .before .before .before .before .before .before .pre in (omega (arith, len-is (p .stands)), p .stands .sound .follows .world .frame .few)
+
+loop-holds : tie.Need-loop-holds Inv-loop μ-loop
+loop-holds c = (λ loads loaded. going-none _ _ _ _ _ _ (c .excess .ensures), blank 1025 refl, refl, refl, refl, refl, refl, refl, refl, refl, refl)
+
+coarsen-once-requires : tie.Need-coarsen-once-requires Inv-loop μ-loop
+coarsen-once-requires c κs = (once-asks (c .before .before .before .before .before .before .before .before .before .before .before .before .before .before .before .before .before .before .before .before .before .before .before .before .pre) (c .before .before .before .before .before .before .before .before .before .before .before .before .loop .inv .0) (omega (arith, c .before .before .before .before .before .before .before .before .before .before .if1 .taken)), c .before .before .before .before .before .before .before .before .before .before .before .before .loop .inv .1)
+
+loop-less : tie.Need-loop-less Inv-loop μ-loop
+loop-less c = c .before .before .before .before .before .before .before .before .before .before .before .before .before .before .before .before .before .coarsen-once .ensures .0 (c .before .before .before .before .before .before .before .before .before .before .before .before .before .before .before .before .before .before .before .before .before .before .before .before .before .before .before .before .before .before .before .before .before .before .before .before .before .before .before .before .before .before .pre .loads) (c .before .before .before .before .before .before .before .before .before .before .before .before .before .before .before .before .before .before .before .before .before .before .before .before .before .before .before .before .before .before .before .before .before .before .before .before .before .before .before .before .before .before .pre .loaded) .less
+
+loop-again : tie.Need-loop-again Inv-loop μ-loop
+loop-again c = (λ loads loaded. going-more refl refl refl refl refl (c .before .before .before .before .before .before .before .before .before .before .before .before .before .before .before .before .before .before .before .before .before .before .before .before .before .before .before .before .before .before .loop .inv .0 loads loaded) (c .before .before .before .before .before .before .before .before .before .before .before .before .before .before .before .before .before .coarsen-once .ensures .0 loads loaded), c .before .before .before .before .before .before .before .before .before .before .before .before .before .before .before .before .before .coarsen-once .ensures .1, omega (arith, c .before .before .before .before .before .before .before .before .before .before .before .before .before .before .before .before .before .before .before .before .before .before .before .before .before .before .before .before .before .before .loop .inv, c .before .before .before .before .before .before .before .before .before .before .before .before .before .before .before .before .before .coarsen-once .kept), omega (arith, c .before .before .before .before .before .before .before .before .before .before .before .before .before .before .before .before .before .before .before .before .before .before .before .before .before .before .before .before .before .before .loop .inv, c .before .before .before .before .before .before .before .before .before .before .before .before .before .before .before .before .before .coarsen-once .kept), omega (arith, c .before .before .before .before .before .before .before .before .before .before .before .before .before .before .before .before .before .before .before .before .before .before .before .before .before .before .before .before .before .before .loop .inv, c .before .before .before .before .before .before .before .before .before .before .before .before .before .before .before .before .before .coarsen-once .kept), omega (arith, c .before .before .before .before .before .before .before .before .before .before .before .before .before .before .before .before .before .before .before .before .before .before .before .before .before .before .before .before .before .before .loop .inv, c .before .before .before .before .before .before .before .before .before .before .before .before .before .before .before .before .before .coarsen-once .kept), omega (arith, c .before .before .before .before .before .before .before .before .before .before .before .before .before .before .before .before .before .before .before .before .before .before .before .before .before .before .before .before .before .before .loop .inv, c .before .before .before .before .before .before .before .before .before .before .before .before .before .before .before .before .before .coarsen-once .kept), omega (arith, c .before .before .before .before .before .before .before .before .before .before .before .before .before .before .before .before .before .before .before .before .before .before .before .before .before .before .before .before .before .before .loop .inv, c .before .before .before .before .before .before .before .before .before .before .before .before .before .before .before .before .before .coarsen-once .kept), omega (arith, c .before .before .before .before .before .before .before .before .before .before .before .before .before .before .before .before .before .before .before .before .before .before .before .before .before .before .before .before .before .before .loop .inv, c .before .before .before .before .before .before .before .before .before .before .before .before .before .before .before .before .before .coarsen-once .kept), omega (arith, c .before .before .before .before .before .before .before .before .before .before .before .before .before .before .before .before .before .before .before .before .before .before .before .before .before .before .before .before .before .before .loop .inv, c .before .before .before .before .before .before .before .before .before .before .before .before .before .before .before .before .before .coarsen-once .kept), omega (arith, c .before .before .before .before .before .before .before .before .before .before .before .before .before .before .before .before .before .before .before .before .before .before .before .before .before .before .before .before .before .before .loop .inv, c .before .before .before .before .before .before .before .before .before .before .before .before .before .before .before .before .before .coarsen-once .kept))
+
+same-length : tie.Need-same-length Inv-loop μ-loop
+same-length c = omega (arith, c .before .before .before .loop .inv)
+
+same-length-2 : tie.Need-same-length-2 Inv-loop μ-loop
+same-length-2 c = omega (arith, c .before .before .before .loop .inv)
+
+same-length-3 : tie.Need-same-length-3 Inv-loop μ-loop
+same-length-3 c = omega (arith, c .before .before .before .loop .inv)
+
+same-length-4 : tie.Need-same-length-4 Inv-loop μ-loop
+same-length-4 c = omega (arith, c .before .before .before .loop .inv)
+
+same-length-5 : tie.Need-same-length-5 Inv-loop μ-loop
+same-length-5 c = omega (arith, c .before .before .before .loop .inv)
+
+same-length-6 : tie.Need-same-length-6 Inv-loop μ-loop
+same-length-6 c = omega (arith, c .before .before .before .loop .inv)
+
+same-length-7 : tie.Need-same-length-7 Inv-loop μ-loop
+same-length-7 c = omega (arith, c .before .before .before .loop .inv)
+
+same-length-8 : tie.Need-same-length-8 Inv-loop μ-loop
+same-length-8 c = omega (arith, c .before .before .before .loop .inv)
+
+same-length-9 : tie.Need-same-length-9 Inv-loop μ-loop
+same-length-9 c = omega (arith, c .before .before .before .loop .inv)
+
+returns : tie.Need-returns Inv-loop μ-loop
+returns c = λ loads loaded. going-done (c .before .before .before .loop .inv .0 loads loaded) (omega (arith, c .before .if1 .left))
+
+pub coarsen-spec : {M : Type 1} → statement M
+coarsen-spec =
+    tie.close
+    (tie.spec
+    Inv-loop
+    μ-loop
+    excess-requires
+    loop-holds
+    coarsen-once-requires
+    loop-less
+    loop-again
+    same-length
+    same-length-2
+    same-length-3
+    same-length-4
+    same-length-5
+    same-length-6
+    same-length-7
+    same-length-8
+    same-length-9
+    returns)

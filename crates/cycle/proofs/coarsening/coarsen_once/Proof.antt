@@ -1,0 +1,109 @@
+-- `coarsen_once`: the pair that the tables give is model's; where there is one, it may be contracted, and the stack has room for it.
+use native.Mathlib.Omega.{arith}
+use mathlib.Core.Path.{refl}
+use borrow.Author.Needs.{needs}
+use Rattle.cycle.specs.Linked.{tables-ok}
+use Rattle.cycle.specs.Coarsen.{once-none, once-join, once-room, pair-ok}
+use Rattle.cycle.proofs.coarsening.coarsen_once.Statement.{statement}
+use Rattle.cycle.proofs.coarsening.coarsen_once.Tie as tie
+
+best-join-requires : tie.Need-best-join-requires
+best-join-requires c κs = let p = c .before .before .before .before .before .before .before .before .before .before .before .before .before .before .before .before .pre in (tables-ok (p .0 .here .stands .sound), (p .1, p .0 .here .stands .sound .weights-fit))
+
+same-length : tie.Need-same-length
+same-length c = search needs
+
+same-length-2 : tie.Need-same-length-2
+same-length-2 c = search needs
+
+same-length-3 : tie.Need-same-length-3
+same-length-3 c = search needs
+
+same-length-4 : tie.Need-same-length-4
+same-length-4 c = search needs
+
+same-length-5 : tie.Need-same-length-5
+same-length-5 c = search needs
+
+returns : tie.Need-returns
+returns c = (λ loads loaded. once-none _ _ _ (c .before .before .best-join .result) (c .before .before .before .before .before .before .before .before .before .before .before .before .before .before .before .before .before .before .before .pre .0 .some) (c .before .before .best-join .ensures .0) (c .if1 .taken), c .before .before .best-join .ensures .1)
+
+sub-join : tie.Need-sub-join
+sub-join c = omega (arith, c .before .before .before .before .before .before .before .before .before .before .before .best-join .ensures .0 .within (omega (arith, c .before .before .before .before .before .before .before .before .before .if1 .left)))
+
+sub-join-2 : tie.Need-sub-join-2
+sub-join-2 c = omega (arith, c .before .before .before .before .before .before .before .before .before .before .before .best-join .ensures .0 .within (omega (arith, c .before .before .before .before .before .before .before .before .before .if1 .left)))
+
+join-requires : tie.Need-join-requires
+join-requires c κs = let p = c .before .before .before .before .before .before .before .before .before .before .before .before .before .before .before .before .before .before .before .before .before .before .before .before .before .before .before .before .pre .0 in record { loads = p .loads; loaded = p .loaded; h = p .h; cs = p .c .stack; block = p .c .block; sound = p .here .stands .sound; pair = pair-ok _ _ (p .average-is) (p .here .stands .sound) (c .before .before .before .before .before .before .before .before .before .before .before .best-join .ensures .0) (omega (arith, c .before .before .before .before .before .before .before .before .before .if1 .left)) }
+
+short-requires : tie.Need-short-requires
+short-requires c κs = omega (arith, c .before .before .before .before .before .before .before .before .before .before .before .before .before .before .before .before .before .before .before .before .before .before .before .before .before .before .before .before .before .best-join .ensures .0 .within (omega (arith, c .before .before .before .before .before .before .before .before .before .before .before .before .before .before .before .before .before .before .before .before .before .before .before .before .before .before .before .if1 .left)), once-room (c .before .before .before .before .before .before .before .before .before .before .before .before .before .before .before .before .before .before .before .before .before .before .before .before .before .before .before .before .before .before .before .before .before .before .before .before .before .before .before .before .before .before .before .before .before .before .pre .0))
+
+short-requires-2 : tie.Need-short-requires-2
+short-requires-2 c κs = omega (arith, c .before .before .before .before .before .before .before .before .before .before .before .before .before .before .before .before .before .before .before .before .before .before .before .before .before .before .before .before .before .before .best-join .ensures .0 .within (omega (arith, c .before .before .before .before .before .before .before .before .before .before .before .before .before .before .before .before .before .before .before .before .before .before .before .before .before .before .before .before .if1 .left)), once-room (c .before .before .before .before .before .before .before .before .before .before .before .before .before .before .before .before .before .before .before .before .before .before .before .before .before .before .before .before .before .before .before .before .before .before .before .before .before .before .before .before .before .before .before .before .before .before .before .pre .0))
+
+push-requires : tie.Need-push-requires
+push-requires c κs = let p = c .before .before .before .before .before .before .before .before .before .before .before .before .before .before .before .before .before .before .before .before .before .before .before .before .before .before .before .before .before .before .before .before .before .before .before .before .before .before .before .before .before .before .before .before .before .before .before .before .pre .0 in (omega (arith, once-room p), p .here .stands .into-fit, p .here .stands .gone-fit)
+
+sub-t56 : tie.Need-sub-t56
+sub-t56 c = omega (arith, c .before .before .before .before .before .before .before .before .before .before .before .before .before .before .before .before .before .before .before .before .before .before .before .before .before .before .before .before .before .before .before .before .before .before .before .before .before .before .before .before .before .before .before .before .before .before .before .before .before .before .pre .0 .some)
+
+same-length-6 : tie.Need-same-length-6
+same-length-6 c = omega (arith, c .before .before .before .before .before .before .before .before .before .before .before .before .before .before .before .before .before .before .before .before .before .join .kept)
+
+same-length-7 : tie.Need-same-length-7
+same-length-7 c = omega (arith, c .before .before .before .before .before .before .before .before .before .before .before .before .before .before .before .before .before .before .before .before .before .join .kept)
+
+same-length-8 : tie.Need-same-length-8
+same-length-8 c = search needs
+
+same-length-9 : tie.Need-same-length-9
+same-length-9 c = search needs
+
+same-length-10 : tie.Need-same-length-10
+same-length-10 c = search needs
+
+same-length-11 : tie.Need-same-length-11
+same-length-11 c = search needs
+
+same-length-12 : tie.Need-same-length-12
+same-length-12 c = search needs
+
+same-length-13 : tie.Need-same-length-13
+same-length-13 c = search needs
+
+same-length-14 : tie.Need-same-length-14
+same-length-14 c = search needs
+
+returns-2 : tie.Need-returns-2
+returns-2 c = let p = c .before .before .before .before .before .before .before .before .before .before .before .before .before .before .before .before .before .before .before .before .before .before .before .before .before .before .before .before .before .before .before .before .before .before .before .before .before .before .before .before .before .before .before .before .before .before .before .before .before .before .pre .0 in (λ loads loaded. once-join _ _ _ _ (c .before .before .before .before .before .before .before .before .before .before .before .before .before .before .before .before .before .before .before .before .before .before .before .before .before .before .before .before .before .before .before .before .before .best-join .result) _ _ _ _ _ (p .some) (omega (arith, once-room p)) (c .before .before .before .before .before .before .before .before .before .before .before .before .before .before .before .before .before .before .before .before .before .before .before .before .before .before .before .before .before .before .before .before .before .best-join .ensures .0) (omega (arith, c .before .before .before .before .before .before .before .before .before .before .before .before .before .before .before .before .before .before .before .before .before .before .before .before .before .before .before .before .before .before .before .if1 .left)) refl (c .before .before .before .before .before .before .before .before .before .before .before .before .before .before .before .before .before .before .before .before .before .join .ensures loads loaded) (c .before .before .before .short .ensures) (c .before .before .short2 .ensures) (c .before .push .ensures), c .before .before .before .before .before .before .before .before .before .before .before .before .before .before .before .before .before .before .before .before .before .before .before .before .before .before .before .before .before .before .before .before .before .best-join .ensures .1)
+
+pub coarsen-once-spec : {M : Type 1} → statement M
+coarsen-once-spec =
+    tie.close
+    (tie.spec
+    best-join-requires
+    same-length
+    same-length-2
+    same-length-3
+    same-length-4
+    same-length-5
+    returns
+    sub-join
+    sub-join-2
+    join-requires
+    short-requires
+    short-requires-2
+    push-requires
+    sub-t56
+    same-length-6
+    same-length-7
+    same-length-8
+    same-length-9
+    same-length-10
+    same-length-11
+    same-length-12
+    same-length-13
+    same-length-14
+    returns-2)

@@ -1,0 +1,242 @@
+-- A's contractions on sound tables: what one of them and the loop of them ask and do, with the laws that the proofs of the code cite. Rests on
+-- Linked, on calls' Join and on guarantees' Calls and Fuel. Assumes nothing.
+use Prim.Native.Nat.{ℕ, suc, _+_, _*_, _-_, _<_, _≤_}
+use native.Mathlib.Omega.{arith}
+use mathlib.Core.Path.{_≡_, refl, sym, ap, ap₂, _∙_, subst}
+use mathlib.Core.Logic.{inl, inr}
+use mathlib.Core.Bool.{Bool, cond}
+use mathlib.Core.List.{List, _∷_}
+use borrow.Author.Tests.{lt-ltb, le-ltb}
+use lib.IntN.{pos}
+use lib.ListN.{length, length-set}
+use Rattle.laws.specs.Place.{place}
+use Rattle.model.specs.Catalogue.{Hypergraph, averageWeight}
+use Rattle.model.specs.Measure.{Contraction}
+use Rattle.model.specs.Search.{best, Coarse, joinBest, joinTurn, boardSize, coarsen}
+use Rattle.guarantees.specs.Climbs.{Joins}
+use Rattle.guarantees.specs.Calls.{can-join, board-join, Coarsest}
+use Rattle.guarantees.specs.Fuel.{coarsest-rests}
+use Rattle.guarantees.specs.StateBounds.{board-stack}
+use Rattle.calls.specs.Pairs.{stackOf, Pushed, pairs-push, pairs-length}
+use Rattle.calls.specs.Tables.{Tables, Sound, Keeps}
+use Rattle.calls.specs.Join.{Pair, Joined}
+use Rattle.choice.specs.Rating.{scoreOf}
+use Rattle.choice.specs.JoinPair.{BestJoin, joinOf, joinOf-none, joinOf-some}
+use Rattle.choice.specs.JoinLink.{join-is, join-may}
+use Rattle.choice.specs.declared.join.Join.{Join}
+use Rattle.search.specs.Keeping.{keeps-none, keeps-more}
+use Rattle.cycle.specs.Linked.{linked, block-at, block-from}
+
+-- tables and the stack's arrays are those of the state c
+pub record Stands (h : Hypergraph) (c : Coarse) (T : Tables) (into gone : List ℕ) (len : ℕ) : Type 0 where
+  pub sound : Sound h (c .stack) (c .block) T
+  pub stack-is : c .stack ≡ stackOf into gone len
+  pub into-fit : length into ≡ 1024
+  pub gone-fit : length gone ≡ 1024
+
+-- the code's variables beside the tables: the stack, and how many vertices have still to leave the board, 0 too where no pair is left
+pub record Locals : Type 0 where
+  pub into : List ℕ
+  pub gone : List ℕ
+  pub len : ℕ
+  pub left : ℕ
+
+abbrev pub locals : List ℕ → List ℕ → ℕ → ℕ → Locals
+locals into gone len left = record { into = into; gone = gone; len = len; left = left }
+
+-- tables and variables are those of the state c
+pub record Here (h : Hypergraph) (c : Coarse) (T : Tables) (L : Locals) : Type 0 where
+  pub stands : Stands h c T (L .into) (L .gone) (L .len)
+  pub goes : 1 ≤ L .left → L .left + 2 * T .k ≡ boardSize h (c .stack)
+  pub rests : L .left ≡ 0 → Coarsest h c
+
+-- what is left to contract from c leads to the same end as from another state, which tables and variables now are. Each contraction takes a
+-- vertex off the board, so that as many turns as there are vertices on it are enough
+pub record Onward (h : Hypergraph) (c : Coarse) (T : Tables) (L : Locals) : Type 0 where
+  pub there : Coarse
+  pub here : Here h there T L
+  pub same : coarsen h (boardSize h (c .stack)) c ≡ coarsen h (boardSize h (there .stack)) there
+
+-- ---- one contraction
+-- what `coarsen_once` asks. It has no use for the blocks' weights and the loaded sizes: whatever these are
+pub record OnceOk (T : List ℕ → List ℕ → Tables) (L : Locals) (average : ℕ) : Type 0 where
+  pub loads : List ℕ
+  pub loaded : List ℕ
+  pub h : Hypergraph
+  pub c : Coarse
+  pub average-is : average ≡ averageWeight h
+  pub here : Here h c (T loads loaded) L
+  pub some : 1 ≤ L .left
+
+-- what it does
+pub record Once (T : Tables) (L : Locals) (average : ℕ) (T′ : Tables) (L′ : Locals) : Type 0 where
+  pub is : (h : Hypergraph) (c : Coarse) → average ≡ averageWeight h → Here h c T L → Onward h c T′ L′
+  pub less : L′ .left < L .left
+  pub keeps : (h : Hypergraph) (c : Coarse) → Here h c T L → Keeps T T′
+
+-- the pair that the tables give
+abbrev pub Chosen : Tables → ℕ → Join → Type 0
+Chosen T average r = BestJoin (scoreOf (T .bits) (T .pins) (T .firsts) (T .sizes) (T .netWeights) (T .blocks) (T .weights) (T .m) average) (T .n) r
+
+chosen-is : {h : Hypergraph} {cs : List Contraction} {block : ℕ → ℕ} {T : Tables} (average : ℕ) (r : Join) → average ≡ averageWeight h → Sound h cs block T → Chosen T average r
+    → joinBest h cs block ≡ joinOf r
+chosen-is {h} {cs} {block} {T} average r e s b =
+    sym (join-is h cs block (T .bits) (T .pins) (T .firsts) (T .sizes) (T .netWeights) (T .blocks) (T .weights) (T .m) (T .n) average (linked s average e)) ∙ sym (b .same)
+
+-- there is none
+pub once-none : (T : Tables) (L : Locals) (average : ℕ) (r : Join) → 1 ≤ L .left → Chosen T average r → r .rating ≡ 0 → Once T L average T (locals (L .into) (L .gone) (L .len) 0)
+once-none T L average r some b z = record {
+  is = λ h c e H. record {
+    there = c;
+    here = record {
+      stands = H .stands;
+      goes = λ l. absurd (omega arith);
+      rests = λ _. inr (chosen-is average r e (H .stands .sound) b ∙ joinOf-none r z);
+    };
+    same = refl;
+  };
+  less = some;
+  keeps = λ h c H. keeps-none T;
+}
+
+-- there is one
+module _ {h : Hypergraph} {cs : List Contraction} {block : ℕ → ℕ} {T : Tables} (average : ℕ) (r : Join) (e : average ≡ averageWeight h) (s : Sound h cs block T) (b : Chosen T average r) (l : 1 ≤ r .rating) where
+  may : Joins cs (record { into = r .into; gone = r .gone }) × (block (r .into) ≡ block (r .gone))
+  may = can-join h cs block (r .into) (r .gone) (b .within l .0)
+      (join-may h cs block (T .bits) (T .pins) (T .firsts) (T .sizes) (T .netWeights) (T .blocks) (T .weights) (T .m) (T .n) average (linked s average e) r b l)
+
+  pub pair-ok : Pair (T .blocks) (T .n) (r .into - 1) (r .gone - 1)
+  pair-ok =
+      let i = b .within l in
+      let u = block-at s (r .into) (i .0) (i .1) in
+      let v = block-at s (r .gone) (i .2) (i .3) in
+      record {
+        u-in = omega (arith, i);
+        v-in = omega (arith, i);
+        two = λ q. may .0 .two (omega (arith, i));
+        on = omega (arith, v, block-from s (r .gone) (i .2) (i .3) (may .0 .gone-on));
+        together = u ∙ may .1 ∙ sym v;
+      }
+
+  -- the stack has room
+  pub fewer : boardSize h (record { into = r .into; gone = r .gone } ∷ cs) + 1 ≡ boardSize h cs
+  fewer = let i = b .within l in board-join h cs (record { into = r .into; gone = r .gone }) (may .0) (i .2) (omega (arith, i, s .follows .says .all-vertices))
+
+  joined-sound : {T′ : Tables} → Joined T T′ (r .into - 1) (r .gone - 1) → Sound h (record { into = r .into; gone = r .gone } ∷ cs) (place block (r .gone) 0) T′
+  joined-sound {T′} j =
+      let i = b .within l in
+      let u : r .into - 1 + 1 ≡ r .into = omega (arith, i) in
+      let v : r .gone - 1 + 1 ≡ r .gone = omega (arith, i) in
+      subst (λ (y : ℕ). Sound h (record { into = r .into; gone = y } ∷ cs) (place block y 0) T′) v
+      (subst (λ (x : ℕ). Sound h (record { into = x; gone = r .gone - 1 + 1 } ∷ cs) (place block (r .gone - 1 + 1) 0) T′) u (j .sound h cs block s))
+
+coarsen-step : (h : Hypergraph) (c : Coarse) (u v f : ℕ) (q : ℕ) → 2 * h .blocks < boardSize h (c .stack) → joinBest h (c .stack) (c .block) ≡ best u v (pos q)
+    → coarsen h (suc f) c ≡ coarsen h f (record { stack = record { into = u; gone = v } ∷ c .stack; block = place (c .block) v 0 })
+unfolding coarsen joinTurn
+coarsen-step h c u v f q l e =
+    ap (λ (t : Bool). cond t (joinTurn h c (coarsen h f) (joinBest h (c .stack) (c .block))) c) (lt-ltb (2 * h .blocks) (boardSize h (c .stack)) l)
+    ∙ ap (joinTurn h c (coarsen h f)) e
+
+pub once-join : (T T′ : Tables) (L : Locals) (average : ℕ) (r : Join) (into gone : List ℕ) (len x y : ℕ) → 1 ≤ L .left → L .len < 1024 → Chosen T average r → 1 ≤ r .rating
+    → T′ .k ≡ T .k → Joined T T′ (r .into - 1) (r .gone - 1) → x ≡ r .into → y ≡ r .gone → Pushed (L .into) (L .gone) (L .len) x y into gone len
+    → Once T L average T′ (locals into gone len (L .left - 1))
+once-join T T′ L average r into gone len x y some room b l qk j qx qy p = record {
+  is = λ h c e H.
+      let s = H .stands .sound in
+      let next : Coarse = record { stack = record { into = r .into; gone = r .gone } ∷ c .stack; block = place (c .block) (r .gone) 0 } in
+      let less : boardSize h (next .stack) + 1 ≡ boardSize h (c .stack) = fewer average r e s b l in
+      let up : boardSize h (c .stack) ≡ suc (boardSize h (next .stack)) = omega arith in
+      let more : L .left + 2 * T .k ≡ boardSize h (c .stack) = H .goes some in
+      let k-is : T .k ≡ h .blocks = s .follows .says .all-blocks in
+      record {
+        there = next;
+        here = record {
+          stands = record {
+            sound = joined-sound average r e s b l j;
+            stack-is =
+                ap₂ (λ (u v : ℕ). record { into = u; gone = v } ∷ c .stack) (sym qx) (sym qy)
+                ∙ ap (λ (cs : List Contraction). record { into = x; gone = y } ∷ cs) (H .stands .stack-is)
+                ∙ sym (pairs-push (λ u v. record { into = u; gone = v }) (omega (arith, H .stands .into-fit)) (omega (arith, H .stands .gone-fit)) p);
+            into-fit = ap length (p .xs-are) ∙ length-set (L .into) (L .len) x ∙ H .stands .into-fit;
+            gone-fit = ap length (p .ys-are) ∙ length-set (L .gone) (L .len) y ∙ H .stands .gone-fit;
+          };
+          goes = λ z. omega (arith, qk);
+          rests = λ z. inl (le-ltb (2 * h .blocks) (boardSize h (next .stack)) (omega arith));
+        };
+        same = ap (λ (f : ℕ). coarsen h f c) up ∙ coarsen-step h c (r .into) (r .gone) (boardSize h (next .stack)) (r .rating) (omega arith) (chosen-is average r e s b ∙ joinOf-some r l);
+      };
+  less = omega arith;
+  keeps = λ h c H. j .keeps h (c .stack) (c .block) (H .stands .sound);
+}
+
+-- how long the stack is
+pub len-is : {h : Hypergraph} {c : Coarse} {T : Tables} {into gone : List ℕ} {len : ℕ} → Stands h c T into gone len → boardSize h (c .stack) + len ≡ T .n
+len-is {h} {c} {into = into} {gone = gone} {len = len} st = omega (
+  arith,
+  board-stack h (c .stack) (st .sound .follows .says .sound) (st .sound .inside),
+  st .sound .follows .says .all-vertices,
+  ap length (st .stack-is),
+  pairs-length {A = Contraction} (λ u v. record { into = u; gone = v }) into gone len,
+)
+
+pub once-room : {T : List ℕ → List ℕ → Tables} {L : Locals} {average : ℕ} (o : OnceOk T L average) → (L .len < T (o .loads) (o .loaded) .n) × (T (o .loads) (o .loaded) .n ≤ 1024)
+once-room o = (omega (arith, o .here .goes (o .some), len-is (o .here .stands), o .some), o .here .stands .sound .follows .room .few-vertices)
+
+-- ---- all of them
+-- what `coarsen` asks
+pub record CoarsenOk (T : List ℕ → List ℕ → Tables) (into gone : List ℕ) (len average : ℕ) : Type 0 where
+  pub loads : List ℕ
+  pub loaded : List ℕ
+  pub h : Hypergraph
+  pub c : Coarse
+  pub average-is : average ≡ averageWeight h
+  pub stands : Stands h c (T loads loaded) into gone len
+
+-- what it does
+pub record Coarsens (T : Tables) (into gone : List ℕ) (len average : ℕ) (T′ : Tables) (into′ gone′ : List ℕ) (len′ : ℕ) : Type 0 where
+  pub is : (h : Hypergraph) (c : Coarse) → average ≡ averageWeight h → Stands h c T into gone len → Stands h (coarsen h (boardSize h (c .stack)) c) T′ into′ gone′ len′
+  pub keeps : (h : Hypergraph) (c : Coarse) → average ≡ averageWeight h → Stands h c T into gone len → Keeps T T′
+
+-- after some of them
+pub record Going (T : Tables) (into gone : List ℕ) (len average : ℕ) (T′ : Tables) (L : Locals) : Type 0 where
+  pub is : (h : Hypergraph) (c : Coarse) → average ≡ averageWeight h → Stands h c T into gone len → Onward h c T′ L
+  pub keeps : (h : Hypergraph) (c : Coarse) → average ≡ averageWeight h → Stands h c T into gone len → Keeps T T′
+
+pub going-none : (T : Tables) (into gone : List ℕ) (len average left : ℕ) → left ≡ T .n - len - 2 * T .k → Going T into gone len average T (locals into gone len left)
+going-none T into gone len average left q = record {
+  is = λ h c e st. record {
+    there = c;
+    here = record {
+      stands = st;
+      goes = λ l. omega (arith, len-is st);
+      rests = λ z. inl (le-ltb (2 * h .blocks) (boardSize h (c .stack)) (omega (arith, len-is st, st .sound .follows .says .all-blocks)));
+    };
+    same = refl;
+  };
+  keeps = λ h c e st. keeps-none T;
+}
+
+pub going-more : {T T′ T″ : Tables} {into gone : List ℕ} {len average : ℕ} {L L′ : Locals} → T′ .n ≡ T .n → T′ .m ≡ T .m → T′ .k ≡ T .k → T′ .firsts ≡ T .firsts → T′ .loaded ≡ T .loaded
+    → Going T into gone len average T′ L → Once T′ L average T″ L′ → Going T into gone len average T″ L′
+going-more qn qm qk qf ql g o = record {
+  is = λ h c e st.
+      let a = g .is h c e st in
+      let b = o .is h (a .there) e (a .here) in
+      record { there = b .there; here = b .here; same = a .same ∙ b .same };
+  keeps = λ h c e st. keeps-more qn qm qk qf ql (g .keeps h c e st) (o .keeps h (g .is h c e st .there) (g .is h c e st .here));
+}
+
+pub once-asks : {T T′ : List ℕ → List ℕ → Tables} {into gone : List ℕ} {len average : ℕ} {L : Locals} → CoarsenOk T into gone len average
+    → ((loads loaded : List ℕ) → Going (T loads loaded) into gone len average (T′ loads loaded) L) → 1 ≤ L .left → OnceOk T′ L average
+once-asks ok g l =
+    let a = g (ok .loads) (ok .loaded) .is (ok .h) (ok .c) (ok .average-is) (ok .stands) in
+    record { loads = ok .loads; loaded = ok .loaded; h = ok .h; c = a .there; average-is = ok .average-is; here = a .here; some = l }
+
+pub going-done : {T T′ : Tables} {into gone : List ℕ} {len average : ℕ} {L : Locals} → Going T into gone len average T′ L → L .left ≡ 0 → Coarsens T into gone len average T′ (L .into) (L .gone) (L .len)
+going-done {T′ = T′} {L = L} g z = record {
+  is = λ h c e st.
+      let a = g .is h c e st in
+      let b : coarsen h (boardSize h (c .stack)) c ≡ a .there = a .same ∙ coarsest-rests h (a .there) (a .here .rests z) (boardSize h (a .there .stack)) in
+      subst (λ (x : Coarse). Stands h x T′ (L .into) (L .gone) (L .len)) (sym b) (a .here .stands);
+  keeps = g .keeps;
+}

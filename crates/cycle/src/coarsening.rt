@@ -1,0 +1,160 @@
+// A's contractions: while more than 2 × k vertices are on the board, the best pair is contracted.
+ghost use Prim.Native.Nat.{ℕ, _-_, _*_, _<_, _≤_};
+ghost use mathlib.Core.Path.{_≡_};
+ghost use mathlib.Core.List.{List};
+ghost use Rattle.calls.specs.Tables.{tables};
+ghost use Rattle.choice.specs.Rating.{Blank};
+ghost use Rattle.cycle.specs.Coarsen.{locals, OnceOk, Once, CoarsenOk, Coarsens};
+use crate::numbers::short;
+use calls::joins::join;
+use calls::pairs::Stack;
+use choice::join::best_join;
+
+// The stack, and how many vertices have still to leave the board: 0 too where no pair is left.
+pub struct Round {
+    pub stack: Stack,
+    pub left: usize,
+}
+
+// How many vertices more than 2 × k are on the board, with `len` contractions standing.
+fn excess(n: usize, k: usize, len: usize) -> usize
+    requires { ⌜ (len ≤ n) × (k ≤ 16) ⌝ }
+    ensures { λ r. ⌜ r ≡ n - len - 2 * k ⌝ }
+{
+    let board = n - len;
+    let low = 2 * k;
+    if board < low {
+        return 0;
+    }
+    board - low
+}
+
+// Contracts the best pair, if there is one. `acc` is all 0 before and after.
+fn coarsen_once(
+    acc: &mut [u64; 1025],
+    counts: &mut [u16],
+    visited: &mut [u16],
+    gains: &mut [i32],
+    pins: &mut [u16],
+    sizes: &mut [u16],
+    bits: &mut [u64],
+    blocks: &mut [u16],
+    weights: &mut [u32],
+    aboves: &mut [u16],
+    netweights: &[u16],
+    firsts: &[u16],
+    n: usize,
+    m: usize,
+    k: usize,
+    average: u64,
+    total: u32,
+    s: Round,
+) -> Round
+    requires { ⌜ OnceOk (λ loads loaded. tables (now counts) (now visited) (now gains) (now pins) (now sizes) (now bits) (now blocks) (now weights) (now aboves) loads (now netweights) (now firsts) loaded n m k total) (locals (s .stack .into) (s .stack .gone) (s .stack .len) (s .left)) average ⌝ }
+    requires { ⌜ Blank (now acc) ⌝ }
+    ensures { λ r. ⌜ ((loads loaded : List ℕ) → Once (tables (now (counts .entry)) (now (visited .entry)) (now (gains .entry)) (now (pins .entry)) (now (sizes .entry)) (now (bits .entry)) (now (blocks .entry)) (now (weights .entry)) (now (aboves .entry)) loads (now (netweights .entry)) (now (firsts .entry)) loaded n m k total) (locals (s .stack .into) (s .stack .gone) (s .stack .len) (s .left)) average
+        (tables (now (counts .exit)) (now (visited .exit)) (now (gains .exit)) (now (pins .exit)) (now (sizes .exit)) (now (bits .exit)) (now (blocks .exit)) (now (weights .exit)) (now (aboves .exit)) loads (now (netweights .exit)) (now (firsts .exit)) loaded n m k total) (locals (r .stack .into) (r .stack .gone) (r .stack .len) (r .left))) ⌝ }
+    ensures { λ r. ⌜ Blank (now (acc .exit)) ⌝ }
+{
+    let pair = best_join(
+        acc,
+        bits,
+        pins,
+        firsts,
+        sizes,
+        netweights,
+        blocks,
+        weights,
+        average,
+        m,
+        n,
+    );
+    let before = s.stack;
+    let rating = pair.rating;
+    if rating == 0 {
+        return Round {
+            stack: before,
+            left: 0,
+        };
+    }
+    let u = pair.into;
+    let v = pair.gone;
+    join(
+        counts,
+        visited,
+        gains,
+        pins,
+        sizes,
+        bits,
+        blocks,
+        weights,
+        aboves,
+        netweights,
+        firsts,
+        n,
+        m,
+        k,
+        total,
+        u - 1,
+        v - 1,
+    );
+    let stack = before.push(short(u), short(v));
+    Round {
+        stack: stack,
+        left: s.left - 1,
+    }
+}
+
+// Contracts pairs until 2 × k vertices are on the board or no pair is left.
+pub fn coarsen(
+    counts: &mut [u16],
+    visited: &mut [u16],
+    gains: &mut [i32],
+    pins: &mut [u16],
+    sizes: &mut [u16],
+    bits: &mut [u64],
+    blocks: &mut [u16],
+    weights: &mut [u32],
+    aboves: &mut [u16],
+    netweights: &[u16],
+    firsts: &[u16],
+    n: usize,
+    m: usize,
+    k: usize,
+    average: u64,
+    total: u32,
+    stack: Stack,
+) -> Stack
+    requires { ⌜ CoarsenOk (λ loads loaded. tables (now counts) (now visited) (now gains) (now pins) (now sizes) (now bits) (now blocks) (now weights) (now aboves) loads (now netweights) (now firsts) loaded n m k total) (stack .into) (stack .gone) (stack .len) average ⌝ }
+    ensures { λ r. ⌜ ((loads loaded : List ℕ) → Coarsens (tables (now (counts .entry)) (now (visited .entry)) (now (gains .entry)) (now (pins .entry)) (now (sizes .entry)) (now (bits .entry)) (now (blocks .entry)) (now (weights .entry)) (now (aboves .entry)) loads (now (netweights .entry)) (now (firsts .entry)) loaded n m k total) (stack .into) (stack .gone) (stack .len) average
+        (tables (now (counts .exit)) (now (visited .exit)) (now (gains .exit)) (now (pins .exit)) (now (sizes .exit)) (now (bits .exit)) (now (blocks .exit)) (now (weights .exit)) (now (aboves .exit)) loads (now (netweights .exit)) (now (firsts .exit)) loaded n m k total) (r .into) (r .gone) (r .len)) ⌝ }
+{
+    let mut acc = [0u64; 1025];
+    let mut s = Round {
+        stack: stack,
+        left: excess(n, k, stack.len),
+    };
+    while 0 < s.left {
+        s = coarsen_once(
+            &mut acc,
+            counts,
+            visited,
+            gains,
+            pins,
+            sizes,
+            bits,
+            blocks,
+            weights,
+            aboves,
+            netweights,
+            firsts,
+            n,
+            m,
+            k,
+            average,
+            total,
+            s,
+        );
+    }
+    s.stack
+}

@@ -1,0 +1,162 @@
+// A's way back: contractions are undone, the last one first, each with a walk from the parted pair.
+ghost use Prim.Native.Nat.{_+_, _-_, _<_, _≤_};
+ghost use mathlib.Core.Path.{_≡_};
+ghost use Rattle.calls.specs.Tables.{tables};
+ghost use Rattle.cycle.specs.Refine.{PartOk, Parts, RefineOk, Refines};
+use crate::numbers::counted;
+use crate::numbers::place_of;
+use calls::joins::split;
+use calls::pairs::Stack;
+use search::walks::Walked;
+use search::walks::walk;
+
+// The moves that the walks made and kept, all together, and the metric.
+pub struct Fine {
+    pub tried: u32,
+    pub kept: u32,
+    pub total: u32,
+}
+
+// The sums with one more walk.
+fn add_walk(f: Fine, w: Walked) -> Fine
+    requires { ⌜ (w .tried ≤ 1024) × (w .kept ≤ 1024) × (f .tried ≤ 1048576) × (f .kept ≤ 1048576) ⌝ }
+    ensures { λ r. ⌜ (r .tried ≡ f .tried + w .tried) × (r .kept ≡ f .kept + w .kept) × (r .total ≡ w .total) ⌝ }
+{
+    Fine {
+        tried: f.tried + counted(w.tried),
+        kept: f.kept + counted(w.kept),
+        total: w.total,
+    }
+}
+
+// Splits `v` from `u`, into which it was contracted last, and walks from the two.
+fn refine_once(
+    counts: &mut [u16],
+    visited: &mut [u16],
+    gains: &mut [i32],
+    pins: &mut [u16],
+    sizes: &mut [u16],
+    bits: &mut [u64],
+    blocks: &mut [u16],
+    weights: &mut [u32],
+    aboves: &mut [u16],
+    loads: &mut [u64; 16],
+    netweights: &[u16],
+    firsts: &[u16],
+    loaded: &[u16],
+    n: usize,
+    m: usize,
+    k: usize,
+    capacity: u64,
+    total: u32,
+    u: usize,
+    v: usize,
+) -> Walked
+    requires { ⌜ PartOk (tables (now counts) (now visited) (now gains) (now pins) (now sizes) (now bits) (now blocks) (now weights) (now aboves) (now loads) (now netweights) (now firsts) (now loaded) n m k total) capacity u v ⌝ }
+    ensures { λ r. ⌜ Parts (tables (now (counts .entry)) (now (visited .entry)) (now (gains .entry)) (now (pins .entry)) (now (sizes .entry)) (now (bits .entry)) (now (blocks .entry)) (now (weights .entry)) (now (aboves .entry)) (now (loads .entry)) (now (netweights .entry)) (now (firsts .entry)) (now (loaded .entry)) n m k total) capacity u v
+        (tables (now (counts .exit)) (now (visited .exit)) (now (gains .exit)) (now (pins .exit)) (now (sizes .exit)) (now (bits .exit)) (now (blocks .exit)) (now (weights .exit)) (now (aboves .exit)) (now (loads .exit)) (now (netweights .exit)) (now (firsts .exit)) (now (loaded .exit)) n m k (r .total)) (r .tried) (r .kept) ⌝ }
+{
+    split(
+        counts,
+        visited,
+        gains,
+        pins,
+        sizes,
+        bits,
+        blocks,
+        weights,
+        aboves,
+        netweights,
+        firsts,
+        loaded,
+        n,
+        m,
+        k,
+        total,
+        u,
+        v,
+    );
+    walk(
+        counts,
+        visited,
+        gains,
+        blocks,
+        loads,
+        pins,
+        sizes,
+        bits,
+        weights,
+        netweights,
+        firsts,
+        n,
+        m,
+        k,
+        capacity,
+        total,
+        u,
+        v,
+    )
+}
+
+// Undoes all contractions of the stack.
+pub fn refine(
+    counts: &mut [u16],
+    visited: &mut [u16],
+    gains: &mut [i32],
+    pins: &mut [u16],
+    sizes: &mut [u16],
+    bits: &mut [u64],
+    blocks: &mut [u16],
+    weights: &mut [u32],
+    aboves: &mut [u16],
+    loads: &mut [u64; 16],
+    netweights: &[u16],
+    firsts: &[u16],
+    loaded: &[u16],
+    n: usize,
+    m: usize,
+    k: usize,
+    capacity: u64,
+    total: u32,
+    stack: Stack,
+) -> Fine
+    requires { ⌜ RefineOk (tables (now counts) (now visited) (now gains) (now pins) (now sizes) (now bits) (now blocks) (now weights) (now aboves) (now loads) (now netweights) (now firsts) (now loaded) n m k total) capacity (stack .into) (stack .gone) (stack .len) ⌝ }
+    ensures { λ r. ⌜ Refines (tables (now (counts .entry)) (now (visited .entry)) (now (gains .entry)) (now (pins .entry)) (now (sizes .entry)) (now (bits .entry)) (now (blocks .entry)) (now (weights .entry)) (now (aboves .entry)) (now (loads .entry)) (now (netweights .entry)) (now (firsts .entry)) (now (loaded .entry)) n m k total) capacity (stack .into) (stack .gone) (stack .len)
+        (tables (now (counts .exit)) (now (visited .exit)) (now (gains .exit)) (now (pins .exit)) (now (sizes .exit)) (now (bits .exit)) (now (blocks .exit)) (now (weights .exit)) (now (aboves .exit)) (now (loads .exit)) (now (netweights .exit)) (now (firsts .exit)) (now (loaded .exit)) n m k (r .total)) (r .tried) (r .kept) ⌝ }
+{
+    let mut f = Fine {
+        tried: 0,
+        kept: 0,
+        total: total,
+    };
+    let mut i = stack.len;
+    while 0 < i {
+        i -= 1;
+        let u = place_of(stack.into[i]);
+        let v = place_of(stack.gone[i]);
+        let w = refine_once(
+            counts,
+            visited,
+            gains,
+            pins,
+            sizes,
+            bits,
+            blocks,
+            weights,
+            aboves,
+            loads,
+            netweights,
+            firsts,
+            loaded,
+            n,
+            m,
+            k,
+            capacity,
+            f.total,
+            u,
+            v,
+        );
+        f = add_walk(f, w);
+    }
+    f
+}

@@ -1,0 +1,173 @@
+// A as a whole: contractions, the way back, then P.
+ghost use Rattle.calls.specs.Tables.{tables};
+ghost use Rattle.cycle.specs.Whole.{CycleOk, Levels, Does};
+use crate::coarsening::coarsen;
+use crate::numbers::counted;
+use crate::refining::refine;
+use calls::pairs::Stack;
+use search::polishing::polish;
+
+// How many contractions were made, the moves that the walks made and kept, all together, and the metric.
+struct Descent {
+    joins: u32,
+    tried: u32,
+    kept: u32,
+    total: u32,
+}
+
+// What A answers: the same, with P's moves, and the metric after them.
+pub struct Cycled {
+    pub joins: u32,
+    pub tried: u32,
+    pub kept: u32,
+    pub moves: u32,
+    pub total: u32,
+}
+
+// Down to the coarsest level and back. `average` is ⌈W/k⌉.
+fn descend(
+    counts: &mut [u16],
+    visited: &mut [u16],
+    gains: &mut [i32],
+    pins: &mut [u16],
+    sizes: &mut [u16],
+    bits: &mut [u64],
+    blocks: &mut [u16],
+    weights: &mut [u32],
+    aboves: &mut [u16],
+    loads: &mut [u64; 16],
+    netweights: &[u16],
+    firsts: &[u16],
+    loaded: &[u16],
+    n: usize,
+    m: usize,
+    k: usize,
+    average: u64,
+    capacity: u64,
+    total: u32,
+) -> Descent
+    requires { ⌜ CycleOk (tables (now counts) (now visited) (now gains) (now pins) (now sizes) (now bits) (now blocks) (now weights) (now aboves) (now loads) (now netweights) (now firsts) (now loaded) n m k total) average capacity ⌝ }
+    ensures { λ r. ⌜ Levels (tables (now (counts .entry)) (now (visited .entry)) (now (gains .entry)) (now (pins .entry)) (now (sizes .entry)) (now (bits .entry)) (now (blocks .entry)) (now (weights .entry)) (now (aboves .entry)) (now (loads .entry)) (now (netweights .entry)) (now (firsts .entry)) (now (loaded .entry)) n m k total) average capacity
+        (tables (now (counts .exit)) (now (visited .exit)) (now (gains .exit)) (now (pins .exit)) (now (sizes .exit)) (now (bits .exit)) (now (blocks .exit)) (now (weights .exit)) (now (aboves .exit)) (now (loads .exit)) (now (netweights .exit)) (now (firsts .exit)) (now (loaded .exit)) n m k (r .total)) (r .joins) (r .tried) (r .kept) ⌝ }
+{
+    let stack = coarsen(
+        counts,
+        visited,
+        gains,
+        pins,
+        sizes,
+        bits,
+        blocks,
+        weights,
+        aboves,
+        netweights,
+        firsts,
+        n,
+        m,
+        k,
+        average,
+        total,
+        Stack::new(),
+    );
+    let f = refine(
+        counts,
+        visited,
+        gains,
+        pins,
+        sizes,
+        bits,
+        blocks,
+        weights,
+        aboves,
+        loads,
+        netweights,
+        firsts,
+        loaded,
+        n,
+        m,
+        k,
+        capacity,
+        total,
+        stack,
+    );
+    Descent {
+        joins: counted(stack.len),
+        tried: f.tried,
+        kept: f.kept,
+        total: f.total,
+    }
+}
+
+// A.
+pub fn run(
+    counts: &mut [u16],
+    visited: &mut [u16],
+    gains: &mut [i32],
+    pins: &mut [u16],
+    sizes: &mut [u16],
+    bits: &mut [u64],
+    blocks: &mut [u16],
+    weights: &mut [u32],
+    aboves: &mut [u16],
+    loads: &mut [u64; 16],
+    netweights: &[u16],
+    firsts: &[u16],
+    loaded: &[u16],
+    n: usize,
+    m: usize,
+    k: usize,
+    average: u64,
+    capacity: u64,
+    total: u32,
+) -> Cycled
+    requires { ⌜ CycleOk (tables (now counts) (now visited) (now gains) (now pins) (now sizes) (now bits) (now blocks) (now weights) (now aboves) (now loads) (now netweights) (now firsts) (now loaded) n m k total) average capacity ⌝ }
+    ensures { λ r. ⌜ Does (tables (now (counts .entry)) (now (visited .entry)) (now (gains .entry)) (now (pins .entry)) (now (sizes .entry)) (now (bits .entry)) (now (blocks .entry)) (now (weights .entry)) (now (aboves .entry)) (now (loads .entry)) (now (netweights .entry)) (now (firsts .entry)) (now (loaded .entry)) n m k total) average capacity
+        (tables (now (counts .exit)) (now (visited .exit)) (now (gains .exit)) (now (pins .exit)) (now (sizes .exit)) (now (bits .exit)) (now (blocks .exit)) (now (weights .exit)) (now (aboves .exit)) (now (loads .exit)) (now (netweights .exit)) (now (firsts .exit)) (now (loaded .exit)) n m k (r .total)) (r .joins) (r .tried) (r .kept) (r .moves) ⌝ }
+{
+    let d = descend(
+        counts,
+        visited,
+        gains,
+        pins,
+        sizes,
+        bits,
+        blocks,
+        weights,
+        aboves,
+        loads,
+        netweights,
+        firsts,
+        loaded,
+        n,
+        m,
+        k,
+        average,
+        capacity,
+        total,
+    );
+    let p = polish(
+        counts,
+        visited,
+        gains,
+        blocks,
+        loads,
+        pins,
+        sizes,
+        bits,
+        weights,
+        netweights,
+        firsts,
+        n,
+        m,
+        k,
+        capacity,
+        d.total,
+    );
+    Cycled {
+        joins: d.joins,
+        tried: d.tried,
+        kept: d.kept,
+        moves: p.moves,
+        total: p.total,
+    }
+}
