@@ -91,7 +91,7 @@ fn put_lots(
 }
 
 // How many bits of a connectivity set are set.
-fn set_bits(mask: u16) -> u32
+pub fn set_bits(mask: u16) -> u32
     ensures { λ r. ⌜ r ≡ sum 16 (bit mask) ⌝ }
 {
     u16::count_ones(mask)
