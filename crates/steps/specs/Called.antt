@@ -9,7 +9,7 @@ use Rattle.model.specs.Measure.{Contraction}
 use Rattle.model.specs.Machine.{Call, Answer, State, Step, settle}
 use Rattle.model.specs.Search.{call}
 use Rattle.guarantees.specs.StateBounds.{stack-le}
-use Rattle.levels.specs.World.{kept-none}
+use Rattle.connectivity.specs.Set.{kept-none}
 use Rattle.calls.specs.Pairs.{pairs-length, Pushed}
 use Rattle.calls.specs.Tables.{Tables, Keeps}
 use Rattle.calls.specs.Move.{past-same}

@@ -30,7 +30,7 @@ above-none (suc x) n = omega arith
 pub emptied : {J J′ : Two} → Cleared J J′ → journalOf (J′ .xs) (J′ .ys) (J′ .len) ≡ []
 emptied {J′ = J′} c = ap (journalOf (J′ .xs) (J′ .ys)) (c .len-is) ∙ pairs-none (λ v b. record { vertex = v; from = b }) (J′ .xs) (J′ .ys)
 
-cleared-whole : {J J′ : Two} → Cleared J J′ → Whole J → Whole J′
+pub cleared-whole : {J J′ : Two} → Cleared J J′ → Whole J → Whole J′
 cleared-whole c w = record { xs-whole = ap length (c .xs-same) ∙ w .xs-whole; ys-whole = ap length (c .ys-same) ∙ w .ys-whole }
 
 pub popped-whole : {S S′ : Two} → Popped S S′ → Whole S → Whole S′
