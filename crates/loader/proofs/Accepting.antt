@@ -44,7 +44,7 @@ refused limits file r q n w₀ d₀ a pp pc f₀ c₀ lp₀ w d nw f c lp calls 
 -- ---- weights are small
 pub small-average : (limits : Limits) (h : Hypergraph) → Good limits h → vertices h ≤ 1024 → (k : ℕ) → averageOf k (h .weights) ≤ 67107855 + k
 small-average limits h g l k =
-    let s = sumOver-le (h .weights) (λ w. (1 ≤ w) × (w ≤ 65535)) (λ w. w) 65535 (g .bales-in) (λ w r. r .1) in
+    let s = sumOver-le (h .weights) (λ w. (1 ≤ w) × (w ≤ 65535)) (λ w. w) 65535 (g .weights-in) (λ w r. r .1) in
     omega (arith, div-le-self (sumOver (h .weights) (λ w. w) + (k - 1)) k)
 
 module _ (limits : Limits) (file : List ℕ) (l b k t m n : ℕ) (w₀ d₀ a₀ lp₀ pp₀ f₀ c₀ pc₀ w d a lp pp f c pc nw calls : List ℕ) where
