@@ -11,7 +11,7 @@ use lib.ListN.{getD}
 use Rattle.laws.specs.Choice.{cond-zero, and-left, and-right}
 use Rattle.model.specs.Catalogue.{Hypergraph, capacity}
 use Rattle.model.specs.Machine.{callW, callP, saysW, saysP, State, settle}
-use Rattle.model.specs.Search.{walk, refusesW, doesW, polish, doesP, call}
+use Rattle.model.specs.Search.{walk, refusesW, doesW, doesP, call}
 use Rattle.guarantees.specs.SearchBounds.{tried-le, walk-counts}
 use Rattle.calls.specs.Tables.{Tables}
 use Rattle.search.specs.Steps.{WalkOk, Ended, Walks}
