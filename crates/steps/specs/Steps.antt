@@ -1,11 +1,11 @@
 -- A running sale stands for a state of the machine, and what it means that a call steps it: the tables, the stack and the journal go
 -- over to the machine's next state, the answer is the machine's, and what is not in use is untouched. Rests on Tables and Pairs. Assumes nothing.
 use Prim.Native.Nat.{ℕ, zero, suc, _+_, _<_, _≤_}
-use mathlib.Core.Path.{_≡_, refl}
+use mathlib.Core.Path.{_≡_}
 use mathlib.Core.List.{List}
 use lib.ListN.{length}
 use Rattle.model.specs.Catalogue.{Hypergraph}
-use Rattle.model.specs.Machine.{Call, Answer, saysNO, State, Step, settle}
+use Rattle.model.specs.Machine.{Call, Answer, saysNO, State}
 use Rattle.model.specs.Search.{call}
 use Rattle.guarantees.specs.Calls.{Legal, legal-call}
 use Rattle.guarantees.specs.StateBounds.{Listed, listed-call}
@@ -49,11 +49,6 @@ pub record Ready (T : Tables) (S J : Two) : Type 0 where
 abbrev pub told : ℕ → Answer → Answer
 told zero a = a
 told (suc q) a = saysNO (suc q)
-
-pub told-settled : (q : ℕ) (s : State) (done : Step) → told q (done .answer) ≡ settle q s done .answer
-unfolding settle
-told-settled zero s done = refl
-told-settled (suc q) s done = refl
 
 -- what a call does, for whatever state the sale ran in
 pub record Stepped (h : Hypergraph) (s : State) (c : Call) (T′ : Tables) (S′ J J′ : Two) (a : Answer) : Type 0 where
