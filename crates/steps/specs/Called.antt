@@ -8,6 +8,7 @@ use Rattle.model.specs.Catalogue.{Hypergraph, capacity}
 use Rattle.model.specs.Measure.{Contraction}
 use Rattle.model.specs.Machine.{Call, Answer, State, Step, settle}
 use Rattle.model.specs.Search.{call}
+use Rattle.model.specs.Report.{refusal}
 use Rattle.guarantees.specs.StateBounds.{stack-le}
 use Rattle.connectivity.specs.Set.{kept-none}
 use Rattle.calls.specs.Pairs.{pairs-length, Pushed}
@@ -37,10 +38,11 @@ abbrev pub CapacityIs : ℕ → Hypergraph → Type 0
 CapacityIs x h = x ≡ capacity h
 
 -- what a call does: whatever state of the catalogue h the sale ran in, it runs in the machine's next one, with the machine's answer, and
--- what is not in use is untouched
+-- what is not in use is untouched; a refused call leaves every entry, the stack and the journal as they were
 pub record Called (h : Hypergraph) (T T′ : Tables) (S S′ J J′ : Two) (c : Call) (a : Answer) : Type 0 where
   pub steps : (s : State) → Runs h s T S J → Stepped h s c T′ S′ J J′ a
   pub keeps : (s : State) → Runs h s T S J → Keeps T T′
+  pub unchanged : 1 ≤ refusal a → (T′ ≡ T) × (S′ ≡ S) × (J′ ≡ J)
 
 -- one pair less, and none
 pub record Popped (S S′ : Two) : Type 0 where

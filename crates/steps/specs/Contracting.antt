@@ -12,6 +12,7 @@ use Rattle.laws.specs.Place.{place}
 use Rattle.model.specs.Catalogue.{Hypergraph}
 use Rattle.model.specs.Measure.{Contraction, above, weight}
 use Rattle.model.specs.Machine.{callJ, callS, saysJ, saysS, saysNO, State, settle, refusesJ, contract, doesJ, uncontract, doesS}
+use Rattle.model.specs.Report.{refusal}
 use Rattle.model.specs.Search.{call}
 use Rattle.guarantees.specs.Splits.{AllInside, into-on}
 use Rattle.pins.specs.Board.{join}
@@ -68,6 +69,7 @@ unfolding call
 refused-J {h} T u v q w e n = record {
   steps = λ s r. refused (callJ u v) (ap (λ (z : ℕ). settle z s (doesJ h s u v)) (sym (e ∙ refusalJ-is (r .sound) s refl refl u v)) ∙ settle-no q s (doesJ h s u v) (saysJ w) n) r;
   keeps = λ s r. keeps-same T;
+  unchanged = λ _. (refl, refl, refl);
 }
 
 module _ (h : Hypergraph) (T T′ : Tables) (S S′ J J′ : Two) (u v : ℕ) (e : refusalJ (T .blocks) (T .n) u v ≡ 0) (same-n : T′ .n ≡ T .n) (j : Joined T T′ (u - 1) (v - 1))
@@ -98,7 +100,7 @@ module _ (h : Hypergraph) (T T′ : Tables) (S S′ J J′ : Two) (u v : ℕ) (e
         ∙ ap (λ (l : List Contraction). record { into = u; gone = v } ∷ l) (r .stack-is)
 
   pub accepted-J : (w : ℕ) → w ≡ getD (T′ .weights) (u - 1) 0 → Called h T T′ S S′ J J′ (callJ u v) (saysJ w)
-  unfolding call doesJ contract
+  unfolding call doesJ contract refusal
   accepted-J w q = record {
     steps = λ s r. stepped (callJ u v) (doesJ h s u v) (settle-yes (refusesJ h s u v) s (doesJ h s u v) (sym (refusalJ-is (r .sound) s refl refl u v) ∙ e)) r (record {
       sound = sound-J s r;
@@ -108,6 +110,7 @@ module _ (h : Hypergraph) (T T′ : Tables) (S S′ J J′ : Two) (u v : ℕ) (e
       journal-whole = cleared-whole c (r .journal-whole);
     }) (ap saysJ (q ∙ weight-J s r)) (omega (arith, c .len-is));
     keeps = λ s r. j .keeps h (s .stack) (s .block) (r .sound);
+    unchanged = λ l. absurd (omega arith);
   }
 
 -- ---- S
@@ -123,6 +126,7 @@ unfolding call doesS
 refused-S {h} T {S} q = record {
   steps = λ s r. refused callS (ap (doesS s) (sym (r .stack-is) ∙ ap (stackOf (S .xs) (S .ys)) q ∙ pairs-none (λ x y. record { into = x; gone = y }) (S .xs) (S .ys))) r;
   keeps = λ s r. keeps-same T;
+  unchanged = λ _. (refl, refl, refl);
 }
 
 module _ {h : Hypergraph} {s : State} {T : Tables} {S J : Two} (r : Runs h s T S J) (l : 1 ≤ S .len) where
@@ -159,7 +163,7 @@ module _ (h : Hypergraph) (T T′ : Tables) (S S′ J J′ : Two) (l : 1 ≤ S .
   stack-S = rw (p .xs-same, p .ys-same, p .len-is)
 
   pub accepted-S : (x y : ℕ) → x ≡ topJoin S .into → y ≡ topJoin S .gone → Called h T T′ S S′ J J′ callS (saysS x y)
-  unfolding call doesS
+  unfolding call doesS refusal
   accepted-S x y qx qy = record {
     steps = λ s r. stepped callS (doesS s (topJoin S ∷ lower S)) (ap (doesS s) (stack-top r l)) r (record {
       sound = sound-S s r;
@@ -169,4 +173,5 @@ module _ (h : Hypergraph) (T T′ : Tables) (S S′ J J′ : Two) (l : 1 ≤ S .
       journal-whole = cleared-whole c (r .journal-whole);
     }) (ap₂ saysS qx qy) (omega (arith, c .len-is));
     keeps = λ s r. j .keeps;
+    unchanged = λ l. absurd (omega arith);
   }

@@ -13,6 +13,7 @@ use Rattle.laws.specs.Place.{place}
 use Rattle.model.specs.Catalogue.{Hypergraph, capacity}
 use Rattle.model.specs.Measure.{above, gain}
 use Rattle.model.specs.Machine.{callM, callB, saysM, saysB, saysNO, Move, State, settle, refusesM, doesM, doesB}
+use Rattle.model.specs.Report.{refusal}
 use Rattle.model.specs.Search.{call}
 use Rattle.guarantees.specs.Calls.{Recorded}
 use Rattle.guarantees.specs.StateBounds.{Listed}
@@ -52,6 +53,7 @@ refused-M {h} T cap u t q total g qc e n = record {
       (ap (λ (z : ℕ). settle z s (doesM h s u t)) (sym (e ∙ ap (λ (z : ℕ). refusalM (T .blocks) (T .loads) (T .weights) (T .n) (T .k) z u t) qc ∙ refusalM-is (r .sound) s refl refl u t))
       ∙ settle-no q s (doesM h s u t) (saysM g total) n) r;
   keeps = λ s r. keeps-same T;
+  unchanged = λ _. (refl, refl, refl);
 }
 
 module _ (h : Hypergraph) (T T′ : Tables) (S J J′ : Two) (cap u t b f : ℕ) (qc : cap ≡ capacity h) (e : refusalM (T .blocks) (T .loads) (T .weights) (T .n) (T .k) cap u t ≡ 0) (qb : b ≡ t) (w : Went T T′ (u - 1) b)
@@ -75,7 +77,7 @@ module _ (h : Hypergraph) (T T′ : Tables) (S J J′ : Two) (cap u t b f : ℕ)
         ∙ ap₂ (λ (x : ℕ) (l : List Move). record { vertex = u; from = x } ∷ l) from-M (r .journal-is)
 
   pub accepted-M : (g : ℤ) → g ≡ at (T .gains) (16 * (u - 1) + (t - 1)) → Called h T T′ S S J J′ (callM u t) (saysM g (T′ .total))
-  unfolding call doesM
+  unfolding call doesM refusal
   accepted-M g q = record {
     steps = λ s r. stepped (callM u t) (doesM h s u t)
         (settle-yes (refusesM h s u t) s (doesM h s u t) (sym (ap (λ (z : ℕ). refusalM (T .blocks) (T .loads) (T .weights) (T .n) (T .k) z u t) qc ∙ refusalM-is (r .sound) s refl refl u t) ∙ e))
@@ -87,6 +89,7 @@ module _ (h : Hypergraph) (T T′ : Tables) (S J J′ : Two) (cap u t b f : ℕ)
           journal-whole = pushed-whole p (r .journal-whole);
         }) (ap₂ saysM (q ∙ gain-read (r .sound) (u - 1) t (ok .1) ∙ ap (λ (x : ℕ). gain h (s .stack) (s .block) x t) u-is) (sound-M s r .total-is)) (omega (arith, p .len-is));
     keeps = λ s r. w .keeps;
+    unchanged = λ l. absurd (omega arith);
   }
 
 pub goes-as : {T : Tables} {S J : Two} {u t b : ℕ} (g : Ready T S J) → Open (T .blocks) (T .n) (T .k) u t → b ≡ t → Goes T u b
@@ -111,6 +114,7 @@ unfolding call doesB
 refused-B {h} T {J = J} q = record {
   steps = λ s r. refused callB (ap (doesB h s) (sym (r .journal-is) ∙ ap (journalOf (J .xs) (J .ys)) q ∙ pairs-none (λ v x. record { vertex = v; from = x }) (J .xs) (J .ys))) r;
   keeps = λ s r. keeps-same T;
+  unchanged = λ _. (refl, refl, refl);
 }
 
 module _ {h : Hypergraph} {s : State} {T : Tables} {S J : Two} (r : Runs h s T S J) (l : 1 ≤ J .len) where
@@ -155,7 +159,7 @@ module _ (h : Hypergraph) (T T′ : Tables) (S J J′ : Two) (l : 1 ≤ J .len) 
   journal-B = rw (p .xs-same, p .ys-same, p .len-is)
 
   pub accepted-B : (x y : ℕ) → x ≡ lastMove J .vertex → y ≡ lastMove J .from → Called h T T′ S S J J′ callB (saysB x y (T′ .total))
-  unfolding call doesB
+  unfolding call doesB refusal
   accepted-B x y qx qy = record {
     steps = λ s r. stepped callB (doesB h s (lastMove J ∷ earlier J)) (ap (doesB h s) (journal-top r l)) r (record {
       sound = sound-B s r;
@@ -165,4 +169,5 @@ module _ (h : Hypergraph) (T T′ : Tables) (S J J′ : Two) (l : 1 ≤ J .len) 
       journal-whole = popped-whole p (r .journal-whole);
     }) (ap₂ (λ (a b : ℕ). saysB a b (T′ .total)) qx qy ∙ ap (saysB (lastMove J .vertex) (lastMove J .from)) (sound-B s r .total-is)) (omega (arith, p .len-is));
     keeps = λ s r. w .keeps;
+    unchanged = λ l. absurd (omega arith);
   }

@@ -1,12 +1,13 @@
 -- A: what its function needs, and that its result is the machine's. Rests on steps' Called and on cycle's contract. Assumes nothing.
 use Prim.Native.Nat.{ℕ, _-_}
 use native.Mathlib.Omega.{arith}
-use mathlib.Core.Path.{_≡_, sym, ap, _∙_, subst}
+use mathlib.Core.Path.{_≡_, refl, sym, ap, _∙_, subst}
 use mathlib.Core.List.{List, [], _∷_}
 use lib.ListN.{getD}
 use Rattle.model.specs.Catalogue.{Hypergraph, averageWeight, capacity}
 use Rattle.model.specs.Measure.{Contraction}
 use Rattle.model.specs.Machine.{callA, saysA, saysNO, State, settle}
+use Rattle.model.specs.Report.{refusal}
 use Rattle.model.specs.Search.{refusesA, doesA, call}
 use Rattle.calls.specs.Pairs.{stackOf, pairs-none, pairs-some}
 use Rattle.calls.specs.Tables.{Tables, Sound}
@@ -33,6 +34,7 @@ refused-A {h} T {S} n = record {
       let some : s .stack ≡ top ∷ stackOf (S .xs) (S .ys) (S .len - 1) = sym (r .stack-is) ∙ pairs-some (λ u v. record { into = u; gone = v }) (S .xs) (S .ys) (S .len) (above-none (S .len) n) in
       refused callA (ap (λ (l : List Contraction). settle (refusesA h s l) s (doesA h s)) some ∙ settle-no 16 s (doesA h s) (saysNO 16) (λ z. omega arith)) r;
   keeps = λ s r. keeps-same T;
+  unchanged = λ _. (refl, refl, refl);
 }
 
 -- none does
@@ -54,7 +56,7 @@ cycle-asks g z = record {
 
 pub accepted-A : (h : Hypergraph) (T T′ : Tables) (S J J′ : Two) (average limit : ℕ) {joins tried kept moves : ℕ} → average ≡ averageWeight h → limit ≡ capacity h → S .len ≡ 0 → Does T average limit T′ joins tried kept moves → Cleared J J′
     → Called h T T′ S S J J′ callA (saysA joins tried kept moves (T′ .total))
-unfolding call refusesA doesA
+unfolding call refusesA doesA refusal
 accepted-A h T T′ S J J′ average limit qa qc z d c = record {
   steps = λ s r.
       let e = d .is h s qa qc (sound-none r z) in
@@ -66,4 +68,5 @@ accepted-A h T T′ S J J′ average limit qa qc z d c = record {
         journal-whole = cleared-whole c (r .journal-whole);
       }) (sym (e .answer-is)) (omega (arith, c .len-is));
   keeps = λ s r. d .keeps h (s .block) qa qc (sound-none r z);
+  unchanged = λ l. absurd (omega arith);
 }

@@ -11,6 +11,7 @@ use lib.ListN.{getD}
 use Rattle.laws.specs.Choice.{cond-zero, and-left, and-right}
 use Rattle.model.specs.Catalogue.{Hypergraph, capacity}
 use Rattle.model.specs.Machine.{callW, callP, saysW, saysP, State, settle}
+use Rattle.model.specs.Report.{refusal}
 use Rattle.model.specs.Search.{walk, refusesW, doesW, doesP, call}
 use Rattle.guarantees.specs.SearchBounds.{tried-le, walk-counts}
 use Rattle.calls.specs.Tables.{Tables}
@@ -94,6 +95,7 @@ unfolding call
 refused-W {h} T u v q tried kept total e n = record {
   steps = λ s r. refused (callW u v) (ap (λ (z : ℕ). settle z s (doesW h s u v)) (sym (e ∙ refusalW-is (r .sound) s refl u v)) ∙ settle-no q s (doesW h s u v) (saysW tried kept total) n) r;
   keeps = λ s r. keeps-same T;
+  unchanged = λ _. (refl, refl, refl);
 }
 
 module _ (h : Hypergraph) (T T′ : Tables) (S J J′ : Two) (limit u v : ℕ) {tried kept : ℕ} (lim : limit ≡ capacity h) (e : refusalW (T .blocks) (T .n) u v ≡ 0) (w : Walks T limit (u - 1) (v - 1) T′ tried kept) (c : Cleared J J′) where
@@ -106,7 +108,7 @@ module _ (h : Hypergraph) (T T′ : Tables) (S J J′ : Two) (limit u v : ℕ) {
       (subst (λ (y : ℕ). Ended h (s .stack) (walk h (s .stack) (s .block) (u - 1 + 1) y) T′ tried kept) v-is (w .is h (s .stack) (s .block) lim (r .sound)))
 
   pub accepted-W : (x y : ℕ) → x ≡ tried → y ≡ kept → Called h T T′ S S J J′ (callW u v) (saysW x y (T′ .total))
-  unfolding call doesW
+  unfolding call doesW refusal
   accepted-W x y qx qy = record {
     steps = λ s r.
         let d = ended s r in
@@ -118,6 +120,7 @@ module _ (h : Hypergraph) (T T′ : Tables) (S J J′ : Two) (limit u v : ℕ) {
           journal-whole = cleared-whole c (r .journal-whole);
         }) (ap₂ (λ (a b : ℕ). saysW a b (T′ .total)) (qx ∙ d .tried-is) (qy ∙ d .kept-is) ∙ ap (saysW (walk h (s .stack) (s .block) u v .tried) (walk h (s .stack) (s .block) u v .kept)) (d .sound .total-is)) (omega (arith, c .len-is));
     keeps = λ s r. w .keeps;
+    unchanged = λ l. absurd (omega arith);
   }
 
 -- ---- P
@@ -133,7 +136,7 @@ polish-asks g = record {
 }
 
 pub accepted-P : (h : Hypergraph) (T T′ : Tables) (S J J′ : Two) (limit : ℕ) {moves : ℕ} → limit ≡ capacity h → Polishes T limit T′ moves → Cleared J J′ → Called h T T′ S S J J′ callP (saysP moves (T′ .total))
-unfolding call doesP
+unfolding call doesP refusal
 accepted-P h T T′ S J J′ limit lim p c = record {
   steps = λ s r.
       let d = p .is h (s .stack) (s .block) lim (r .sound) in
@@ -145,4 +148,5 @@ accepted-P h T T′ S J J′ limit lim p c = record {
         journal-whole = cleared-whole c (r .journal-whole);
       }) (ap₂ saysP (d .moves-is) (d .sound .total-is)) (omega (arith, c .len-is));
   keeps = λ s r. p .keeps;
+  unchanged = λ l. absurd (omega arith);
 }
