@@ -1,0 +1,3 @@
+-- From the loader's promise to a running sale, call after call, and to the closing report: laws over the crates below, no code, nothing assumed.
+-- Prefix: one call more at the end of a list.
+pub mod Prefix
