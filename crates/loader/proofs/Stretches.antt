@@ -48,7 +48,7 @@ module _ (w f c marks : List ℕ) where
   abbrev netAt : ℕ → Net
   netAt j = record { weight = getD w j 0; pins = slice (getD f j 0) (getD f j 0 + getD c j 0) marks }
 
-  nets-at : (j y : ℕ) → y < j → getD (netsOf j w f c marks) y noNet ≡ netAt y
+  pub nets-at : (j y : ℕ) → y < j → getD (netsOf j w f c marks) y noNet ≡ netAt y
   unfolding netsOf
   nets-at zero y l = absurd (omega arith)
   nets-at (suc j) y l = go (ℕ-discrete y j) (nets-at j y)

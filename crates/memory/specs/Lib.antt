@@ -1,3 +1,4 @@
 -- From the loader's promise to a running sale, call after call, and to the closing report: laws over the crates below, no code, nothing assumed.
--- Prefix: one call more at the end of a list.
+-- Prefix: one call more at the end of a list. Open: what loading leaves is what opening needs.
 pub mod Prefix
+pub mod Open
