@@ -1,6 +1,12 @@
--- From the loader's promise to a running sale, call after call, and to the closing report: laws over the crates below, no code, nothing assumed.
--- Prefix: one call more at the end of a list. Open: what loading leaves is what opening needs. Close: at the end of the calls the closing
--- report can be written, and until then each answer.
-pub mod Prefix
+-- Lent memory and the machine: from the loader's tables to a running sale, along a list of calls, and to what document 01 says of every
+-- entry at the end. Assumes nothing.
+-- Open    what the loader promises is what opening needs
+-- Prefix  the machine along a list of calls: one call more
+-- Close   the closing report's needs at the end of a list, and that the output has space
+-- Mask    a connectivity set as a number
+-- Held    the lent tables at the end of a list, entry by entry
 pub mod Open
+pub mod Prefix
 pub mod Close
+pub mod Mask
+pub mod Held
