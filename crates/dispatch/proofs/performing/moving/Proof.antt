@@ -1,0 +1,125 @@
+use borrow.Author.Needs.{needs}
+use mathlib.Core.Path.{refl}
+use Rattle.dispatch.specs.Kinds.{is-M, is-B, is-W, is-P, called-as, moved-as}
+use Rattle.dispatch.proofs.performing.moving.Statement.{statement}
+use Rattle.dispatch.proofs.performing.moving.Tie as tie
+use Rattle.dispatch.proofs.performing.moving.Reads as reads
+use Rattle.dispatch.proofs.performing.moving.Lts as lts
+use Rattle.dispatch.proofs.answering.answer.Reads as answer-reads
+use Rattle.steps.proofs.moving.call_back.Reads as call-back-reads
+use Rattle.steps.proofs.moving.call_move.Reads as call-move-reads
+use Rattle.turns.proofs.searching.call_polish.Reads as call-polish-reads
+use Rattle.turns.proofs.searching.call_walk.Reads as call-walk-reads
+
+call-move-requires : tie.Need-call-move-requires
+call-move-requires c κs = search needs
+
+answer-requires : tie.Need-answer-requires
+answer-requires c κs = search needs
+
+same-length : tie.Need-same-length
+same-length c = search needs
+
+same-length-2 : tie.Need-same-length-2
+same-length-2 c = search needs
+
+same-length-3 : tie.Need-same-length-3
+same-length-3 c = search needs
+
+same-length-4 : tie.Need-same-length-4
+same-length-4 c = search needs
+
+returns : tie.Need-returns
+returns c = λ aboves loaded S h q. called-as (is-M (c .before .before .before .before .before .before .before .before .before .before .before .before .before .before .before .before .before .before .before .before .before .before .before .before .before .before .args .letter) (c .before .before .before .before .before .before .before .before .before .before .before .before .before .before .before .before .before .before .before .before .before .before .before .before .before .before .args .x) (c .before .before .before .before .before .before .before .before .before .before .before .before .before .before .before .before .before .before .before .before .before .before .before .before .before .before .args .y) (c .before .before .before .before .before .before .before .before .before .before .before .before .before .before .before .before .if1 .taken)) (moved-as (c .before .before .before .before .before .before .before .before .before .before .call-move .result .no) _ (c .before .before .before .before .before .before .before .before .before .before .call-move .result .total) (c .before .struct-told .given .1 .1 .0 .1) (c .answer .ensures)) (c .before .before .before .before .before .before .before .before .before .before .call-move .ensures aboves loaded S h q)
+
+call-back-requires : tie.Need-call-back-requires
+call-back-requires c κs = search needs
+
+answer-requires-2 : tie.Need-answer-requires-2
+answer-requires-2 c κs = search needs
+
+same-length-5 : tie.Need-same-length-5
+same-length-5 c = search needs
+
+same-length-6 : tie.Need-same-length-6
+same-length-6 c = search needs
+
+same-length-7 : tie.Need-same-length-7
+same-length-7 c = search needs
+
+same-length-8 : tie.Need-same-length-8
+same-length-8 c = search needs
+
+returns-2 : tie.Need-returns-2
+returns-2 c = λ aboves loaded S h q. called-as (is-B (c .before .before .before .before .before .before .before .before .before .before .before .before .before .before .before .before .before .before .before .before .before .before .before .before .before .before .args .letter) (c .before .before .before .before .before .before .before .before .before .before .before .before .before .before .before .before .before .before .before .before .before .before .before .before .before .before .args .x) (c .before .before .before .before .before .before .before .before .before .before .before .before .before .before .before .before .before .before .before .before .before .before .before .before .before .before .args .y) (c .before .before .before .before .before .before .before .before .before .before .before .before .before .before .before .before .if1 .left) (c .before .before .before .before .before .before .before .before .before .before .before .before .before .before .before .if2 .taken)) (c .answer2 .ensures) (c .before .before .before .before .before .before .before .before .before .call-back .ensures aboves loaded S h)
+
+call-walk-requires : tie.Need-call-walk-requires
+call-walk-requires c κs = search needs
+
+answer-requires-3 : tie.Need-answer-requires-3
+answer-requires-3 c κs = search needs
+
+same-length-9 : tie.Need-same-length-9
+same-length-9 c = search needs
+
+same-length-10 : tie.Need-same-length-10
+same-length-10 c = search needs
+
+same-length-11 : tie.Need-same-length-11
+same-length-11 c = search needs
+
+same-length-12 : tie.Need-same-length-12
+same-length-12 c = search needs
+
+returns-3 : tie.Need-returns-3
+returns-3 c = λ aboves loaded S h q. called-as (is-W (c .before .before .before .before .before .before .before .before .before .before .before .before .before .before .before .before .before .before .before .before .before .before .before .before .before .before .before .args .letter) (c .before .before .before .before .before .before .before .before .before .before .before .before .before .before .before .before .before .before .before .before .before .before .before .before .before .before .before .args .x) (c .before .before .before .before .before .before .before .before .before .before .before .before .before .before .before .before .before .before .before .before .before .before .before .before .before .before .before .args .y) (c .before .before .before .before .before .before .before .before .before .before .before .before .before .before .before .before .before .if1 .left) (c .before .before .before .before .before .before .before .before .before .before .before .before .before .before .before .before .if2 .left) (c .before .before .before .before .before .before .before .before .before .before .before .before .before .before .before .if3 .taken)) (c .answer3 .ensures) (c .before .before .before .before .before .before .before .before .before .call-walk .ensures aboves loaded S h q)
+
+call-polish-requires : tie.Need-call-polish-requires
+call-polish-requires c κs = search needs
+
+same-length-13 : tie.Need-same-length-13
+same-length-13 c = search needs
+
+same-length-14 : tie.Need-same-length-14
+same-length-14 c = search needs
+
+same-length-15 : tie.Need-same-length-15
+same-length-15 c = search needs
+
+same-length-16 : tie.Need-same-length-16
+same-length-16 c = search needs
+
+returns-4 : tie.Need-returns-4
+returns-4 c = λ aboves loaded S h q. called-as (is-P (c .before .before .before .before .before .before .before .before .before .before .before .before .before .before .before .before .before .before .before .before .before .before .before .before .before .before .args .letter) (c .before .before .before .before .before .before .before .before .before .before .before .before .before .before .before .before .before .before .before .before .before .before .before .before .before .before .args .x) (c .before .before .before .before .before .before .before .before .before .before .before .before .before .before .before .before .before .before .before .before .before .before .before .before .before .before .args .y) (c .before .before .before .before .before .before .before .before .before .before .before .before .before .before .before .before .if1 .left) (c .before .before .before .before .before .before .before .before .before .before .before .before .before .before .before .if2 .left) (c .before .before .before .before .before .before .before .before .before .before .before .before .before .before .if3 .left)) refl (c .before .before .before .before .before .before .before .before .call-polish .ensures aboves loaded S h q)
+
+pub moving-spec : {M : Type 1} → statement M
+moving-spec =
+    tie.close
+    (tie.spec
+    call-move-requires
+    answer-requires
+    same-length
+    same-length-2
+    same-length-3
+    same-length-4
+    returns
+    call-back-requires
+    answer-requires-2
+    same-length-5
+    same-length-6
+    same-length-7
+    same-length-8
+    returns-2
+    call-walk-requires
+    answer-requires-3
+    same-length-9
+    same-length-10
+    same-length-11
+    same-length-12
+    returns-3
+    call-polish-requires
+    same-length-13
+    same-length-14
+    same-length-15
+    same-length-16
+    returns-4)
