@@ -17,7 +17,7 @@ use Rattle.guarantees.specs.ReportFits.{report-fits}
 use Rattle.calls.specs.Pairs.{pairs-length}
 use Rattle.calls.specs.Tables.{Tables, tables, Sound}
 use Rattle.steps.specs.Steps.{Two, Runs}
-use Rattle.report.specs.Closing.{Ended, ClosingFits}
+use Rattle.report.specs.Closing.{Ended}
 use Rattle.memory.specs.Prefix.{answers-more}
 
 -- the total of the tables before any call is the draft's metric
@@ -50,17 +50,10 @@ module _ {counts visited pins sizes bits blocks weights aboves loads netWeights 
     draft-is = q;
   }
 
-  -- after the answers, which end at `at`, the closing report fits
-  pub closing-fits : {limits : Limits} {h : Hypergraph} {at room : ℕ} → limits .blockLimit ≤ 16 → limits .vertexLimit ≤ 1024 → Accepted limits h → (calls : List Call) → length calls ≤ 512
-      → at ≡ length (answers h (fresh h) calls) → 60000 ≤ room
-      → Runs h (after h (fresh h) calls) (tables counts visited gains pins sizes bits blocks weights aboves loads netWeights firsts loaded n m k total) S J → draft ≡ metric h [] (fresh h .block)
-      → ClosingFits room at blocks aboves visited n m (S .len) draft total
-  closing-fits {limits} {h} narrow short accepted calls few at-is wide r q = record {
-    h = h;
-    s = after h (fresh h) calls;
-    ended = ended r q;
-    fits = omega (arith, run-length h calls, report-fits limits short narrow h accepted calls few);
-  }
+-- the answers to at most 512 calls and the closing report fit
+pub report-length : {limits : Limits} {h : Hypergraph} → limits .blockLimit ≤ 16 → limits .vertexLimit ≤ 1024 → Accepted limits h → (calls : List Call) → length calls ≤ 512
+    → length (answers h (fresh h) calls) + length (closing h (after h (fresh h) calls)) ≤ 60000
+report-length {limits} {h} narrow short accepted calls few = omega (arith, run-length h calls, report-fits limits short narrow h accepted calls few)
 
 -- after the answers to fewer than 512 calls one answer more fits
 pub answer-fits : {limits : Limits} {h : Hypergraph} → limits .blockLimit ≤ 16 → limits .vertexLimit ≤ 1024 → Accepted limits h → (before : List Call) (c : Call) → length before < 512

@@ -1,0 +1,91 @@
+use native.Mathlib.Omega.{arith}
+use mathlib.Core.Path.{_≡_, sym, _∙_, ap}
+use denote.Ref.{now}
+use borrow.Author.Needs.{needs}
+use Rattle.engine.proofs.selling.sell.Statement.{statement}
+use Rattle.engine.proofs.selling.sell.Tie as tie
+use Rattle.engine.proofs.selling.sell.Reads as reads
+use Rattle.engine.proofs.selling.sell.Lts as lts
+use Rattle.opening.proofs.open.Reads as open-reads
+use Rattle.sequence.proofs.run_calls.Reads as run-calls-reads
+
+cast-n : tie.Need-cast-n
+cast-n c = search needs
+
+cast-m : tie.Need-cast-m
+cast-m c = search needs
+
+cast-k : tie.Need-cast-k
+cast-k c = search needs
+
+cast-average : tie.Need-cast-average
+cast-average c = search needs
+
+cast-capacity : tie.Need-cast-capacity
+cast-capacity c = search needs
+
+slice-aggregate-open : tie.Need-slice-aggregate-open
+slice-aggregate-open c = search needs
+
+open-requires : tie.Need-open-requires
+open-requires c κs = search needs
+
+slice-aggregate-run-calls : tie.Need-slice-aggregate-run-calls
+slice-aggregate-run-calls c = search needs
+
+run-calls-requires : tie.Need-run-calls-requires
+run-calls-requires c κs = search needs
+
+same-length : tie.Need-same-length
+same-length c = search needs
+
+same-length-2 : tie.Need-same-length-2
+same-length-2 c = search needs
+
+same-length-3 : tie.Need-same-length-3
+same-length-3 c = search needs
+
+same-length-4 : tie.Need-same-length-4
+same-length-4 c = search needs
+
+same-length-5 : tie.Need-same-length-5
+same-length-5 c = search needs
+
+same-length-6 : tie.Need-same-length-6
+same-length-6 c = search needs
+
+same-length-7 : tie.Need-same-length-7
+same-length-7 c = ?same-length-7
+
+same-length-8 : tie.Need-same-length-8
+same-length-8 c = ?same-length-8
+
+same-length-9 : tie.Need-same-length-9
+same-length-9 c = ?same-length-9
+
+returns : tie.Need-returns
+returns c = ?returns
+
+pub sell-spec : {M : Type 1} → statement M
+sell-spec =
+    tie.close
+    (tie.spec
+    cast-n
+    cast-m
+    cast-k
+    cast-average
+    cast-capacity
+    slice-aggregate-open
+    open-requires
+    slice-aggregate-run-calls
+    run-calls-requires
+    same-length
+    same-length-2
+    same-length-3
+    same-length-4
+    same-length-5
+    same-length-6
+    same-length-7
+    same-length-8
+    same-length-9
+    returns)

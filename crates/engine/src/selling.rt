@@ -1,0 +1,99 @@
+// A list of calls on tables as loading left them.
+ghost use Prim.Native.Nat.{ℕ, _≤_};
+ghost use mathlib.Core.List.{List};
+ghost use lib.ListN.{length};
+ghost use Rattle.model.specs.Catalogue.{Limits};
+ghost use Rattle.reader.specs.Seen.{callsOf};
+ghost use Rattle.loader.specs.Tables.{Lists, lists, graph};
+ghost use Rattle.steps.specs.Steps.{two};
+ghost use Rattle.engine.specs.Sale.{lent, Catalogued, Listed, CanSell, Sold};
+use calls::pairs::Stack;
+use loader::Sizes;
+use opening::open;
+use sequence::run_calls;
+
+// What a list of calls leaves beside the tables: the contraction stack, the metric of the draft and at the end, and where the output's text ends.
+pub struct Sale {
+    pub stack: Stack,
+    pub draft: u32,
+    pub total: u32,
+    pub at: usize,
+}
+
+// The first `count` calls of a table, three numbers each, on tables as loading left them.
+pub fn sell(
+    output: &mut [u8],
+    weights: &mut [u32],
+    blocks: &mut [u16],
+    aboves: &mut [u16],
+    present: &mut [u16],
+    standing: &mut [u16],
+    counts: &mut [u16],
+    gains: &mut [i32],
+    visited: &mut [u16],
+    firsts: &[u16],
+    sizes: &[u16],
+    netweights: &[u16],
+    calls: &[u32],
+    count: usize,
+    z: Sizes,
+) -> Sale
+    requires { ⌜ CanSell (λ pins. lists (now weights) (now blocks) (now aboves) pins (now present) (now firsts) (now sizes) (now standing)) z (now netweights) (now counts) (now gains) (now visited) (now calls) count (now output) ⌝ }
+    ensures { λ r. ⌜ ((limits : Limits) (file pins : List ℕ) (old : Lists) → Catalogued limits file z old (lists (now (weights .entry)) (now (blocks .entry)) (now (aboves .entry)) pins (now (present .entry)) (now (firsts .entry)) (now (sizes .entry)) (now (standing .entry))) (now (netweights .entry)) (now (counts .entry)) (now (gains .entry)) (now (visited .entry)) → Listed (now (calls .entry)) count (now (output .entry))
+        → Sold (graph z (lists (now (weights .entry)) (now (blocks .entry)) (now (aboves .entry)) pins (now (present .entry)) (now (firsts .entry)) (now (sizes .entry)) (now (standing .entry))) (now (netweights .entry))) (callsOf count (now (calls .entry))) (lent old (now (counts .entry)) (now (gains .entry)) (now (visited .entry))) (lent (lists (now (weights .exit)) (now (blocks .exit)) (now (aboves .exit)) pins (now (present .exit)) (now (firsts .exit)) (now (sizes .exit)) (now (standing .exit))) (now (counts .exit)) (now (gains .exit)) (now (visited .exit))) (now (output .entry)) (now (output .exit)) (two (r .stack .into) (r .stack .gone) (r .stack .len)) (z .vertices) (z .nets) (r .draft) (r .total) (r .at)) ⌝ }
+{
+    let n = z.vertices as usize;
+    let m = z.nets as usize;
+    let k = z.blocks as usize;
+    let average = z.average as u64;
+    let capacity = z.capacity as u64;
+    let mut bits = [0u64; 16384];
+    let mut loads = [0u64; 16];
+    let draft = open(
+        counts,
+        visited,
+        gains,
+        &mut bits,
+        &mut loads,
+        present,
+        blocks,
+        firsts,
+        standing,
+        weights,
+        netweights,
+        n,
+        m,
+        k,
+    );
+    let course = run_calls(
+        output,
+        counts,
+        visited,
+        gains,
+        present,
+        standing,
+        &mut bits,
+        blocks,
+        weights,
+        aboves,
+        &mut loads,
+        netweights,
+        firsts,
+        sizes,
+        calls,
+        count,
+        n,
+        m,
+        k,
+        average,
+        capacity,
+        draft,
+    );
+    let stack = course.stack;
+    Sale {
+        stack: stack,
+        draft: draft,
+        total: course.total,
+        at: course.at,
+    }
+}
