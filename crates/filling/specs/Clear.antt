@@ -1,4 +1,4 @@
--- Entries in use made 0: a row of a table, and all rows. Assumes nothing.
+-- A row of a table written, made 0 above all, and all rows made 0. Assumes nothing.
 use Prim.Native.Nat.{ℕ, _+_, _*_, _<_, _≤_}
 use mathlib.Core.Path.{_≡_, refl, _∙_}
 use mathlib.Core.List.{List}
@@ -8,23 +8,27 @@ use borrow.Author.Count.{below-more}
 use lib.ListN.{length, getD, set, length-set}
 use lib.Seq.{getD-set-same, getD-set-other}
 
--- the k entries from `row` on are z, and all others stand as they stood
-pub record Wiped {A : Type 0} (z : A) (row k : ℕ) (l l′ : List A) : Type 0 where
+-- the k entries from `row` on are those of f, and all others stand as they stood
+pub record Written {A : Type 0} (z : A) (f : ℕ → A) (row k : ℕ) (l l′ : List A) : Type 0 where
   pub len : length l′ ≡ length l
-  pub inside : (j : ℕ) → j < k → getD l′ (row + j) z ≡ z
+  pub inside : (j : ℕ) → j < k → getD l′ (row + j) z ≡ f j
   pub outside : (i : ℕ) → (row ≤ i → row + k ≤ i) → getD l′ i z ≡ getD l i z
 
-pub wiped-none : {A : Type 0} (z : A) (row : ℕ) (l : List A) → Wiped z row 0 l l
-wiped-none z row l = record { len = refl; inside = λ j h. absurd (omega arith); outside = λ i h. refl }
+pub written-none : {A : Type 0} (z : A) (f : ℕ → A) (row : ℕ) (l : List A) → Written z f row 0 l l
+written-none z f row l = record { len = refl; inside = λ j h. absurd (omega arith); outside = λ i h. refl }
 
-pub wiped-more : {A : Type 0} (z : A) (row j : ℕ) {l l′ : List A} → Wiped z row j l l′ → row + j < length l → Wiped z row (j + 1) l (set l′ (row + j) z)
-wiped-more z row j {l} {l′} w h = record {
-  len = length-set l′ (row + j) z ∙ w .len;
-  inside = below-more (λ i. getD (set l′ (row + j) z) (row + i) z ≡ z) j
-      (λ i q. getD-set-other l′ (row + j) (row + i) z z (λ e. omega arith) ∙ w .inside i q)
-      (getD-set-same l′ (row + j) z z (omega (arith, w .len)));
-  outside = λ i q. getD-set-other l′ (row + j) i z z (λ e. let o : row ≤ i = omega arith in omega (arith, q o)) ∙ w .outside i (λ o. omega (arith, q o));
+pub written-more : {A : Type 0} (z : A) (f : ℕ → A) (row j : ℕ) {l l′ : List A} {v : A} → Written z f row j l l′ → row + j < length l → v ≡ f j → Written z f row (j + 1) l (set l′ (row + j) v)
+written-more z f row j {l} {l′} {v} w h e = record {
+  len = length-set l′ (row + j) v ∙ w .len;
+  inside = below-more (λ i. getD (set l′ (row + j) v) (row + i) z ≡ f i) j
+      (λ i q. getD-set-other l′ (row + j) (row + i) v z (λ e. omega arith) ∙ w .inside i q)
+      (getD-set-same l′ (row + j) v z (omega (arith, w .len)) ∙ e);
+  outside = λ i q. getD-set-other l′ (row + j) i v z (λ e. let o : row ≤ i = omega arith in omega (arith, q o)) ∙ w .outside i (λ o. omega (arith, q o));
 }
+
+-- all of them z
+abbrev pub Wiped : {A : Type 0} → A → ℕ → ℕ → List A → List A → Type 0
+Wiped z = Written z (λ _. z)
 
 -- the first k entries of the rows below n are z, and all others stand as they stood
 pub record WipedRows {A : Type 0} (z : A) (n k : ℕ) (l l′ : List A) : Type 0 where

@@ -30,7 +30,7 @@ pub fn clear_counts(counts: &mut [u16], m: usize, k: usize)
 }
 
 // Makes the `k` gains from `row` on 0.
-fn clear_gain_row(gains: &mut [i32], row: usize, k: usize)
+pub fn clear_gain_row(gains: &mut [i32], row: usize, k: usize)
     requires { ⌜ row + k ≤ length (now gains) ⌝ }
     ensures { λ _. ⌜ Wiped (pos 0) row k (now (gains .entry)) (now (gains .exit)) ⌝ }
 {

@@ -1,4 +1,6 @@
-// The running tables filled after loading, when the pin lists are as loaded and no contraction stands.
+// The running tables filled after loading, when the pin lists are as loaded and no contraction stands; and at any time the gains of one vertex,
+// worked out from its nets.
+pub mod afresh;
 mod clear;
 
 ghost use Prim.Native.Nat.{ℕ, _+_, _<_};

@@ -2,10 +2,10 @@
 use Prim.Native.Nat.{_≤_, _-_}
 use native.Mathlib.Omega.{arith}
 use lib.IntN.{pos}
-use mathlib.Core.Path.{_≡_, sym, _∙_, ap}
+use mathlib.Core.Path.{_≡_, refl}
 use denote.Ref.{now}
 use borrow.Author.Needs.{needs}
-use Rattle.filling.specs.Clear.{Wiped, wiped-none, wiped-more}
+use Rattle.filling.specs.Clear.{Wiped, written-none, written-more}
 use Rattle.filling.proofs.clear.clear_gain_row.Statement.{statement}
 use Rattle.filling.proofs.clear.clear_gain_row.Tie as tie
 use Rattle.filling.proofs.clear.clear_gain_row.Reads as reads
@@ -18,7 +18,7 @@ abbrev μ-loop : tie.MeasureT-loop
 μ-loop gains₀ row k j₀ gains j = k - j
 
 loop-holds : tie.Need-loop-holds Inv-loop μ-loop
-loop-holds c = (omega arith, wiped-none _ _ _)
+loop-holds c = (omega arith, written-none _ _ _ _)
 
 add-gains : tie.Need-add-gains Inv-loop μ-loop
 add-gains c = omega arith
@@ -36,7 +36,7 @@ loop-less : tie.Need-loop-less Inv-loop μ-loop
 loop-less c = omega arith
 
 loop-again : tie.Need-loop-again Inv-loop μ-loop
-loop-again c = (omega arith, wiped-more (pos 0) (c .before .before .args .row) (c .before .loop .j) (c .before .loop .inv .1) (omega arith))
+loop-again c = (omega arith, written-more (pos 0) _ (c .before .before .args .row) (c .before .loop .j) (c .before .loop .inv .1) (omega arith) refl)
 
 same-length : tie.Need-same-length Inv-loop μ-loop
 same-length c = c .before .loop .inv .1 .len

@@ -1,10 +1,10 @@
 -- `clear_row`: the first j entries are 0.
 use Prim.Native.Nat.{_≤_, _-_}
 use native.Mathlib.Omega.{arith}
-use mathlib.Core.Path.{_≡_, sym, _∙_, ap}
+use mathlib.Core.Path.{_≡_, refl}
 use denote.Ref.{now}
 use borrow.Author.Needs.{needs}
-use Rattle.filling.specs.Clear.{Wiped, wiped-none, wiped-more}
+use Rattle.filling.specs.Clear.{Wiped, written-none, written-more}
 use Rattle.filling.proofs.clear.clear_row.Statement.{statement}
 use Rattle.filling.proofs.clear.clear_row.Tie as tie
 use Rattle.filling.proofs.clear.clear_row.Reads as reads
@@ -17,7 +17,7 @@ abbrev μ-loop : tie.MeasureT-loop
 μ-loop table₀ row k j₀ table j = k - j
 
 loop-holds : tie.Need-loop-holds Inv-loop μ-loop
-loop-holds c = (omega arith, wiped-none _ _ _)
+loop-holds c = (omega arith, written-none _ _ _ _)
 
 add-table : tie.Need-add-table Inv-loop μ-loop
 add-table c = omega arith
@@ -35,7 +35,7 @@ loop-less : tie.Need-loop-less Inv-loop μ-loop
 loop-less c = omega arith
 
 loop-again : tie.Need-loop-again Inv-loop μ-loop
-loop-again c = (omega arith, wiped-more 0 (c .before .before .args .row) (c .before .loop .j) (c .before .loop .inv .1) (omega arith))
+loop-again c = (omega arith, written-more 0 _ (c .before .before .args .row) (c .before .loop .j) (c .before .loop .inv .1) (omega arith) refl)
 
 same-length : tie.Need-same-length Inv-loop μ-loop
 same-length c = c .before .loop .inv .1 .len
