@@ -131,8 +131,8 @@ module _ {limits : Limits} {file : List ℕ} {z : Sizes} {old new : Lists} {nw c
     pub sold : {counts″ visited″ pins″ sizes″ bits″ blocks″ weights″ aboves″ loads″ out″ : List ℕ} {gains″ : List ℤ} {total at : ℕ} {S J : Two}
         → Done h calls count T₀ (tables counts″ visited″ gains″ pins″ sizes″ bits″ blocks″ weights″ aboves″ loads″ nw (new .firsts) (new .loadedSizes) (z .vertices) (z .nets) (z .blocks) total) S J out out″ at
         → Sold h (callsOf count calls) (lent old counts gains visited)
-            (record { weights = weights″; blocks = blocks″; aboves = aboves″; loadedPins = new .loadedPins; presentPins = pins″; firsts = new .firsts; loadedSizes = new .loadedSizes; presentSizes = sizes″; counts = counts″; gains = gains″; visited = visited″ })
-            out out″ S (z .vertices) (z .nets) draft total at
+        (record { weights = weights″; blocks = blocks″; aboves = aboves″; loadedPins = new .loadedPins; presentPins = pins″; firsts = new .firsts; loadedSizes = new .loadedSizes; presentSizes = sizes″; counts = counts″; gains = gains″; visited = visited″ })
+        out out″ S (z .vertices) (z .nets) draft total at
     sold d =
         let q = draft-is (begins .sound) in
         record {

@@ -1,2 +1,5 @@
 // The engine: a sale file and lent memory in, the report and lent memory out.
+pub mod closing;
+pub mod entry;
+pub mod lengths;
 pub mod selling;

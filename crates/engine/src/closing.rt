@@ -1,0 +1,68 @@
+// The end of an accepted file's calls: the closing report behind their answers.
+ghost use Prim.Native.Nat.{ℕ};
+ghost use mathlib.Core.List.{List};
+ghost use Rattle.model.specs.Catalogue.{Limits};
+ghost use Rattle.reader.specs.Seen.{callsOf};
+ghost use Rattle.loader.specs.Tables.{Lists, lists, graph};
+ghost use Rattle.engine.specs.Sale.{lent, Catalogued, Listed, CanSell};
+ghost use Rattle.engine.specs.Entry.{Reported};
+use crate::selling::sell;
+use loader::Sizes;
+use report::closing::put_closing;
+
+// Runs the file's calls and writes their answers and the closing report; says where the text ends.
+pub fn report_sale(
+    output: &mut [u8],
+    weights: &mut [u32],
+    blocks: &mut [u16],
+    aboves: &mut [u16],
+    present: &mut [u16],
+    standing: &mut [u16],
+    counts: &mut [u16],
+    gains: &mut [i32],
+    visited: &mut [u16],
+    firsts: &[u16],
+    sizes: &[u16],
+    netweights: &[u16],
+    calls: &[u32],
+    z: Sizes,
+) -> usize
+    requires { ⌜ CanSell (λ pins. lists (now weights) (now blocks) (now aboves) pins (now present) (now firsts) (now sizes) (now standing)) z (now netweights) (now counts) (now gains) (now visited) (now calls) (z .calls) (now output) ⌝ }
+    ensures { λ r. ⌜ ((limits : Limits) (file pins : List ℕ) (old : Lists) → Catalogued limits file z old (lists (now (weights .entry)) (now (blocks .entry)) (now (aboves .entry)) pins (now (present .entry)) (now (firsts .entry)) (now (sizes .entry)) (now (standing .entry))) (now (netweights .entry)) (now (counts .entry)) (now (gains .entry)) (now (visited .entry)) → Listed (now (calls .entry)) (z .calls) (now (output .entry))
+        → Reported (graph z (lists (now (weights .entry)) (now (blocks .entry)) (now (aboves .entry)) pins (now (present .entry)) (now (firsts .entry)) (now (sizes .entry)) (now (standing .entry))) (now (netweights .entry))) (callsOf (z .calls) (now (calls .entry))) (lent old (now (counts .entry)) (now (gains .entry)) (now (visited .entry))) (lent (lists (now (weights .exit)) (now (blocks .exit)) (now (aboves .exit)) pins (now (present .exit)) (now (firsts .exit)) (now (sizes .exit)) (now (standing .exit))) (now (counts .exit)) (now (gains .exit)) (now (visited .exit))) (now (output .entry)) (now (output .exit)) r) ⌝ }
+{
+    let n = z.vertices as usize;
+    let m = z.nets as usize;
+    let count = z.calls;
+    let s = sell(
+        output,
+        weights,
+        blocks,
+        aboves,
+        present,
+        standing,
+        counts,
+        gains,
+        visited,
+        firsts,
+        sizes,
+        netweights,
+        calls,
+        count,
+        z,
+    );
+    let stack = s.stack;
+    let depth = stack.len;
+    put_closing(
+        output,
+        s.at,
+        blocks,
+        aboves,
+        visited,
+        n,
+        m,
+        depth,
+        s.draft,
+        s.total,
+    )
+}
