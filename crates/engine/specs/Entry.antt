@@ -7,7 +7,7 @@ use mathlib.Core.Bool.{Bool, true, false, _&&_}
 use mathlib.Core.List.{List, [], _∷_, _++_}
 use borrow.Author.Tests.{leb-true, le-leb, lt-leb}
 use lib.Dec.{leb}
-use lib.ListN.{length, drop}
+use lib.ListN.{length, drop, length-append}
 use lib.IntN.{ℤ}
 use Rattle.laws.specs.Choice.{and-left, and-right}
 use Rattle.model.specs.Catalogue.{Limits, mainLimits, Hypergraph}
@@ -192,3 +192,11 @@ too-short file m e q = subst (λ (b : Bool). Served b (parse mainLimits file) m 
 
 pub served : (file : List ℕ) (m m′ : Memory) {code bytes : ℕ} {r : Bool} → r ≡ longMemory mainLimits m → r ≡ true → Worked (parse mainLimits file) m m′ code bytes → Serves mainLimits file m m′ code bytes
 served file m m′ {code} {bytes} e q w = subst (λ (b : Bool). Served b (parse mainLimits file) m m′ code bytes) (sym (sym e ∙ q)) w
+
+-- the bytes written lie in the output
+pub bytes-in : (limits : Limits) (file : List ℕ) (m m′ : Memory) (code bytes : ℕ) → Serves limits file m m′ code bytes → bytes ≤ length (m′ .output)
+bytes-in limits file m m′ code bytes s = go (longMemory limits m) s
+  where
+    go : (b : Bool) → Served b (parse limits file) m m′ code bytes → bytes ≤ length (m′ .output)
+    go false u = omega (arith, u .nothing)
+    go true w = omega (arith, w .output .bytes, ap length (w .output .output), length-append (outcome (parse limits file) .report) (drop bytes (m .output)))
