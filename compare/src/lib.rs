@@ -1,189 +1,166 @@
-//! The proved loader behind a safe function, and what its tables must be by the independent
-//! reference. Rests on the static library of the crate `loader_c`.
+//! The proved engine against the independent reference: report, return and every entry of every
+//! lent table, those that must keep what they held included. Rests on the bindings for the engine
+//! and on the reference, which works every entry out afresh.
 
-use reference::catalogue::{Call, Sale};
-use reference::measure;
+use kapokdrill::lent::{self, Lent, Outcome, LOTS, MARKS, OUTPUT, ROWS};
+use reference::generator::Random;
+use reference::tables::entry;
+use reference::{parse, report, run_calls, Sale};
 
-mod raw {
-    // A slice is passed as its pointer and its length.
-    extern "C" {
-        pub fn load_file(
-            file: *const u8,
-            file_len: usize,
-            bales: *mut u32,
-            bales_len: usize,
-            sessions: *mut u16,
-            sessions_len: usize,
-            aboves: *mut u16,
-            aboves_len: usize,
-            loaded: *mut u16,
-            loaded_len: usize,
-            present: *mut u16,
-            present_len: usize,
-            firsts: *mut u16,
-            firsts_len: usize,
-            loaded_sizes: *mut u16,
-            loaded_sizes_len: usize,
-            present_sizes: *mut u16,
-            present_sizes_len: usize,
-            weights: *mut u16,
-            weights_len: usize,
-            calls: *mut u32,
-            calls_len: usize,
-            out: *mut u32,
-            out_len: usize,
-        ) -> u32;
-    }
-}
-
-/// Lent memory of the loader, filled with `FILL` beforehand and longer than it needs to be, so
-/// that an entry which must be kept can be seen to be kept.
-pub struct Tables {
+/// Lent memory of lengths that the caller settles.
+#[derive(Clone, Debug, PartialEq, Eq)]
+pub struct Memory {
+    pub output: Vec<u8>,
     pub bales: Vec<u32>,
     pub sessions: Vec<u16>,
-    pub aboves: Vec<u16>,
-    pub loaded: Vec<u16>,
-    pub present: Vec<u16>,
-    pub firsts: Vec<u16>,
-    pub loaded_sizes: Vec<u16>,
-    pub present_sizes: Vec<u16>,
-    pub weights: Vec<u16>,
-    pub calls: Vec<u32>,
-    pub out: Vec<u32>,
+    pub above: Vec<u16>,
+    pub loaded_marks: Vec<u16>,
+    pub present_marks: Vec<u16>,
+    pub first_places: Vec<u16>,
+    pub loaded_counts: Vec<u16>,
+    pub present_counts: Vec<u16>,
+    pub counts: Vec<u16>,
+    pub gains: Vec<i32>,
+    pub visited: Vec<u16>,
 }
 
-pub const FILL: u16 = 777;
-
-impl Default for Tables {
-    fn default() -> Self {
-        Tables {
-            bales: vec![FILL as u32; 1030],
-            sessions: vec![FILL; 1030],
-            aboves: vec![FILL; 1030],
-            loaded: vec![FILL; 8200],
-            present: vec![FILL; 8200],
-            firsts: vec![FILL; 1030],
-            loaded_sizes: vec![FILL; 1030],
-            present_sizes: vec![FILL; 1030],
-            weights: vec![FILL; 1024],
-            calls: vec![FILL as u32; 1536],
-            out: vec![FILL as u32; 10],
-        }
-    }
+/// Random entries, and up to three more of them than there must be.
+fn noise<T>(random: &mut Random, length: usize, entry: impl Fn(u64) -> T) -> Vec<T> {
+    let length = length + random.between(0, 3) as usize;
+    (0..length).map(|_| entry(random.bits())).collect()
 }
 
-impl Tables {
-    /// Loads a file: 8 for a short table, else 0 with the refusal or the sizes in `out`.
-    pub fn load(&mut self, file: &[u8]) -> u32 {
-        // SAFETY: each pointer with its length is a slice that lives through the call, and the
-        // `&mut` ones overlap nothing.
-        unsafe {
-            raw::load_file(
-                file.as_ptr(),
-                file.len(),
-                self.bales.as_mut_ptr(),
-                self.bales.len(),
-                self.sessions.as_mut_ptr(),
-                self.sessions.len(),
-                self.aboves.as_mut_ptr(),
-                self.aboves.len(),
-                self.loaded.as_mut_ptr(),
-                self.loaded.len(),
-                self.present.as_mut_ptr(),
-                self.present.len(),
-                self.firsts.as_mut_ptr(),
-                self.firsts.len(),
-                self.loaded_sizes.as_mut_ptr(),
-                self.loaded_sizes.len(),
-                self.present_sizes.as_mut_ptr(),
-                self.present_sizes.len(),
-                self.weights.as_mut_ptr(),
-                self.weights.len(),
-                self.calls.as_mut_ptr(),
-                self.calls.len(),
-                self.out.as_mut_ptr(),
-                self.out.len(),
-            )
+impl Memory {
+    /// Memory filled with random bytes.
+    pub fn noise(random: &mut Random) -> Self {
+        let short = |bits: u64| bits as u16;
+        Memory {
+            output: noise(random, OUTPUT, |bits| bits as u8),
+            bales: noise(random, LOTS, |bits| bits as u32),
+            sessions: noise(random, LOTS, short),
+            above: noise(random, LOTS, short),
+            loaded_marks: noise(random, MARKS, short),
+            present_marks: noise(random, MARKS, short),
+            first_places: noise(random, LOTS, short),
+            loaded_counts: noise(random, LOTS, short),
+            present_counts: noise(random, LOTS, short),
+            counts: noise(random, ROWS, short),
+            gains: noise(random, ROWS, |bits| bits as i32),
+            visited: noise(random, LOTS, short),
         }
     }
 
-    /// The first difference between the tables and what the reference read, if there is one.
-    pub fn difference(&self, sale: &Sale) -> Option<String> {
-        let catalogue = &sale.catalogue;
-        let (lots, buyers) = (catalogue.lots.len(), catalogue.buyers.len());
-        let marks: Vec<u16> = catalogue
-            .buyers
-            .iter()
-            .flat_map(|buyer| buyer.marks.iter().map(|&lot| lot as u16))
-            .collect();
-        let sizes = [
-            0,
-            0,
-            lots as u32,
-            buyers as u32,
-            catalogue.sessions as u32,
-            catalogue.slack as u32,
-            marks.len() as u32,
-            sale.calls.len() as u32,
-            measure::fair_share(catalogue) as u32,
-            measure::cap(catalogue) as u32,
+    /// Runs the engine on this memory.
+    pub fn run(&mut self, file: &[u8]) -> Outcome {
+        lent::run(
+            file,
+            Lent {
+                output: &mut self.output,
+                bales: &mut self.bales,
+                sessions: &mut self.sessions,
+                above: &mut self.above,
+                loaded_marks: &mut self.loaded_marks,
+                present_marks: &mut self.present_marks,
+                first_places: &mut self.first_places,
+                loaded_counts: &mut self.loaded_counts,
+                present_counts: &mut self.present_counts,
+                counts: &mut self.counts,
+                gains: &mut self.gains,
+                visited: &mut self.visited,
+            },
+        )
+    }
+
+    /// Puts in what the reference says that an accepted sale leaves; all else stays. What is free
+    /// in the present marks is taken from `found`, the marks of each set apart: nothing comes back
+    /// if these are not the reference's.
+    fn finish(&mut self, sale: &Sale, found: &Memory) -> Option<Vec<u8>> {
+        let end = run_calls(&sale.catalogue, &sale.calls);
+        let tables = &end.tables;
+        for (i, lot) in tables.lots.iter().enumerate() {
+            self.bales[i] = lot.bales as u32;
+            self.sessions[i] = lot.session as u16;
+            self.above[i] = lot.above as u16;
+            for (j, &gain) in tables.gains[i].iter().enumerate() {
+                self.gains[entry(i + 1, j + 1)] = gain as i32;
+            }
+        }
+        for (i, &mark) in tables.loaded_marks.iter().enumerate() {
+            self.loaded_marks[i] = mark as u16;
+        }
+        for (i, buyer) in tables.buyers.iter().enumerate() {
+            self.first_places[i] = buyer.first_place as u16;
+            self.loaded_counts[i] = buyer.loaded_marks as u16;
+            self.present_counts[i] = buyer.present_marks as u16;
+            self.visited[i] = tables.visited[i] as u16;
+            for (j, &count) in tables.counts[i].iter().enumerate() {
+                self.counts[entry(i + 1, j + 1)] = count as u16;
+            }
+            let stretch = buyer.first_place..buyer.first_place + buyer.loaded_marks;
+            let free = &found.present_marks[stretch.clone()];
+            let mut present = free[..buyer.present_marks].to_vec();
+            present.sort_unstable();
+            let wanted = tables.present_marks[i].iter().map(|&mark| mark as u16);
+            if !wanted.eq(present) {
+                return None;
+            }
+            self.present_marks[stretch].copy_from_slice(free);
+        }
+        Some(end.report)
+    }
+
+    /// The first table that differs.
+    fn difference(&self, other: &Memory) -> Option<&'static str> {
+        let tables = [
+            ("output", self.output == other.output),
+            ("bales", self.bales == other.bales),
+            ("sessions", self.sessions == other.sessions),
+            ("lots above", self.above == other.above),
+            ("loaded marks", self.loaded_marks == other.loaded_marks),
+            ("present marks", self.present_marks == other.present_marks),
+            ("first places", self.first_places == other.first_places),
+            ("loaded counts", self.loaded_counts == other.loaded_counts),
+            (
+                "present counts",
+                self.present_counts == other.present_counts,
+            ),
+            ("counts", self.counts == other.counts),
+            ("gains", self.gains == other.gains),
+            ("visited", self.visited == other.visited),
         ];
-        if self.out[..] != sizes[..] {
-            return Some(format!("sizes {:?}, not {:?}", self.out, sizes));
-        }
-        for i in 0..self.bales.len() {
-            let found = (self.bales[i], self.sessions[i], self.aboves[i]);
-            let wanted = match catalogue.lots.get(i) {
-                Some(lot) => (lot.bales as u32, lot.session as u16, 0),
-                None => (FILL as u32, FILL, FILL),
-            };
-            if found != wanted {
-                return Some(format!("lot {}: {found:?}, not {wanted:?}", i + 1));
-            }
-        }
-        let mut first = 0;
-        for i in 0..self.firsts.len() {
-            let found = (self.firsts[i], self.loaded_sizes[i], self.present_sizes[i]);
-            let wanted = match catalogue.buyers.get(i) {
-                Some(buyer) => {
-                    let size = buyer.marks.len() as u16;
-                    let place = first;
-                    first += size;
-                    if u64::from(self.weights[i]) != buyer.weight {
-                        return Some(format!("buyer {}: weight {}", i + 1, self.weights[i]));
-                    }
-                    (place, size, size)
-                }
-                None => (FILL, FILL, FILL),
-            };
-            if found != wanted {
-                return Some(format!("buyer {}: {found:?}, not {wanted:?}", i + 1));
-            }
-        }
-        for i in 0..self.loaded.len() {
-            let wanted = marks.get(i).copied().unwrap_or(FILL);
-            if self.loaded[i] != wanted || self.present[i] != wanted {
-                return Some(format!("place {i} of the marks"));
-            }
-        }
-        sale.calls
-            .iter()
-            .enumerate()
-            .find(|(i, call)| self.calls[3 * i..3 * i + 3] != three(call))
-            .map(|(i, _)| format!("call {}", i + 1))
+        tables.iter().find(|(_, same)| !same).map(|&(name, _)| name)
     }
 }
 
-/// A call as three numbers: its letter's byte and its two numbers, 0 where it has none.
-fn three(call: &Call) -> [u32; 3] {
-    match *call {
-        Call::J { u, v } => [u32::from(b'J'), u as u32, v as u32],
-        Call::S => [u32::from(b'S'), 0, 0],
-        Call::M { u, t } => [u32::from(b'M'), u as u32, t as u32],
-        Call::B => [u32::from(b'B'), 0, 0],
-        Call::W { u, v } => [u32::from(b'W'), u as u32, v as u32],
-        Call::P => [u32::from(b'P'), 0, 0],
-        Call::A => [u32::from(b'A'), 0, 0],
+/// Runs a file on memory of random bytes and compares all with the reference: the return, or what
+/// differs.
+pub fn compare(file: &[u8], random: &mut Random) -> Result<u32, String> {
+    let before = Memory::noise(random);
+    let mut found = before.clone();
+    let outcome = found.run(file);
+
+    let mut wanted = before;
+    let (code, text) = match parse(file) {
+        Ok(sale) => {
+            let text = wanted.finish(&sale, &found);
+            (0, text.ok_or("the sets of present marks")?)
+        }
+        Err(refusal) => {
+            // The tables are free then; the output is not.
+            let output = wanted.output;
+            wanted = found.clone();
+            wanted.output = output;
+            (refusal.number, report::refused_file(&refusal).into_bytes())
+        }
+    };
+    let written = text.len();
+    if outcome != (Outcome { code, written }) {
+        return Err(format!("{outcome:?}, not {code} and {written}"));
+    }
+    wanted.output[..written].copy_from_slice(&text);
+    match found.difference(&wanted) {
+        Some(table) => Err(table.into()),
+        None => Ok(code),
     }
 }
 

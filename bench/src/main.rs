@@ -1,0 +1,79 @@
+//! Measures the engine and the tuned splitter by turns on each workload, prints the medians with
+//! their ratio, and draws the ratios into `bench/ratios.svg`.
+
+use std::hint::black_box;
+use std::time::Instant;
+
+use bench::plot::{bars, LIMIT};
+use bench::tuned::Splitter;
+use bench::workloads::{workloads, Workload};
+use kapokdrill::Memory;
+
+/// Samples of each of the two, and the least time that one takes.
+const SAMPLES: usize = 9;
+const SAMPLE_SECONDS: f64 = 0.02;
+
+/// Seconds for each of `times` runs.
+fn seconds(times: usize, mut work: impl FnMut()) -> f64 {
+    let start = Instant::now();
+    for _ in 0..times {
+        work();
+    }
+    start.elapsed().as_secs_f64() / times as f64
+}
+
+/// How many runs fill a sample.
+fn repeats(work: impl FnMut()) -> usize {
+    (SAMPLE_SECONDS / seconds(1, work)).ceil() as usize
+}
+
+fn median(mut samples: Vec<f64>) -> f64 {
+    samples.sort_by(f64::total_cmp);
+    samples[samples.len() / 2]
+}
+
+/// The medians of the engine and of the tuned splitter, in seconds.
+fn measure(workload: &Workload, memory: &mut Memory, splitter: &mut Splitter) -> (f64, f64) {
+    let file = &workload.file;
+    let wanted = splitter.run(file);
+    assert_eq!(wanted.0, 0, "{}: turned down", workload.name);
+    assert!(memory.run(file) == wanted, "{}: two reports", workload.name);
+    let mut engine_runs = || {
+        black_box(memory.run(black_box(file)));
+    };
+    let mut tuned_runs = || {
+        black_box(splitter.run(black_box(file)));
+    };
+    let (of_engine, of_tuned) = (repeats(&mut engine_runs), repeats(&mut tuned_runs));
+    let (mut engine, mut tuned) = (Vec::new(), Vec::new());
+    for _ in 0..SAMPLES {
+        engine.push(seconds(of_engine, &mut engine_runs));
+        tuned.push(seconds(of_tuned, &mut tuned_runs));
+    }
+    (median(engine), median(tuned))
+}
+
+fn main() -> std::io::Result<()> {
+    let mut memory = Memory::default();
+    let mut splitter = Splitter::default();
+    let mut ratios = Vec::new();
+    let workloads = workloads();
+    println!("workload                           engine ms   tuned ms   ratio");
+    for workload in &workloads {
+        let (engine, tuned) = measure(workload, &mut memory, &mut splitter);
+        let ratio = engine / tuned;
+        let (engine, tuned) = (engine * 1e3, tuned * 1e3);
+        println!(
+            "{:<33} {engine:>10.3} {tuned:>10.3} {ratio:>7.2}",
+            workload.name
+        );
+        ratios.push((workload.name, ratio));
+    }
+    let over = ratios.iter().filter(|&&(_, ratio)| ratio > LIMIT).count();
+    println!("{over} of {} above {LIMIT}", ratios.len());
+    println!("medians of {SAMPLES} samples by turns; neither's memory was cleared between runs");
+    std::fs::write(
+        concat!(env!("CARGO_MANIFEST_DIR"), "/ratios.svg"),
+        bars(&ratios),
+    )
+}

@@ -1,0 +1,60 @@
+//! The sales that are measured: seeded, so that every run has the same ones. Drafts go round the
+//! sessions in turn; marks, bales and weights are random.
+
+use reference::catalogue::{Buyer, Lot};
+use reference::generator::{calls, write_sale, Random};
+use reference::{Call, Catalogue, Sale};
+
+pub struct Workload {
+    pub name: &'static str,
+    pub file: Vec<u8>,
+}
+
+/// A catalogue of `buyers` lists of `marks` marks.
+fn catalogue(lots: usize, buyers: usize, marks: usize, sessions: usize) -> Catalogue {
+    let mut random = Random::new((lots * buyers + marks * sessions) as u64);
+    Catalogue {
+        sessions,
+        slack: 100,
+        lots: (0..lots)
+            .map(|place| Lot {
+                bales: random.between(1, 9),
+                session: place % sessions + 1,
+            })
+            .collect(),
+        buyers: (0..buyers)
+            .map(|_| Buyer {
+                weight: random.between(1, 10),
+                marks: random.some_lots(lots, marks),
+            })
+            .collect(),
+    }
+}
+
+fn workload(name: &'static str, catalogue: Catalogue, calls: Vec<Call>) -> Workload {
+    let file = write_sale(&Sale { catalogue, calls });
+    Workload { name, file }
+}
+
+pub fn workloads() -> Vec<Workload> {
+    let mixed = catalogue(256, 256, 8, 4);
+    let list = calls(1, &mixed, 512);
+    let cycle = || vec![Call::A];
+    vec![
+        workload("A, 1,024 lists of 8", catalogue(1024, 1024, 8, 4), cycle()),
+        workload("A, 128 lists of 64", catalogue(1024, 128, 64, 4), cycle()),
+        workload("A, 32 lists of 256", catalogue(1024, 32, 256, 4), cycle()),
+        workload("A, 8 lists of 1,024", catalogue(1024, 8, 1024, 4), cycle()),
+        workload(
+            "A, 16 sessions, 1,024 lists of 8",
+            catalogue(1024, 1024, 8, 16),
+            cycle(),
+        ),
+        workload("512 mixed calls, 256 lots", mixed, list),
+        workload(
+            "loading, 1,024 lists of 8",
+            catalogue(1024, 1024, 8, 4),
+            vec![],
+        ),
+    ]
+}

@@ -1,0 +1,75 @@
+/* The proved splitter as a C function: a sale file in, its report and its tables out.
+ * Link target/staticlib/libengine.a, which `rt staticlib engine` writes.
+ *
+ * The function keeps nothing between calls, so calls on different memory may run at the same time.
+ * Beside what it is lent it needs some hundreds of kilobytes of stack and no heap. Lent memory needs
+ * no clearing beforehand. */
+#ifndef KAPOKDRILL_H
+#define KAPOKDRILL_H
+
+#include <stddef.h>
+#include <stdint.h>
+
+#ifdef __cplusplus
+extern "C" {
+#endif
+
+/* Entries that each piece of lent memory must have at least. */
+#define KAPOKDRILL_OUTPUT 60000
+#define KAPOKDRILL_LOTS 1024
+#define KAPOKDRILL_BUYERS 1024
+#define KAPOKDRILL_MARKS 8192
+#define KAPOKDRILL_COUNTS 16384
+#define KAPOKDRILL_GAINS 16384
+
+typedef struct {
+    /* 0, or the number under which the file was turned down:
+     *   1 over 60,000 bytes         5 the 8,193rd mark
+     *   2 badly written             6 a session of the draft above its cap
+     *   3 a field out of range      7 the 513th call line
+     *   4 a lot twice with a buyer  8 lent memory shorter than above */
+    uint32_t code;
+    /* The bytes of `output` that hold the report: 0 under 8, one line `NO,number,line` under 1 to 7. */
+    size_t written;
+} kapokdrill_result;
+
+/* Reads a sale file, runs its calls and writes the report.
+ *
+ * Each pointer is followed by the number of entries (not bytes) that it may use; pieces of lent
+ * memory must not overlap. A pointer must not be null, even with 0 entries.
+ *
+ * Lots, buyers and sessions count from 1. Under 0 the tables hold the sale as the calls left it:
+ * a lot's entries are at number - 1, a buyer's likewise, and those of counts and gains at
+ * 16 * (number - 1) + session - 1. Entries that the sale has no use for, and output past the
+ * report, keep what they held. Under 1 to 7 the tables hold nothing of use; under 8 nothing is
+ * touched. */
+kapokdrill_result kapokdrill_run(
+    const uint8_t *file, size_t file_length,
+    uint8_t *output, size_t output_length,
+    /* A lot's bales, with those of the lots joined into it; off the board, what it had when joined. */
+    uint32_t *bales, size_t bales_length,
+    /* A lot's session; 0 off the board. */
+    uint16_t *sessions, size_t sessions_length,
+    /* The lot that this one was joined into; 0 on the board. */
+    uint16_t *above, size_t above_length,
+    /* All marks, buyer by buyer, in the file's order. */
+    uint16_t *loaded_marks, size_t loaded_marks_length,
+    /* The marks as they stand, each buyer's at the front of the stretch it was loaded into. */
+    uint16_t *present_marks, size_t present_marks_length,
+    /* Where a buyer's stretch begins in both tables of marks, from 0. */
+    uint16_t *first_places, size_t first_places_length,
+    /* How many marks a buyer has in each of the two. */
+    uint16_t *loaded_counts, size_t loaded_counts_length,
+    uint16_t *present_counts, size_t present_counts_length,
+    /* How many present marks a buyer has in a session. */
+    uint16_t *counts, size_t counts_length,
+    /* By how much the total falls if the lot goes to the session; 0 at its own and off the board. */
+    int32_t *gains, size_t gains_length,
+    /* The sessions that a buyer visits: session s is bit s - 1 from the lowest. */
+    uint16_t *visited, size_t visited_length);
+
+#ifdef __cplusplus
+}
+#endif
+
+#endif

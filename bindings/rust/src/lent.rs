@@ -1,0 +1,104 @@
+//! The engine over memory of the caller's. Every slice crosses with its own length, and the
+//! engine tests the lengths, so no call of this function can be wrong.
+
+/// Bytes that the output must have.
+pub const OUTPUT: usize = 60_000;
+/// Entries of a table by lot or by buyer.
+pub const LOTS: usize = 1_024;
+/// Entries of a table of marks.
+pub const MARKS: usize = 8_192;
+/// Entries of the tables of counts and gains.
+pub const ROWS: usize = 16_384;
+
+/// What the engine is lent. A slice shorter than it must be gives 8.
+pub struct Lent<'a> {
+    pub output: &'a mut [u8],
+    pub bales: &'a mut [u32],
+    pub sessions: &'a mut [u16],
+    pub above: &'a mut [u16],
+    pub loaded_marks: &'a mut [u16],
+    pub present_marks: &'a mut [u16],
+    pub first_places: &'a mut [u16],
+    pub loaded_counts: &'a mut [u16],
+    pub present_counts: &'a mut [u16],
+    pub counts: &'a mut [u16],
+    pub gains: &'a mut [i32],
+    pub visited: &'a mut [u16],
+}
+
+/// 0 or the refusal's number of 1 to 8, and how many bytes of the output hold the report.
+#[repr(C)]
+#[derive(Clone, Copy, Debug, PartialEq, Eq)]
+pub struct Outcome {
+    pub code: u32,
+    pub written: usize,
+}
+
+// A slice is passed as its pointer and its number of entries; `bindings/kapokdrill.h` says the
+// same for C.
+extern "C" {
+    fn kapokdrill_run(
+        file: *const u8,
+        file_length: usize,
+        output: *mut u8,
+        output_length: usize,
+        bales: *mut u32,
+        bales_length: usize,
+        sessions: *mut u16,
+        sessions_length: usize,
+        above: *mut u16,
+        above_length: usize,
+        loaded_marks: *mut u16,
+        loaded_marks_length: usize,
+        present_marks: *mut u16,
+        present_marks_length: usize,
+        first_places: *mut u16,
+        first_places_length: usize,
+        loaded_counts: *mut u16,
+        loaded_counts_length: usize,
+        present_counts: *mut u16,
+        present_counts_length: usize,
+        counts: *mut u16,
+        counts_length: usize,
+        gains: *mut i32,
+        gains_length: usize,
+        visited: *mut u16,
+        visited_length: usize,
+    ) -> Outcome;
+}
+
+/// Reads a sale file, runs its calls and writes the report, on slices of any length.
+pub fn run(file: &[u8], lent: Lent<'_>) -> Outcome {
+    // SAFETY: each pointer with its length is a slice that lives through the call, and the
+    // `&mut` ones overlap nothing.
+    unsafe {
+        kapokdrill_run(
+            file.as_ptr(),
+            file.len(),
+            lent.output.as_mut_ptr(),
+            lent.output.len(),
+            lent.bales.as_mut_ptr(),
+            lent.bales.len(),
+            lent.sessions.as_mut_ptr(),
+            lent.sessions.len(),
+            lent.above.as_mut_ptr(),
+            lent.above.len(),
+            lent.loaded_marks.as_mut_ptr(),
+            lent.loaded_marks.len(),
+            lent.present_marks.as_mut_ptr(),
+            lent.present_marks.len(),
+            lent.first_places.as_mut_ptr(),
+            lent.first_places.len(),
+            lent.loaded_counts.as_mut_ptr(),
+            lent.loaded_counts.len(),
+            lent.present_counts.as_mut_ptr(),
+            lent.present_counts.len(),
+            lent.counts.as_mut_ptr(),
+            lent.counts.len(),
+            lent.gains.as_mut_ptr(),
+            lent.gains.len(),
+            lent.visited.as_mut_ptr(),
+            lent.visited.len(),
+        )
+    }
+}

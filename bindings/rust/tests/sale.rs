@@ -1,0 +1,72 @@
+//! The worked sale of document 01 through the bindings: its report from the example's program,
+//! and its tables through `Memory`.
+
+use kapokdrill::{entry, Memory};
+use std::io::Write;
+use std::path::Path;
+use std::process::{Command, Stdio};
+
+fn on_file(name: &str) -> Vec<u8> {
+    let folder = Path::new(env!("CARGO_MANIFEST_DIR")).join("../../sales");
+    std::fs::read(folder.join(name)).expect("the sale is on file")
+}
+
+/// The example as cargo builds it before the tests run: beside the folder of the test programs.
+fn example() -> Command {
+    let test = std::env::current_exe().expect("the test is a program");
+    let folder = test.parent().and_then(Path::parent).expect("a folder");
+    Command::new(folder.join("examples/sale"))
+}
+
+#[test]
+fn the_example_prints_the_worked_sale() {
+    let mut child = example()
+        .stdin(Stdio::piped())
+        .stdout(Stdio::piped())
+        .spawn()
+        .expect("the example starts");
+    let mut input = child.stdin.take().expect("the input is a pipe");
+    input
+        .write_all(&on_file("worked-sale.sale"))
+        .expect("the example reads its input");
+    drop(input);
+    let end = child.wait_with_output().expect("the example ends");
+    assert_eq!(end.status.code(), Some(0));
+    assert_eq!(end.stdout, on_file("worked-sale.report"));
+}
+
+#[test]
+fn a_file_turned_down_gives_its_number() {
+    let mut memory = Memory::default();
+    assert_eq!(memory.run(b""), (2, &b"NO,2,1\n"[..]));
+}
+
+#[test]
+fn tables_of_the_worked_sale_with_one_join() {
+    let file = b"SALE,5,3,2,200\nLOT,10,1\nLOT,10,1\nLOT,10,2\nLOT,10,2\nLOT,10,1\n\
+                 BUY,3,1,3\nBUY,2,2,5\nBUY,1,3,4\nJ,2,5\n";
+    let mut memory = Memory::default();
+    assert_eq!(memory.run(file).0, 0);
+    assert_eq!(memory.bales()[..5], [10, 20, 10, 10, 10]);
+    assert_eq!(memory.sessions()[..5], [1, 1, 2, 2, 0]);
+    assert_eq!(memory.above()[..5], [0, 0, 0, 0, 2]);
+    assert_eq!(memory.first_places()[..3], [0, 2, 4]);
+    assert_eq!(memory.loaded_counts()[..3], [2, 2, 2]);
+    assert_eq!(memory.present_counts()[..3], [2, 1, 2]);
+    assert_eq!(memory.loaded_marks(2), [2, 5]);
+    assert_eq!(memory.present_marks(2), [2]);
+    assert_eq!(memory.counts()[entry(3, 2)], 2);
+    assert_eq!(memory.gains()[entry(1, 2)], 3);
+    assert_eq!(memory.gains()[entry(4, 1)], -1);
+    assert_eq!(memory.visited()[..3], [0b11, 0b01, 0b10]);
+}
+
+#[test]
+fn numbers_that_name_no_buyer_have_no_marks() {
+    let mut memory = Memory::default();
+    memory.run(&on_file("worked-sale.sale"));
+    for buyer in [0, 1_025, usize::MAX] {
+        assert_eq!(memory.loaded_marks(buyer).len(), 0);
+        assert_eq!(memory.present_marks(buyer).len(), 0);
+    }
+}

@@ -1,0 +1,167 @@
+//! The proved engine against the reference on sales on file, generated ones, damaged ones and
+//! random bytes; then on short memory. The environment's SEED, a number, gives other sales than
+//! the usual ones.
+
+use compare::{compare, sales_on_file, Memory};
+use kapokdrill::lent::{Outcome, LOTS, MARKS, OUTPUT, ROWS};
+use reference::catalogue::{Buyer, Lot};
+use reference::generator::{calls, damaged, sale, sale_of_kind, write_sale, Kind, Random};
+use reference::{Catalogue, Sale};
+
+fn seed() -> u64 {
+    match std::env::var("SEED") {
+        Ok(text) => text.parse().expect("SEED is a number"),
+        Err(_) => 0,
+    }
+}
+
+/// Compares `count` files, each made from a seed of its own; how many had each return.
+fn all_agree(name: &str, count: u64, make: impl Fn(u64) -> Vec<u8>) -> [u64; 8] {
+    let mut returns = [0; 8];
+    let first = seed() * 1_000_000;
+    for seed in first..first + count {
+        match compare(&make(seed), &mut Random::new(seed)) {
+            Ok(code) => returns[code as usize] += 1,
+            Err(what) => panic!("{name}, seed {seed}: {what}"),
+        }
+    }
+    returns
+}
+
+#[test]
+fn sales_on_file_agree() {
+    let sales = sales_on_file();
+    assert!(sales.len() >= 150);
+    let mut random = Random::new(seed());
+    for (name, file) in &sales {
+        if let Err(what) = compare(file, &mut random) {
+            panic!("{name}: {what}");
+        }
+    }
+}
+
+#[test]
+fn generated_sales_agree() {
+    let returns = all_agree("sale", 20_000, sale);
+    assert_eq!(returns[0], 20_000);
+}
+
+#[test]
+fn damaged_sales_agree() {
+    let returns = all_agree("damaged", 10_000, damaged);
+    assert!(returns[0] > 100);
+    for code in [1, 2, 3, 4, 6, 7] {
+        assert!(returns[code] > 0, "no damaged file gave {code}");
+    }
+}
+
+/// Up to 300 bytes, of all values or of those that sale files are made of.
+fn random_bytes(seed: u64) -> Vec<u8> {
+    let mut random = Random::new(seed);
+    let any = random.in_hundred(30);
+    let length = random.between(0, 300);
+    (0..length)
+        .map(|_| {
+            if any {
+                random.bits() as u8
+            } else {
+                *random.pick(b"SALEOTBUYJMWP,,,,0123456789\n\n\n")
+            }
+        })
+        .collect()
+}
+
+#[test]
+fn random_bytes_agree() {
+    let returns = all_agree("bytes", 3_000, random_bytes);
+    assert_eq!(returns[2], 3_000);
+}
+
+#[test]
+fn large_sales_agree() {
+    let returns = all_agree("large", 12, |seed| sale_of_kind(seed, Kind::Large));
+    assert_eq!(returns[0], 12);
+}
+
+/// A sale of `buyers` lists of `marks` marks with `count` calls of every sort.
+fn long_list(seed: u64, lots: usize, buyers: usize, marks: usize, count: usize) -> Vec<u8> {
+    let mut random = Random::new(seed);
+    let sessions = random.between(2, 16) as usize;
+    let mut catalogue = Catalogue {
+        sessions,
+        slack: random.between(50, 1_000),
+        lots: Vec::new(),
+        buyers: Vec::new(),
+    };
+    for number in 0..lots {
+        catalogue.lots.push(Lot {
+            bales: 10,
+            session: number % sessions + 1,
+        });
+    }
+    for _ in 0..buyers {
+        catalogue.buyers.push(Buyer {
+            weight: random.between(1, 1_000),
+            marks: random.some_lots(lots, marks),
+        });
+    }
+    let calls = calls(seed, &catalogue, count);
+    write_sale(&Sale { catalogue, calls })
+}
+
+#[test]
+fn long_lists_of_calls_agree() {
+    let returns = all_agree("512 calls", 6, |seed| long_list(seed, 80, 60, 6, 512));
+    assert_eq!(returns[0], 6);
+}
+
+#[test]
+fn full_tables_agree() {
+    let returns = all_agree("full", 2, |seed| long_list(seed, 1_024, 1_024, 8, 6));
+    assert_eq!(returns[0], 2);
+    let returns = all_agree("broad", 2, |seed| long_list(seed, 1_024, 8, 1_024, 6));
+    assert_eq!(returns[0], 2);
+}
+
+/// The entries that a piece of lent memory must have, and how it is cut to fewer.
+type Cut = (usize, fn(&mut Memory, usize));
+
+#[test]
+fn short_memory_is_told_first_and_nothing_is_touched() {
+    let cuts: [Cut; 12] = [
+        (OUTPUT, |memory, length| memory.output.truncate(length)),
+        (LOTS, |memory, length| memory.bales.truncate(length)),
+        (LOTS, |memory, length| memory.sessions.truncate(length)),
+        (LOTS, |memory, length| memory.above.truncate(length)),
+        (MARKS, |memory, length| memory.loaded_marks.truncate(length)),
+        (MARKS, |memory, length| {
+            memory.present_marks.truncate(length)
+        }),
+        (LOTS, |memory, length| memory.first_places.truncate(length)),
+        (LOTS, |memory, length| memory.loaded_counts.truncate(length)),
+        (LOTS, |memory, length| {
+            memory.present_counts.truncate(length)
+        }),
+        (ROWS, |memory, length| memory.counts.truncate(length)),
+        (ROWS, |memory, length| memory.gains.truncate(length)),
+        (LOTS, |memory, length| memory.visited.truncate(length)),
+    ];
+    let accepted: &[u8] = b"SALE,1,0,2,1000\nLOT,7,1\n";
+    let too_long = [b'\n'; 60_001];
+    let mut random = Random::new(seed());
+    for (length, cut) in cuts {
+        for short in [length - 1, 0] {
+            for file in [accepted, b"", &too_long] {
+                let mut memory = Memory::noise(&mut random);
+                cut(&mut memory, short);
+                let before = memory.clone();
+                let told = Outcome {
+                    code: 8,
+                    written: 0,
+                };
+                assert_eq!(memory.run(file), told);
+                assert!(memory == before, "8 touched something");
+            }
+        }
+    }
+}
