@@ -12,8 +12,6 @@ use Rattle.records.specs.declared.Lot.{Lot}
 use Rattle.records.specs.Fields.{blank, balesOf, sessionsOf, abovesOf}
 use Rattle.records.proofs.gather.Statement.{statement}
 use Rattle.records.proofs.gather.Tie as tie
-use Rattle.records.proofs.gather.Reads as reads
-use Rattle.records.proofs.gather.Lts as lts
 
 abbrev Made : List ℕ → List ℕ → List ℕ → List Lot → ℕ → Type 0
 Made weights blocks aboves lots k = getD lots k blank ≡ record { bales = getD weights k 0; session = getD blocks k 0; above = getD aboves k 0 }
