@@ -78,28 +78,36 @@ same-long limits output weights blocks aboves weights′ blocks′ aboves′ t w
     alike : (l l′ : List ℕ) → limits .vertexLimit ≤ length l → limits .vertexLimit ≤ length l′ → leb (limits .vertexLimit) (length l) ≡ leb (limits .vertexLimit) (length l′)
     alike l l′ h h′ = le-leb _ _ h ∙ sym (le-leb _ _ h′)
 
-module _ (limits : Limits) (file : List ℕ) (output output′ weights blocks aboves : List ℕ) (t t′ : Tables) (new old : List Lot) (n code written : ℕ)
-    (weights-long : limits .vertexLimit ≤ length weights) (blocks-long : limits .vertexLimit ≤ length blocks) (aboves-long : limits .vertexLimit ≤ length aboves) (old-long : limits .vertexLimit ≤ length old) (few : n ≤ limits .vertexLimit) where
+-- the engine worked on three tables, whose records `new` are; the first n of these are written over `old`
+module _ (limits : Limits) (file output output′ weights blocks aboves weights′ blocks′ aboves′ : List ℕ) (t t′ : Tables) (new old : List Lot) (n code written : ℕ)
+    (weights-long : limits .vertexLimit ≤ length weights) (blocks-long : limits .vertexLimit ≤ length blocks) (aboves-long : limits .vertexLimit ≤ length aboves) (old-long : limits .vertexLimit ≤ length old)
+    (few : n ≤ limits .vertexLimit) (gathered : (balesOf new ≡ weights′) × (sessionsOf new ≡ blocks′) × (abovesOf new ≡ aboves′)) where
   abbrev own : Memory
   own = inTables output weights blocks aboves t
+
+  abbrev own′ : Memory
+  own′ = inTables output′ weights′ blocks′ aboves′ t′
 
   abbrev lent : Memory
   lent = inRecords output old t
 
-  abbrev left : Memory
-  left = inRecords output′ (over n new old) t′
+  abbrev lent′ : Memory
+  lent′ = inRecords output′ (over n new old) t′
 
   long : (f : Lot → ℕ) → limits .vertexLimit ≤ length (map f old)
   long f = omega (arith, old-long, length-map old f)
 
-  column : (f : Lot → ℕ) (before : List ℕ) (value : ℕ → ℕ) (m : ℕ) → n ≡ m → limits .vertexLimit ≤ length before → Column m value before (map f new) → Column m value (map f old) (map f (over n new old))
-  column f before value m e l c = subst (λ (k : ℕ). Column k value before (map f new) → Column k value (map f old) (map f (over n new old))) e (over-column f n value before new old (omega (arith, few, l)) (omega (arith, few, old-long))) c
+  column : (f : Lot → ℕ) (before after : List ℕ) (value : ℕ → ℕ) (m : ℕ) → n ≡ m → limits .vertexLimit ≤ length before → map f new ≡ after → Column m value before after → Column m value (map f old) (map f (over n new old))
+  column f before after value m e l same c =
+      subst (λ (k : ℕ). Column k value before (map f new) → Column k value (map f old) (map f (over n new old))) e
+      (over-column f n value before new old (omega (arith, few, l)) (omega (arith, few, old-long)))
+      (subst (Column m value before) (sym same) c)
 
-  holds : (h : Hypergraph) (s : State) → n ≡ vertices h → Holds h s (own .tables) (inRecords output′ new t′ .tables) → Holds h s (lent .tables) (left .tables)
+  holds : (h : Hypergraph) (s : State) → n ≡ vertices h → Holds h s (own .tables) (own′ .tables) → Holds h s (lent .tables) (lent′ .tables)
   holds h s e held = record {
-    weights = column (λ (l : Lot). l .bales) weights (weightEntry h (s .stack) (s .block)) (vertices h) e weights-long (held .weights);
-    blocks = column (λ (l : Lot). l .session) blocks (blockEntry h (s .stack) (s .block)) (vertices h) e blocks-long (held .blocks);
-    aboves = column (λ (l : Lot). l .above) aboves (above (s .stack)) (vertices h) e aboves-long (held .aboves);
+    weights = column (λ (l : Lot). l .bales) weights weights′ (weightEntry h (s .stack) (s .block)) (vertices h) e weights-long (gathered .0) (held .weights);
+    blocks = column (λ (l : Lot). l .session) blocks blocks′ (blockEntry h (s .stack) (s .block)) (vertices h) e blocks-long (gathered .1) (held .blocks);
+    aboves = column (λ (l : Lot). l .above) aboves aboves′ (above (s .stack)) (vertices h) e aboves-long (gathered .2) (held .aboves);
     loadedPins = held .loadedPins;
     presentPins = held .presentPins;
     firsts = held .firsts;
@@ -110,12 +118,12 @@ module _ (limits : Limits) (file : List ℕ) (output output′ weights blocks ab
     visited = held .visited;
   }
 
-  tables-left : (r : Reading) → n ≡ lotsWritten true r → TablesLeft r (own .tables) (inRecords output′ new t′ .tables) → TablesLeft r (lent .tables) (left .tables)
+  tables-left : (r : Reading) → n ≡ lotsWritten true r → TablesLeft r (own .tables) (own′ .tables) → TablesLeft r (lent .tables) (lent′ .tables)
   tables-left (reading k) e held = holds (k .graph) (after (k .graph) (fresh (k .graph)) (k .calls)) e held
   tables-left (stopped q l) e held = tt
   tables-left unread e held = tt
 
-  served : (long : Bool) (r : Reading) → n ≡ lotsWritten long r → Served long r own (inRecords output′ new t′) code written → Served long r lent left code written
+  served : (long : Bool) (r : Reading) → n ≡ lotsWritten long r → Served long r own own′ code written → Served long r lent lent′ code written
   served false r e s = record {
     code-is = s .code-is;
     nothing = s .nothing;
@@ -123,7 +131,9 @@ module _ (limits : Limits) (file : List ℕ) (output output′ weights blocks ab
   }
   served true r e s = record { code-is = s .code-is; output = s .output; tables = tables-left r e (s .tables) }
 
-  -- the engine's promise on its own tables, carried over to the lent records
-  pub serves-records : n ≡ lotsWritten (longMemory limits own) (parse limits file) → Serves limits file own (inRecords output′ new t′) code written → Serves limits file lent left code written
-  serves-records e s = subst (λ (b : Bool). Served b (parse limits file) lent left code written)
-      (same-long limits output weights blocks aboves _ _ _ t weights-long blocks-long aboves-long (long (λ (l : Lot). l .bales)) (long (λ (l : Lot). l .session)) (long (λ (l : Lot). l .above))) (served (longMemory limits own) (parse limits file) e s)
+  -- the engine's promise, carried over to the lent records
+  pub serves-records : n ≡ lotsWritten (longMemory limits own) (parse limits file) → Serves limits file own own′ code written → Serves limits file lent lent′ code written
+  serves-records e s =
+      subst (λ (b : Bool). Served b (parse limits file) lent lent′ code written)
+      (same-long limits output weights blocks aboves _ _ _ t weights-long blocks-long aboves-long (long (λ (l : Lot). l .bales)) (long (λ (l : Lot). l .session)) (long (λ (l : Lot). l .above)))
+      (served (longMemory limits own) (parse limits file) e s)
