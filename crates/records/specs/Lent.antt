@@ -1,0 +1,139 @@
+-- The engine's promise with the lots as records: it works on three tables of its own and the first records are then written, and that is model's `Serves` on the records'
+-- fields. Rests on Fields and on model's Memory. Assumes nothing.
+use Prim.Native.Nat.{ℕ, _*_, _<_, _≤_}
+use native.Mathlib.Nat.{lt-irrefl}
+use native.Mathlib.Omega.{arith}
+use mathlib.Core.Path.{_≡_, refl, sym, ap, subst, _∙_}
+use mathlib.Core.Bool.{Bool, true, false, _&&_}
+use mathlib.Core.List.{List, map}
+use borrow.Author.Tests.{leb-true, le-leb}
+use lib.Dec.{leb}
+use lib.ListN.{length, length-map}
+use Rattle.laws.specs.Choice.{and-left, and-right}
+use Rattle.model.specs.Catalogue.{Limits, Hypergraph, vertices}
+use Rattle.model.specs.Measure.{above}
+use Rattle.model.specs.Machine.{State, fresh}
+use Rattle.model.specs.Grammar.{Reading, unread, reading, stopped, parse}
+use Rattle.model.specs.Engine.{after}
+use Rattle.model.specs.Memory.{Tables, Memory, longLists, longTables, longMemory, Column, weightEntry, blockEntry, Holds, Served, Serves, TablesLeft}
+use Rattle.records.specs.declared.Lot.{Lot}
+use Rattle.records.specs.Over.{over}
+use Rattle.records.specs.Fields.{balesOf, sessionsOf, abovesOf, over-column}
+
+-- lent memory whose lots are three tables, and whose other tables are t's
+abbrev pub inTables : List ℕ → List ℕ → List ℕ → List ℕ → Tables → Memory
+inTables output weights blocks aboves t = record {
+  output = output;
+  tables = record {
+    weights = weights;
+    blocks = blocks;
+    aboves = aboves;
+    loadedPins = t .loadedPins;
+    presentPins = t .presentPins;
+    firsts = t .firsts;
+    loadedSizes = t .loadedSizes;
+    presentSizes = t .presentSizes;
+    counts = t .counts;
+    gains = t .gains;
+    visited = t .visited;
+  };
+}
+
+-- lent memory whose lots are records
+abbrev pub inRecords : List ℕ → List Lot → Tables → Memory
+inRecords output lots t = inTables output (balesOf lots) (sessionsOf lots) (abovesOf lots) t
+
+-- how many records are written: each lot's after an accepted file, and none where lent memory is short or the file is turned down
+abbrev pub lotsWritten : Bool → Reading → ℕ
+lotsWritten true (reading k) = vertices (k .graph)
+lotsWritten true (stopped q n) = 0
+lotsWritten true unread = 0
+lotsWritten false r = 0
+
+-- where lent memory is long, so is the lots' table
+long-lots : (limits : Limits) (m : Memory) → longMemory limits m ≡ true → limits .vertexLimit ≤ length (m .tables .weights)
+unfolding longMemory longTables
+long-lots limits m q = leb-true _ _ (and-left _ _ (and-left _ _ (and-left _ _ (and-left _ _ (and-left _ _ (and-left _ _ (and-right (leb 60000 (length (m .output))) _ q)))))))
+
+-- fewer records than the limit of lots: 8, and nothing is touched
+pub no-room : (limits : Limits) (file output : List ℕ) (lots : List Lot) (t : Tables) → length lots < limits .vertexLimit
+    → Serves limits file (inRecords output lots t) (inRecords output lots t) 8 0
+no-room limits file output lots t l = go (longMemory limits (inRecords output lots t)) refl
+  where
+    go : (long : Bool) → longMemory limits (inRecords output lots t) ≡ long → Served long (parse limits file) (inRecords output lots t) (inRecords output lots t) 8 0
+    go true q = absurd (lt-irrefl (length lots) (omega (arith, l, length-map lots (λ (x : Lot). x .bales), long-lots limits (inRecords output lots t) q)))
+    go false q = record { code-is = refl; nothing = refl; kept = refl }
+
+-- tables that differ in the lots' columns alone are long alike, where these are long
+same-long : (limits : Limits) (output weights blocks aboves weights′ blocks′ aboves′ : List ℕ) (t : Tables) → limits .vertexLimit ≤ length weights → limits .vertexLimit ≤ length blocks → limits .vertexLimit ≤ length aboves
+    → limits .vertexLimit ≤ length weights′ → limits .vertexLimit ≤ length blocks′ → limits .vertexLimit ≤ length aboves′
+    → longMemory limits (inTables output weights blocks aboves t) ≡ longMemory limits (inTables output weights′ blocks′ aboves′ t)
+unfolding longMemory longTables longLists
+same-long limits output weights blocks aboves weights′ blocks′ aboves′ t w b a w′ b′ a′ = λ i.
+    leb 60000 (length output)
+    && (alike weights weights′ w w′ i && alike blocks blocks′ b b′ i && alike aboves aboves′ a a′ i
+    && longLists t
+    && leb 16384 (length (t .counts)) && leb (16 * limits .vertexLimit) (length (t .gains)) && leb 1024 (length (t .visited)))
+  where
+    alike : (l l′ : List ℕ) → limits .vertexLimit ≤ length l → limits .vertexLimit ≤ length l′ → leb (limits .vertexLimit) (length l) ≡ leb (limits .vertexLimit) (length l′)
+    alike l l′ h h′ = le-leb _ _ h ∙ sym (le-leb _ _ h′)
+
+-- the engine worked on three tables, whose records `new` are; the first n of these are written over `old`
+module _ (limits : Limits) (file output output′ weights blocks aboves weights′ blocks′ aboves′ : List ℕ) (t t′ : Tables) (new old : List Lot) (n code written : ℕ)
+    (weights-long : limits .vertexLimit ≤ length weights) (blocks-long : limits .vertexLimit ≤ length blocks) (aboves-long : limits .vertexLimit ≤ length aboves) (old-long : limits .vertexLimit ≤ length old)
+    (few : n ≤ limits .vertexLimit) (gathered : (balesOf new ≡ weights′) × (sessionsOf new ≡ blocks′) × (abovesOf new ≡ aboves′)) where
+  abbrev own : Memory
+  own = inTables output weights blocks aboves t
+
+  abbrev own′ : Memory
+  own′ = inTables output′ weights′ blocks′ aboves′ t′
+
+  abbrev lent : Memory
+  lent = inRecords output old t
+
+  abbrev lent′ : Memory
+  lent′ = inRecords output′ (over n new old) t′
+
+  long : (f : Lot → ℕ) → limits .vertexLimit ≤ length (map f old)
+  long f = omega (arith, old-long, length-map old f)
+
+  column : (f : Lot → ℕ) (before after : List ℕ) (value : ℕ → ℕ) (m : ℕ) → n ≡ m → limits .vertexLimit ≤ length before → map f new ≡ after → Column m value before after → Column m value (map f old) (map f (over n new old))
+  column f before after value m e l same c =
+      subst (λ (k : ℕ). Column k value before (map f new) → Column k value (map f old) (map f (over n new old))) e
+      (over-column f n value before new old (omega (arith, few, l)) (omega (arith, few, old-long)))
+      (subst (Column m value before) (sym same) c)
+
+  holds : (h : Hypergraph) (s : State) → n ≡ vertices h → Holds h s (own .tables) (own′ .tables) → Holds h s (lent .tables) (lent′ .tables)
+  holds h s e held = record {
+    weights = column (λ (l : Lot). l .bales) weights weights′ (weightEntry h (s .stack) (s .block)) (vertices h) e weights-long (gathered .0) (held .weights);
+    blocks = column (λ (l : Lot). l .session) blocks blocks′ (blockEntry h (s .stack) (s .block)) (vertices h) e blocks-long (gathered .1) (held .blocks);
+    aboves = column (λ (l : Lot). l .above) aboves aboves′ (above (s .stack)) (vertices h) e aboves-long (gathered .2) (held .aboves);
+    loadedPins = held .loadedPins;
+    presentPins = held .presentPins;
+    firsts = held .firsts;
+    loadedSizes = held .loadedSizes;
+    presentSizes = held .presentSizes;
+    counts = held .counts;
+    gains = held .gains;
+    visited = held .visited;
+  }
+
+  tables-left : (r : Reading) → n ≡ lotsWritten true r → TablesLeft r (own .tables) (own′ .tables) → TablesLeft r (lent .tables) (lent′ .tables)
+  tables-left (reading k) e held = holds (k .graph) (after (k .graph) (fresh (k .graph)) (k .calls)) e held
+  tables-left (stopped q l) e held = tt
+  tables-left unread e held = tt
+
+  served : (long : Bool) (r : Reading) → n ≡ lotsWritten long r → Served long r own own′ code written → Served long r lent lent′ code written
+  served false r e s = record {
+    code-is = s .code-is;
+    nothing = s .nothing;
+    kept = ap (λ (k : ℕ). inRecords output′ (over k new old) t′) e ∙ ap (λ (m : Memory). inRecords (m .output) old (m .tables)) (s .kept);
+  }
+  served true r e s = record { code-is = s .code-is; output = s .output; tables = tables-left r e (s .tables) }
+
+  -- the engine's promise, carried over to the lent records
+  pub serves-records : n ≡ lotsWritten (longMemory limits own) (parse limits file) → Serves limits file own own′ code written → Serves limits file lent lent′ code written
+  serves-records e s =
+      subst (λ (b : Bool). Served b (parse limits file) lent lent′ code written)
+      (same-long limits output weights blocks aboves _ _ _ t weights-long blocks-long aboves-long (long (λ (l : Lot). l .bales)) (long (λ (l : Lot). l .session)) (long (λ (l : Lot). l .above)))
+      (served (longMemory limits own) (parse limits file) e s)
