@@ -24,7 +24,7 @@ pub struct Ran {
 }
 
 // The line of a refused file.
-fn refuse(output: &mut [u8], q: u8, line: usize) -> Ran
+pub fn refuse(output: &mut [u8], q: u8, line: usize) -> Ran
     requires { ⌜ (line ≤ 60001) × (length (row "NO" (digits q ∷ digits line ∷ [])) ≤ length (now output)) ⌝ }
     ensures { λ r. ⌜ (r .code ≡ q) × Wrote (now (output .entry)) (now (output .exit)) 0 (row "NO" (digits q ∷ digits line ∷ [])) (r .written) ⌝ }
 {

@@ -2,4 +2,5 @@
 pub mod closing;
 pub mod entry;
 pub mod lengths;
+pub mod listing;
 pub mod selling;
