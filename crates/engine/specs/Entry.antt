@@ -15,7 +15,7 @@ use Rattle.model.specs.Machine.{Call, fresh}
 use Rattle.model.specs.Grammar.{Reading, unread, reading, stopped, parse}
 use Rattle.model.specs.Report.{digits, row, closing}
 use Rattle.model.specs.Engine.{after, run, outcome, engine}
-use Rattle.model.specs.Memory.{Tables as Lent, Memory, Holds, longLists, longTables, longMemory, Written, TablesLeft, Worked, Untouched, Served, Serves}
+use Rattle.model.specs.Memory.{Tables as Lent, Memory, Holds, longLists, longTables, longMemory, Written, Worked, Served, Serves}
 use Rattle.guarantees.specs.Ranges.{accepted-book}
 use Rattle.guarantees.specs.Refusals.{refused-in, engine-fits}
 use Rattle.reader.specs.Seen.{callsOf}
@@ -29,7 +29,7 @@ use Rattle.report.specs.Wrote.{Wrote}
 use Rattle.report.specs.Closing.{ClosingFits}
 use Rattle.report.proofs.Laws.{wrote-length, wrote-append}
 use Rattle.steps.specs.Steps.{Two}
-use Rattle.engine.specs.Sale.{lent, Catalogued, Listed, CanSell, Sold}
+use Rattle.engine.specs.Sale.{lent, Catalogued, Listed, Sold}
 
 abbrev pub memory : List ℕ → Lent → Memory
 memory out t = record { output = out; tables = t }

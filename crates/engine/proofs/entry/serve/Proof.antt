@@ -3,10 +3,6 @@ use borrow.Author.Tests.{not-true, not-false}
 use Rattle.engine.specs.Entry.{long-is, too-short, served}
 use Rattle.engine.proofs.entry.serve.Statement.{statement}
 use Rattle.engine.proofs.entry.serve.Tie as tie
-use Rattle.engine.proofs.entry.serve.Reads as reads
-use Rattle.engine.proofs.entry.serve.Lts as lts
-use Rattle.engine.proofs.entry.work.Reads as work-reads
-use Rattle.engine.proofs.lengths.is_long.Reads as is-long-reads
 
 is-long-requires : tie.Need-is-long-requires
 is-long-requires c κs = search needs

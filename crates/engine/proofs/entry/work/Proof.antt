@@ -7,11 +7,6 @@ use Rattle.model.specs.Catalogue.{mainLimits}
 use Rattle.engine.specs.Entry.{catalogued, listed, worked, lots-read, small, line-fits, no-lots, turned-down}
 use Rattle.engine.proofs.entry.work.Statement.{statement}
 use Rattle.engine.proofs.entry.work.Tie as tie
-use Rattle.engine.proofs.entry.work.Reads as reads
-use Rattle.engine.proofs.entry.work.Lts as lts
-use Rattle.engine.proofs.closing.report_sale.Reads as report-sale-reads
-use Rattle.engine.proofs.entry.refuse.Reads as refuse-reads
-use Rattle.loader.proofs.load.Reads as load-reads
 
 slice-aggregate-load : tie.Need-slice-aggregate-load
 slice-aggregate-load c = search needs
