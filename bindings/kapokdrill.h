@@ -1,9 +1,10 @@
-/* The proved splitter as a C function: a sale file in, its report and its tables out.
- * Link target/staticlib/libengine.a, which `rt staticlib engine` writes.
+/* The proved splitter as C functions: a sale file in, its report and its tables out.
+ * Link target/staticlib/libengine.a (`rt staticlib engine` writes it) for kapokdrill_run, and
+ * target/staticlib/librecords.a (`rt staticlib records`) for kapokdrill_run_lots.
  *
- * The function keeps nothing between calls, so calls on different memory may run at the same time.
- * Beside what it is lent it needs some hundreds of kilobytes of stack and no heap. Lent memory needs
- * no clearing beforehand. */
+ * The functions keep nothing between calls, so calls on different memory may run at the same time.
+ * Beside what they are lent they need some hundreds of kilobytes of stack and no heap. Lent memory
+ * needs no clearing beforehand. */
 #ifndef KAPOKDRILL_H
 #define KAPOKDRILL_H
 
@@ -66,6 +67,27 @@ kapokdrill_result kapokdrill_run(
     /* By how much the total falls if the lot goes to the session; 0 at its own and off the board. */
     int32_t *gains, size_t gains_length,
     /* The sessions that a buyer visits: session s is bit s - 1 from the lowest. */
+    uint16_t *visited, size_t visited_length);
+
+/* A lot's record: what kapokdrill_run's tables of bales, sessions and lots above hold of a lot. */
+typedef struct {
+    uint32_t bales;
+    uint16_t session;
+    uint16_t above;
+} kapokdrill_lot;
+
+/* The same, with the lots as records; the record of a lot is at number - 1. */
+kapokdrill_result kapokdrill_run_lots(
+    const uint8_t *file, size_t file_length,
+    kapokdrill_lot *lots, size_t lots_length,
+    uint8_t *output, size_t output_length,
+    uint16_t *loaded_marks, size_t loaded_marks_length,
+    uint16_t *present_marks, size_t present_marks_length,
+    uint16_t *first_places, size_t first_places_length,
+    uint16_t *loaded_counts, size_t loaded_counts_length,
+    uint16_t *present_counts, size_t present_counts_length,
+    uint16_t *counts, size_t counts_length,
+    int32_t *gains, size_t gains_length,
     uint16_t *visited, size_t visited_length);
 
 #ifdef __cplusplus

@@ -1,15 +1,18 @@
 use std::path::Path;
 
-// Links target/staticlib/libengine.a, which `rt staticlib engine` wrote.
+// Links the archives that `rt staticlib engine` and `rt staticlib records` wrote to
+// target/staticlib: each exports one function.
 fn main() {
     let folder = Path::new(env!("CARGO_MANIFEST_DIR")).join("../../target/staticlib");
-    let archive = folder.join("libengine.a");
-    assert!(
-        archive.is_file(),
-        "{} is missing: run `rt staticlib engine`",
-        archive.display()
-    );
-    println!("cargo:rerun-if-changed={}", archive.display());
     println!("cargo:rustc-link-search=native={}", folder.display());
-    println!("cargo:rustc-link-lib=static=engine");
+    for library in ["engine", "records"] {
+        let archive = folder.join(format!("lib{library}.a"));
+        assert!(
+            archive.is_file(),
+            "{} is missing: run `rt staticlib {library}`",
+            archive.display()
+        );
+        println!("cargo:rerun-if-changed={}", archive.display());
+        println!("cargo:rustc-link-lib=static={library}");
+    }
 }

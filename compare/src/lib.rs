@@ -2,7 +2,7 @@
 //! lent table, those that must keep what they held included. Rests on the bindings for the engine
 //! and on the reference, which works every entry out afresh.
 
-use kapokdrill::lent::{self, Lent, Outcome, LOTS, MARKS, OUTPUT, ROWS};
+use kapokdrill::lent::{self, Lent, LentLots, Lot, Outcome, LOTS, MARKS, OUTPUT, ROWS};
 use reference::generator::Random;
 use reference::tables::entry;
 use reference::{parse, report, run_calls, Sale};
@@ -22,6 +22,13 @@ pub struct Memory {
     pub counts: Vec<u16>,
     pub gains: Vec<i32>,
     pub visited: Vec<u16>,
+}
+
+/// The engine's two entries: the lots as three tables, or as records.
+#[derive(Clone, Copy, Debug)]
+pub enum Entry {
+    Tables,
+    Records,
 }
 
 /// Random entries, and up to three more of them than there must be.
@@ -51,7 +58,14 @@ impl Memory {
     }
 
     /// Runs the engine on this memory.
-    pub fn run(&mut self, file: &[u8]) -> Outcome {
+    pub fn run(&mut self, through: Entry, file: &[u8]) -> Outcome {
+        match through {
+            Entry::Tables => self.run_tables(file),
+            Entry::Records => self.run_records(file),
+        }
+    }
+
+    fn run_tables(&mut self, file: &[u8]) -> Outcome {
         lent::run(
             file,
             Lent {
@@ -69,6 +83,40 @@ impl Memory {
                 visited: &mut self.visited,
             },
         )
+    }
+
+    /// As many records as the shortest of the lots' three tables has entries; they hold what the
+    /// tables hold, and what they hold at the end is put back.
+    fn run_records(&mut self, file: &[u8]) -> Outcome {
+        let entries = self.bales.iter().zip(&self.sessions).zip(&self.above);
+        let mut lots: Vec<Lot> = entries
+            .map(|((&bales, &session), &above)| Lot {
+                bales,
+                session,
+                above,
+            })
+            .collect();
+        let outcome = lent::run_lots(
+            file,
+            LentLots {
+                lots: &mut lots,
+                output: &mut self.output,
+                loaded_marks: &mut self.loaded_marks,
+                present_marks: &mut self.present_marks,
+                first_places: &mut self.first_places,
+                loaded_counts: &mut self.loaded_counts,
+                present_counts: &mut self.present_counts,
+                counts: &mut self.counts,
+                gains: &mut self.gains,
+                visited: &mut self.visited,
+            },
+        );
+        for (i, lot) in lots.iter().enumerate() {
+            self.bales[i] = lot.bales;
+            self.sessions[i] = lot.session;
+            self.above[i] = lot.above;
+        }
+        outcome
     }
 
     /// Puts in what the reference says that an accepted sale leaves; all else stays. What is free
@@ -132,12 +180,12 @@ impl Memory {
     }
 }
 
-/// Runs a file on memory of random bytes and compares all with the reference: the return, or what
+/// Runs a file on memory of random bytes through an entry and compares all with the reference: the return, or what
 /// differs.
-pub fn compare(file: &[u8], random: &mut Random) -> Result<u32, String> {
+pub fn compare(through: Entry, file: &[u8], random: &mut Random) -> Result<u32, String> {
     let before = Memory::noise(random);
     let mut found = before.clone();
-    let outcome = found.run(file);
+    let outcome = found.run(through, file);
 
     let mut wanted = before;
     let (code, text) = match parse(file) {

@@ -1,8 +1,9 @@
 //! The proved engine against the reference on sales on file, generated ones, damaged ones and
-//! random bytes; then on short memory. The environment's SEED, a number, gives other sales than
-//! the usual ones.
+//! random bytes; then on short memory. The lots are lent as tables, and as records with every sale
+//! on file and every fourth of the others. The environment's SEED, a number, gives other sales
+//! than the usual ones.
 
-use compare::{compare, sales_on_file, Memory};
+use compare::{compare, sales_on_file, Entry, Memory};
 use kapokdrill::lent::{Outcome, LOTS, MARKS, OUTPUT, ROWS};
 use reference::catalogue::{Buyer, Lot};
 use reference::generator::{calls, damaged, sale, sale_of_kind, write_sale, Kind, Random};
@@ -20,9 +21,14 @@ fn all_agree(name: &str, count: u64, make: impl Fn(u64) -> Vec<u8>) -> [u64; 8] 
     let mut returns = [0; 8];
     let first = seed() * 1_000_000;
     for seed in first..first + count {
-        match compare(&make(seed), &mut Random::new(seed)) {
-            Ok(code) => returns[code as usize] += 1,
-            Err(what) => panic!("{name}, seed {seed}: {what}"),
+        let file = make(seed);
+        let agrees = |through| match compare(through, &file, &mut Random::new(seed)) {
+            Ok(code) => code as usize,
+            Err(what) => panic!("{name}, seed {seed}, {through:?}: {what}"),
+        };
+        returns[agrees(Entry::Tables)] += 1;
+        if seed % 4 == 0 {
+            agrees(Entry::Records);
         }
     }
     returns
@@ -34,8 +40,10 @@ fn sales_on_file_agree() {
     assert!(sales.len() >= 150);
     let mut random = Random::new(seed());
     for (name, file) in &sales {
-        if let Err(what) = compare(file, &mut random) {
-            panic!("{name}: {what}");
+        for through in [Entry::Tables, Entry::Records] {
+            if let Err(what) = compare(through, file, &mut random) {
+                panic!("{name}, {through:?}: {what}");
+            }
         }
     }
 }
@@ -149,18 +157,20 @@ fn short_memory_is_told_first_and_nothing_is_touched() {
     let accepted: &[u8] = b"SALE,1,0,2,1000\nLOT,7,1\n";
     let too_long = [b'\n'; 60_001];
     let mut random = Random::new(seed());
+    let told = Outcome {
+        code: 8,
+        written: 0,
+    };
     for (length, cut) in cuts {
         for short in [length - 1, 0] {
             for file in [accepted, b"", &too_long] {
                 let mut memory = Memory::noise(&mut random);
                 cut(&mut memory, short);
                 let before = memory.clone();
-                let told = Outcome {
-                    code: 8,
-                    written: 0,
-                };
-                assert_eq!(memory.run(file), told);
-                assert!(memory == before, "8 touched something");
+                for through in [Entry::Tables, Entry::Records] {
+                    assert_eq!(memory.run(through, file), told);
+                    assert!(memory == before, "8 touched something");
+                }
             }
         }
     }

@@ -1,5 +1,6 @@
-//! The engine over memory of the caller's. Every slice crosses with its own length, and the
-//! engine tests the lengths, so no call of this function can be wrong.
+//! The engine over memory of the caller's, the lots as three tables (`run`) or as records
+//! (`run_lots`). Every slice crosses with its own length, and the engine tests the lengths, so no
+//! call of these functions can be wrong.
 
 /// Bytes that the output must have.
 pub const OUTPUT: usize = 60_000;
@@ -16,6 +17,30 @@ pub struct Lent<'a> {
     pub bales: &'a mut [u32],
     pub sessions: &'a mut [u16],
     pub above: &'a mut [u16],
+    pub loaded_marks: &'a mut [u16],
+    pub present_marks: &'a mut [u16],
+    pub first_places: &'a mut [u16],
+    pub loaded_counts: &'a mut [u16],
+    pub present_counts: &'a mut [u16],
+    pub counts: &'a mut [u16],
+    pub gains: &'a mut [i32],
+    pub visited: &'a mut [u16],
+}
+
+/// A lot: its bales, its session (0 off the board) and the lot that it was joined into (0 on the
+/// board).
+#[repr(C)]
+#[derive(Clone, Copy, Debug, PartialEq, Eq)]
+pub struct Lot {
+    pub bales: u32,
+    pub session: u16,
+    pub above: u16,
+}
+
+/// What the engine is lent where the lots are records.
+pub struct LentLots<'a> {
+    pub lots: &'a mut [Lot],
+    pub output: &'a mut [u8],
     pub loaded_marks: &'a mut [u16],
     pub present_marks: &'a mut [u16],
     pub first_places: &'a mut [u16],
@@ -65,6 +90,31 @@ extern "C" {
         visited: *mut u16,
         visited_length: usize,
     ) -> Outcome;
+
+    fn kapokdrill_run_lots(
+        file: *const u8,
+        file_length: usize,
+        lots: *mut Lot,
+        lots_length: usize,
+        output: *mut u8,
+        output_length: usize,
+        loaded_marks: *mut u16,
+        loaded_marks_length: usize,
+        present_marks: *mut u16,
+        present_marks_length: usize,
+        first_places: *mut u16,
+        first_places_length: usize,
+        loaded_counts: *mut u16,
+        loaded_counts_length: usize,
+        present_counts: *mut u16,
+        present_counts_length: usize,
+        counts: *mut u16,
+        counts_length: usize,
+        gains: *mut i32,
+        gains_length: usize,
+        visited: *mut u16,
+        visited_length: usize,
+    ) -> Outcome;
 }
 
 /// Reads a sale file, runs its calls and writes the report, on slices of any length.
@@ -83,6 +133,37 @@ pub fn run(file: &[u8], lent: Lent<'_>) -> Outcome {
             lent.sessions.len(),
             lent.above.as_mut_ptr(),
             lent.above.len(),
+            lent.loaded_marks.as_mut_ptr(),
+            lent.loaded_marks.len(),
+            lent.present_marks.as_mut_ptr(),
+            lent.present_marks.len(),
+            lent.first_places.as_mut_ptr(),
+            lent.first_places.len(),
+            lent.loaded_counts.as_mut_ptr(),
+            lent.loaded_counts.len(),
+            lent.present_counts.as_mut_ptr(),
+            lent.present_counts.len(),
+            lent.counts.as_mut_ptr(),
+            lent.counts.len(),
+            lent.gains.as_mut_ptr(),
+            lent.gains.len(),
+            lent.visited.as_mut_ptr(),
+            lent.visited.len(),
+        )
+    }
+}
+
+/// The same, with the lots as records.
+pub fn run_lots(file: &[u8], lent: LentLots<'_>) -> Outcome {
+    // SAFETY: as in `run`; `Lot` has the fields and the layout of the engine's own.
+    unsafe {
+        kapokdrill_run_lots(
+            file.as_ptr(),
+            file.len(),
+            lent.lots.as_mut_ptr(),
+            lent.lots.len(),
+            lent.output.as_mut_ptr(),
+            lent.output.len(),
             lent.loaded_marks.as_mut_ptr(),
             lent.loaded_marks.len(),
             lent.present_marks.as_mut_ptr(),

@@ -1,5 +1,5 @@
 //! The proved splitter for Rust: `Memory` owns all that the engine is lent and runs sales on it.
-//! Rests on the static library of the crate `engine`; `lent` has the one call across.
+//! Rests on the static libraries of the crates `engine` and `records`; `lent` has the calls across.
 
 pub mod lent;
 

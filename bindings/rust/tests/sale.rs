@@ -1,6 +1,7 @@
 //! The worked sale of document 01 through the bindings: its report from the example's program,
-//! and its tables through `Memory`.
+//! its tables through `Memory`, and its lots as records.
 
+use kapokdrill::lent::{self, LentLots, Lot, LOTS, MARKS, OUTPUT, ROWS};
 use kapokdrill::{entry, Memory};
 use std::io::Write;
 use std::path::Path;
@@ -41,12 +42,14 @@ fn a_file_turned_down_gives_its_number() {
     assert_eq!(memory.run(b""), (2, &b"NO,2,1\n"[..]));
 }
 
+/// The worked sale's catalogue with one join.
+const ONE_JOIN: &[u8] = b"SALE,5,3,2,200\nLOT,10,1\nLOT,10,1\nLOT,10,2\nLOT,10,2\nLOT,10,1\n\
+    BUY,3,1,3\nBUY,2,2,5\nBUY,1,3,4\nJ,2,5\n";
+
 #[test]
 fn tables_of_the_worked_sale_with_one_join() {
-    let file = b"SALE,5,3,2,200\nLOT,10,1\nLOT,10,1\nLOT,10,2\nLOT,10,2\nLOT,10,1\n\
-                 BUY,3,1,3\nBUY,2,2,5\nBUY,1,3,4\nJ,2,5\n";
     let mut memory = Memory::default();
-    assert_eq!(memory.run(file).0, 0);
+    assert_eq!(memory.run(ONE_JOIN).0, 0);
     assert_eq!(memory.bales()[..5], [10, 20, 10, 10, 10]);
     assert_eq!(memory.sessions()[..5], [1, 1, 2, 2, 0]);
     assert_eq!(memory.above()[..5], [0, 0, 0, 0, 2]);
@@ -59,6 +62,41 @@ fn tables_of_the_worked_sale_with_one_join() {
     assert_eq!(memory.gains()[entry(1, 2)], 3);
     assert_eq!(memory.gains()[entry(4, 1)], -1);
     assert_eq!(memory.visited()[..3], [0b11, 0b01, 0b10]);
+}
+
+#[test]
+fn records_of_the_worked_sale_with_one_join() {
+    let lot = |bales, session, above| Lot {
+        bales,
+        session,
+        above,
+    };
+    let mut lots = vec![lot(7, 8, 9); LOTS];
+    let outcome = lent::run_lots(
+        ONE_JOIN,
+        LentLots {
+            lots: &mut lots,
+            output: &mut [0; OUTPUT],
+            loaded_marks: &mut [0; MARKS],
+            present_marks: &mut [0; MARKS],
+            first_places: &mut [0; LOTS],
+            loaded_counts: &mut [0; LOTS],
+            present_counts: &mut [0; LOTS],
+            counts: &mut [0; ROWS],
+            gains: &mut [0; ROWS],
+            visited: &mut [0; LOTS],
+        },
+    );
+    assert_eq!(outcome.code, 0);
+    let written = [
+        lot(10, 1, 0),
+        lot(20, 1, 0),
+        lot(10, 2, 0),
+        lot(10, 2, 0),
+        lot(10, 0, 2),
+    ];
+    assert_eq!(lots[..5], written);
+    assert!(lots[5..].iter().all(|&kept| kept == lot(7, 8, 9)));
 }
 
 #[test]

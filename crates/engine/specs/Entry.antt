@@ -10,12 +10,13 @@ use lib.Dec.{leb}
 use lib.ListN.{length, drop, length-append}
 use lib.IntN.{ℤ}
 use Rattle.laws.specs.Choice.{and-left, and-right}
-use Rattle.model.specs.Catalogue.{Limits, mainLimits, Hypergraph}
+use Rattle.model.specs.Catalogue.{Limits, mainLimits, Hypergraph, vertices}
 use Rattle.model.specs.Machine.{Call, fresh}
-use Rattle.model.specs.Grammar.{Reading, reading, stopped, parse}
+use Rattle.model.specs.Grammar.{Reading, unread, reading, stopped, parse}
 use Rattle.model.specs.Report.{digits, row, closing}
 use Rattle.model.specs.Engine.{after, run, outcome, engine}
-use Rattle.model.specs.Memory.{Tables as Lent, Memory, Holds, longLists, longTables, longMemory, Written, TablesLeft, Worked, Untouched, Served, Serves}
+use Rattle.model.specs.Memory.{Tables as Lent, Memory, Holds, longLists, longTables, longMemory, Written, Worked, Served, Serves}
+use Rattle.guarantees.specs.Ranges.{accepted-book}
 use Rattle.guarantees.specs.Refusals.{refused-in, engine-fits}
 use Rattle.reader.specs.Seen.{callsOf}
 use Rattle.text.specs.Output.{written}
@@ -28,10 +29,27 @@ use Rattle.report.specs.Wrote.{Wrote}
 use Rattle.report.specs.Closing.{ClosingFits}
 use Rattle.report.proofs.Laws.{wrote-length, wrote-append}
 use Rattle.steps.specs.Steps.{Two}
-use Rattle.engine.specs.Sale.{lent, Catalogued, Listed, CanSell, Sold}
+use Rattle.engine.specs.Sale.{lent, Catalogued, Listed, Sold}
 
 abbrev pub memory : List ℕ → Lent → Memory
 memory out t = record { output = out; tables = t }
+
+-- ---- the lots of a file
+-- how many lots an accepted file has; none where it is turned down
+abbrev pub lotsIn : Reading → ℕ
+lotsIn (reading k) = vertices (k .graph)
+lotsIn (stopped q n) = 0
+lotsIn unread = 0
+
+-- how many lots' entries are written, by whether lent memory is long enough
+abbrev pub lotsWritten : Bool → Reading → ℕ
+lotsWritten true r = lotsIn r
+lotsWritten false r = 0
+
+-- the engine's promise, with that number
+pub record ServesLots (limits : Limits) (file : List ℕ) (old new : Memory) (code bytes lots : ℕ) : Type 0 where
+  pub serves : Serves limits file old new code bytes
+  pub lots-are : lots ≡ lotsWritten (longMemory limits old) (parse limits file)
 
 -- ---- the output
 pub written-all : {out out′ text : List ℕ} {r : ℕ} → Wrote out out′ 0 text r → Written text out out′ r
@@ -92,12 +110,18 @@ module _ {limits : Limits} {file out : List ℕ} {old new : Lists} {nw calls cou
       unfolding outcome
       worked {new′} {out′} {bytes} p = subst (λ (x : Reading). Worked x (memory out (lent old counts gains visited)) (memory out′ new′) 0 bytes) (here .says) (record { code-is = refl; output = p .output; tables = p .tables })
 
+      pub lots-read : z .vertices ≡ lotsIn (parse limits file)
+      lots-read = sym (accepted-book limits file _ (sym (here .says)) .vertices-are) ∙ ap lotsIn (here .says)
+
     module _ {q n : ℕ} (e : r ≡ Refused q n) where
       stops : stopped q n ≡ parse limits file
       stops = ap (λ (x : Loaded). seen x new nw calls) (sym e) ∙ l .says
 
       pub small : (q ≤ 7) × (n ≤ 60001)
       small = let b = refused-in limits file q n (sym stops) in (b .1, b .2)
+
+      pub no-lots : 0 ≡ lotsIn (parse limits file)
+      no-lots = ap lotsIn stops
 
       pub line-fits : length (row "NO" (digits q ∷ digits n ∷ [])) ≤ 60000
       unfolding engine outcome
@@ -187,11 +211,18 @@ long-is out t counts gains visited e q =
       visited-long = v .1;
     }
 
-pub too-short : (file : List ℕ) (m : Memory) {r : Bool} → r ≡ longMemory mainLimits m → r ≡ false → Serves mainLimits file m m 8 0
-too-short file m e q = subst (λ (b : Bool). Served b (parse mainLimits file) m m 8 0) (sym (sym e ∙ q)) (record { code-is = refl; nothing = refl; kept = refl })
+pub too-short : (file : List ℕ) (m : Memory) {r : Bool} → r ≡ longMemory mainLimits m → r ≡ false → ServesLots mainLimits file m m 8 0 0
+too-short file m e q = record {
+  serves = subst (λ (b : Bool). Served b (parse mainLimits file) m m 8 0) (sym (sym e ∙ q)) (record { code-is = refl; nothing = refl; kept = refl });
+  lots-are = ap (λ (b : Bool). lotsWritten b (parse mainLimits file)) (sym (sym e ∙ q));
+}
 
-pub served : (file : List ℕ) (m m′ : Memory) {code bytes : ℕ} {r : Bool} → r ≡ longMemory mainLimits m → r ≡ true → Worked (parse mainLimits file) m m′ code bytes → Serves mainLimits file m m′ code bytes
-served file m m′ {code} {bytes} e q w = subst (λ (b : Bool). Served b (parse mainLimits file) m m′ code bytes) (sym (sym e ∙ q)) w
+pub served : (file : List ℕ) (m m′ : Memory) {code bytes lots : ℕ} {r : Bool} → r ≡ longMemory mainLimits m → r ≡ true → Worked (parse mainLimits file) m m′ code bytes × (lots ≡ lotsIn (parse mainLimits file))
+    → ServesLots mainLimits file m m′ code bytes lots
+served file m m′ {code} {bytes} e q w = record {
+  serves = subst (λ (b : Bool). Served b (parse mainLimits file) m m′ code bytes) (sym (sym e ∙ q)) (w .0);
+  lots-are = w .1 ∙ ap (λ (b : Bool). lotsWritten b (parse mainLimits file)) (sym (sym e ∙ q));
+}
 
 -- the bytes written lie in the output
 pub bytes-in : (limits : Limits) (file : List ℕ) (m m′ : Memory) (code bytes : ℕ) → Serves limits file m m′ code bytes → bytes ≤ length (m′ .output)

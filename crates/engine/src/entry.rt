@@ -10,7 +10,7 @@ ghost use Rattle.model.specs.Memory.{Worked, Serves};
 ghost use Rattle.report.specs.Wrote.{Wrote};
 ghost use Rattle.loader.specs.Tables.{lists};
 ghost use Rattle.engine.specs.Sale.{lent};
-ghost use Rattle.engine.specs.Entry.{memory, Long};
+ghost use Rattle.engine.specs.Entry.{memory, Long, lotsIn, ServesLots};
 use crate::closing::report_sale;
 use crate::lengths::is_long;
 use loader::Loaded;
@@ -23,15 +23,23 @@ pub struct Ran {
     pub written: usize,
 }
 
+// The same, and how many lots the file has: 0 where none was accepted.
+pub struct Served {
+    pub code: u32,
+    pub written: usize,
+    pub lots: usize,
+}
+
 // The line of a refused file.
-pub fn refuse(output: &mut [u8], q: u8, line: usize) -> Ran
+pub fn refuse(output: &mut [u8], q: u8, line: usize) -> Served
     requires { ⌜ (line ≤ 60001) × (length (row "NO" (digits q ∷ digits line ∷ [])) ≤ length (now output)) ⌝ }
-    ensures { λ r. ⌜ (r .code ≡ q) × Wrote (now (output .entry)) (now (output .exit)) 0 (row "NO" (digits q ∷ digits line ∷ [])) (r .written) ⌝ }
+    ensures { λ r. ⌜ (r .code ≡ q) × (r .lots ≡ 0) × Wrote (now (output .entry)) (now (output .exit)) 0 (row "NO" (digits q ∷ digits line ∷ [])) (r .written) ⌝ }
 {
     let end = put_refusal(output, 0, q as u32, line as u32);
-    Ran {
+    Served {
         code: q as u32,
         written: end,
+        lots: 0,
     }
 }
 
@@ -50,9 +58,9 @@ fn work(
     counts: &mut [u16],
     gains: &mut [i32],
     visited: &mut [u16],
-) -> Ran
+) -> Served
     requires { ⌜ Long mainLimits (now output) (lists (now weights) (now blocks) (now aboves) (now pins) (now present) (now firsts) (now sizes) (now standing)) (now counts) (now gains) (now visited) ⌝ }
-    ensures { λ r. ⌜ Worked (parse mainLimits (now (file .entry))) (memory (now (output .entry)) (lent (lists (now (weights .entry)) (now (blocks .entry)) (now (aboves .entry)) (now (pins .entry)) (now (present .entry)) (now (firsts .entry)) (now (sizes .entry)) (now (standing .entry))) (now (counts .entry)) (now (gains .entry)) (now (visited .entry)))) (memory (now (output .exit)) (lent (lists (now (weights .exit)) (now (blocks .exit)) (now (aboves .exit)) (now (pins .exit)) (now (present .exit)) (now (firsts .exit)) (now (sizes .exit)) (now (standing .exit))) (now (counts .exit)) (now (gains .exit)) (now (visited .exit)))) (r .code) (r .written) ⌝ }
+    ensures { λ r. ⌜ Worked (parse mainLimits (now (file .entry))) (memory (now (output .entry)) (lent (lists (now (weights .entry)) (now (blocks .entry)) (now (aboves .entry)) (now (pins .entry)) (now (present .entry)) (now (firsts .entry)) (now (sizes .entry)) (now (standing .entry))) (now (counts .entry)) (now (gains .entry)) (now (visited .entry)))) (memory (now (output .exit)) (lent (lists (now (weights .exit)) (now (blocks .exit)) (now (aboves .exit)) (now (pins .exit)) (now (present .exit)) (now (firsts .exit)) (now (sizes .exit)) (now (standing .exit))) (now (counts .exit)) (now (gains .exit)) (now (visited .exit)))) (r .code) (r .written) × (r .lots ≡ lotsIn (parse mainLimits (now (file .entry)))) ⌝ }
 {
     let mut netweights = [0u16; 1024];
     let mut calls = [0u32; 1536];
@@ -89,9 +97,10 @@ fn work(
                 &calls,
                 z,
             );
-            Ran {
+            Served {
                 code: 0,
                 written: end,
+                lots: z.vertices as usize,
             }
         }
     }
@@ -99,6 +108,61 @@ fn work(
 
 // A sale file and lent memory: the lots' bales, sessions and lots above, 1,024 each; marks as loaded and as they stand, 8,192 each; the buyers'
 // first places, loaded marks and present marks, 1,024 each; counts and gains, 16,384 each; visited, 1,024; the output, 60,000 bytes.
+pub fn serve(
+    file: &[u8],
+    output: &mut [u8],
+    weights: &mut [u32],
+    blocks: &mut [u16],
+    aboves: &mut [u16],
+    pins: &mut [u16],
+    present: &mut [u16],
+    firsts: &mut [u16],
+    sizes: &mut [u16],
+    standing: &mut [u16],
+    counts: &mut [u16],
+    gains: &mut [i32],
+    visited: &mut [u16],
+) -> Served
+    ensures { λ r. ⌜ ServesLots mainLimits (now (file .entry)) (memory (now (output .entry)) (lent (lists (now (weights .entry)) (now (blocks .entry)) (now (aboves .entry)) (now (pins .entry)) (now (present .entry)) (now (firsts .entry)) (now (sizes .entry)) (now (standing .entry))) (now (counts .entry)) (now (gains .entry)) (now (visited .entry)))) (memory (now (output .exit)) (lent (lists (now (weights .exit)) (now (blocks .exit)) (now (aboves .exit)) (now (pins .exit)) (now (present .exit)) (now (firsts .exit)) (now (sizes .exit)) (now (standing .exit))) (now (counts .exit)) (now (gains .exit)) (now (visited .exit)))) (r .code) (r .written) (r .lots) ⌝ }
+{
+    if !is_long(
+        output,
+        weights,
+        blocks,
+        aboves,
+        pins,
+        present,
+        firsts,
+        sizes,
+        standing,
+        counts,
+        gains,
+        visited,
+    ) {
+        return Served {
+            code: 8,
+            written: 0,
+            lots: 0,
+        };
+    }
+    work(
+        file,
+        output,
+        weights,
+        blocks,
+        aboves,
+        pins,
+        present,
+        firsts,
+        sizes,
+        standing,
+        counts,
+        gains,
+        visited,
+    )
+}
+
+// The same for a caller in C.
 #[no_mangle]
 pub extern "C" fn kapokdrill_run(
     file: &[u8],
@@ -117,26 +181,7 @@ pub extern "C" fn kapokdrill_run(
 ) -> Ran
     ensures { λ r. ⌜ Serves mainLimits (now (file .entry)) (memory (now (output .entry)) (lent (lists (now (weights .entry)) (now (blocks .entry)) (now (aboves .entry)) (now (pins .entry)) (now (present .entry)) (now (firsts .entry)) (now (sizes .entry)) (now (standing .entry))) (now (counts .entry)) (now (gains .entry)) (now (visited .entry)))) (memory (now (output .exit)) (lent (lists (now (weights .exit)) (now (blocks .exit)) (now (aboves .exit)) (now (pins .exit)) (now (present .exit)) (now (firsts .exit)) (now (sizes .exit)) (now (standing .exit))) (now (counts .exit)) (now (gains .exit)) (now (visited .exit)))) (r .code) (r .written) ⌝ }
 {
-    if !is_long(
-        output,
-        weights,
-        blocks,
-        aboves,
-        pins,
-        present,
-        firsts,
-        sizes,
-        standing,
-        counts,
-        gains,
-        visited,
-    ) {
-        return Ran {
-            code: 8,
-            written: 0,
-        };
-    }
-    work(
+    let served = serve(
         file,
         output,
         weights,
@@ -150,5 +195,9 @@ pub extern "C" fn kapokdrill_run(
         counts,
         gains,
         visited,
-    )
+    );
+    Ran {
+        code: served.code,
+        written: served.written,
+    }
 }

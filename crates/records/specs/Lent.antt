@@ -16,6 +16,7 @@ use Rattle.model.specs.Machine.{State, fresh}
 use Rattle.model.specs.Grammar.{Reading, unread, reading, stopped, parse}
 use Rattle.model.specs.Engine.{after}
 use Rattle.model.specs.Memory.{Tables, Memory, longLists, longTables, longMemory, Column, weightEntry, blockEntry, Holds, Served, Serves, TablesLeft}
+use Rattle.engine.specs.Entry.{lotsWritten}
 use Rattle.records.specs.declared.Lot.{Lot}
 use Rattle.records.specs.Over.{over}
 use Rattle.records.specs.Fields.{balesOf, sessionsOf, abovesOf, over-column}
@@ -42,13 +43,6 @@ inTables output weights blocks aboves t = record {
 -- lent memory whose lots are records
 abbrev pub inRecords : List ℕ → List Lot → Tables → Memory
 inRecords output lots t = inTables output (balesOf lots) (sessionsOf lots) (abovesOf lots) t
-
--- how many records are written: each lot's after an accepted file, and none where lent memory is short or the file is turned down
-abbrev pub lotsWritten : Bool → Reading → ℕ
-lotsWritten true (reading k) = vertices (k .graph)
-lotsWritten true (stopped q n) = 0
-lotsWritten true unread = 0
-lotsWritten false r = 0
 
 -- where lent memory is long, so is the lots' table
 long-lots : (limits : Limits) (m : Memory) → longMemory limits m ≡ true → limits .vertexLimit ≤ length (m .tables .weights)

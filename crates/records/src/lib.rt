@@ -5,6 +5,8 @@ ghost use lib.ListN.{length};
 ghost use Rattle.records.specs.Over.{over};
 ghost use Rattle.records.specs.Fields.{balesOf, sessionsOf, abovesOf};
 
+pub mod entry;
+
 #[repr(C)]
 pub struct Lot {
     pub bales: u32,

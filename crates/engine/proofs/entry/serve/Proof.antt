@@ -1,12 +1,8 @@
 use borrow.Author.Needs.{needs}
 use borrow.Author.Tests.{not-true, not-false}
 use Rattle.engine.specs.Entry.{long-is, too-short, served}
-use Rattle.engine.proofs.entry.kapokdrill_run.Statement.{statement}
-use Rattle.engine.proofs.entry.kapokdrill_run.Tie as tie
-use Rattle.engine.proofs.entry.kapokdrill_run.Reads as reads
-use Rattle.engine.proofs.entry.kapokdrill_run.Lts as lts
-use Rattle.engine.proofs.entry.work.Reads as work-reads
-use Rattle.engine.proofs.lengths.is_long.Reads as is-long-reads
+use Rattle.engine.proofs.entry.serve.Statement.{statement}
+use Rattle.engine.proofs.entry.serve.Tie as tie
 
 is-long-requires : tie.Need-is-long-requires
 is-long-requires c κs = search needs
@@ -92,8 +88,8 @@ same-length-24 c = search needs
 returns-2 : tie.Need-returns-2
 returns-2 c = served _ _ _ (c .before .before .before .before .before .before .before .before .before .before .before .before .before .before .before .before .before .before .before .before .before .before .before .before .before .before .before .before .before .before .before .before .before .before .before .before .before .is-long .ensures) (not-false _ (c .before .before .before .before .before .before .before .before .before .before .before .before .before .before .before .before .before .before .before .before .before .before .before .before .before .before .before .before .before .before .before .before .before .before .before .before .if1 .left)) (c .before .before .before .before .before .before .before .before .before .before .before .before .before .before .before .before .before .before .before .before .before .before .before .work .ensures)
 
-pub kapokdrill-run-spec : {M : Type 1} → statement M
-kapokdrill-run-spec =
+pub serve-spec : {M : Type 1} → statement M
+serve-spec =
     tie.close
     (tie.spec
     is-long-requires

@@ -1,0 +1,97 @@
+-- `records::entry::core` meets its contract: too few records are 8; else the engine's promise on its own three tables, carried over to the records. Assumes nothing.
+use native.Mathlib.Omega.{arith}
+use borrow.Author.Needs.{needs}
+use Prim.Native.Nat.{ℕ, _≤_}
+use mathlib.Core.List.{List}
+use lib.ListN.{length, replicate, length-replicate}
+use Rattle.model.specs.Catalogue.{mainLimits}
+use Rattle.model.specs.Memory.{longMemory}
+use Rattle.records.specs.Lent.{inTables, no-room, serves-records}
+use Rattle.records.specs.Entry.{others, lots-few}
+use Rattle.records.proofs.entry.core.Statement.{statement}
+use Rattle.records.proofs.entry.core.Tie as tie
+
+returns : tie.Need-returns
+returns c =
+    let a = c .before .before .before .before .before .before .before .before .before .before .args in
+    record { fits = omega arith; small = omega arith; serves = λ lots e. no-room mainLimits (a .file .now) (a .output .now) lots (others (a .pins .now) (a .present .now) (a .firsts .now) (a .sizes .now) (a .standing .now) (a .counts .now) (a .gains .now) (a .visited .now)) (omega (arith, e, c .if1 .taken)) }
+
+slice-aggregate-serve : tie.Need-slice-aggregate-serve
+slice-aggregate-serve c = search needs
+
+slice-aggregate-serve-2 : tie.Need-slice-aggregate-serve-2
+slice-aggregate-serve-2 c = search needs
+
+slice-aggregate-serve-3 : tie.Need-slice-aggregate-serve-3
+slice-aggregate-serve-3 c = search needs
+
+serve-requires : tie.Need-serve-requires
+serve-requires c κs = search needs
+
+gather-requires : tie.Need-gather-requires
+gather-requires c κs = search needs
+
+same-length : tie.Need-same-length
+same-length c = search needs
+
+same-length-2 : tie.Need-same-length-2
+same-length-2 c = search needs
+
+same-length-3 : tie.Need-same-length-3
+same-length-3 c = search needs
+
+same-length-4 : tie.Need-same-length-4
+same-length-4 c = search needs
+
+same-length-5 : tie.Need-same-length-5
+same-length-5 c = search needs
+
+same-length-6 : tie.Need-same-length-6
+same-length-6 c = search needs
+
+same-length-7 : tie.Need-same-length-7
+same-length-7 c = search needs
+
+same-length-8 : tie.Need-same-length-8
+same-length-8 c = search needs
+
+same-length-9 : tie.Need-same-length-9
+same-length-9 c = search needs
+
+returns-2 : tie.Need-returns-2
+returns-2 c =
+    let a = c .before .before .before .before .before .before .before .before .before .before .before .before .before .before .before .before .before .before .before .before .before .before .before .before .before .before .before .before .before .before .before .before .before .before .before .before .before .before .before .before .before .before .before .before .args in
+    let told = c .before .before .before .before .before .before .before .before .before .before .before .before .before .before .before .before .before .before .before .before .before .serve .ensures in
+    let last = c .before .before .before .before .before .before .before .before .before .before .before .before .before .before .before .before .before .before .before .before .before .serve .last in
+    let zeros : List ℕ = replicate 1024 0 in
+    let long : 1024 ≤ length zeros = omega (arith, length-replicate {A = ℕ} 1024 0) in
+    let room : 1024 ≤ a .room = c .before .before .before .before .before .before .before .before .before .before .before .before .before .before .before .before .before .before .before .before .before .before .before .before .before .before .before .before .before .before .before .before .before .before .if1 .left in
+    let few : c .before .before .before .before .before .before .before .before .before .before .before .before .before .before .before .before .before .before .before .before .before .serve .result .lots ≤ 1024 = omega (arith, told .lots-are, lots-few mainLimits (a .file .now) (longMemory mainLimits (inTables (a .output .now) zeros zeros zeros (others (a .pins .now) (a .present .now) (a .firsts .now) (a .sizes .now) (a .standing .now) (a .counts .now) (a .gains .now) (a .visited .now))))) in
+    record {
+      fits = omega (arith, few, room);
+      small = few;
+      serves = λ lots e. serves-records mainLimits (a .file .now) (a .output .now) (last .1 .0) zeros zeros zeros (last .1 .1 .0) (last .1 .1 .1 .0) (last .1 .1 .1 .1 .0)
+          (others (a .pins .now) (a .present .now) (a .firsts .now) (a .sizes .now) (a .standing .now) (a .counts .now) (a .gains .now) (a .visited .now)) (others (last .1 .1 .1 .1 .1 .0) (last .1 .1 .1 .1 .1 .1 .0) (last .1 .1 .1 .1 .1 .1 .1 .0) (last .1 .1 .1 .1 .1 .1 .1 .1 .0) (last .1 .1 .1 .1 .1 .1 .1 .1 .1 .0) (last .1 .1 .1 .1 .1 .1 .1 .1 .1 .1 .0) (last .1 .1 .1 .1 .1 .1 .1 .1 .1 .1 .1 .0) (last .1 .1 .1 .1 .1 .1 .1 .1 .1 .1 .1 .1 .0)) (c .gather .result) lots (c .before .before .before .before .before .before .before .before .before .before .before .before .before .before .before .before .before .before .before .before .before .serve .result .lots) _ _
+          long long long (omega (arith, e, room)) few (c .gather .ensures) (told .lots-are) (told .serves);
+    }
+
+pub core-spec : {M : Type 1} → statement M
+core-spec =
+    tie.close
+    (tie.spec
+    returns
+    slice-aggregate-serve
+    slice-aggregate-serve-2
+    slice-aggregate-serve-3
+    serve-requires
+    gather-requires
+    same-length
+    same-length-2
+    same-length-3
+    same-length-4
+    same-length-5
+    same-length-6
+    same-length-7
+    same-length-8
+    same-length-9
+    returns-2)
