@@ -1,4 +1,4 @@
--- The best pair of all rows, by scores; a row that has none, and a row that is left out since its ratings can't be higher.
+-- The best pair of all rows, by scores; a row that has none; and that the first of the highest rows has the best pair.
 -- Rests on RatingLaw and PartnerLaw. Assumes nothing.
 use mathlib.Core.Path.{_≡_, refl, sym, ap, ap₂, _∙_, subst}
 use mathlib.Core.Bool.{Bool, true, false, _&&_, and-false, cond}
@@ -37,6 +37,26 @@ joined-old u p b h = rw (le-ltb (b .rating) (p .rating) h)
 unfoldable pub topTo : (ℕ → ℕ) → ℕ → Partner
 topTo score zero = record { rating = 0; vertex = 0 }
 topTo score (suc k) = cond (ltb (topTo score k .rating) (score (suc k))) (record { rating = score (suc k); vertex = suc k }) (topTo score k)
+
+pub top-over : (score : ℕ → ℕ) (n z : ℕ) → 1 ≤ z → z ≤ n → score z ≤ topTo score n .rating
+unfolding topTo
+top-over score zero z l h = absurd (omega arith)
+top-over score (suc n) z l h = go (top-over score n z l) (ltb (topTo score n .rating) (score (suc n))) refl (ℕ-discrete z (suc n))
+  where
+    go : (z ≤ n → score z ≤ topTo score n .rating) → (b : Bool) → ltb (topTo score n .rating) (score (suc n)) ≡ b → Dec (z ≡ suc n) → score z ≤ cond b (record { rating = score (suc n); vertex = suc n }) (topTo score n) .rating
+    go old true e (yes q) = omega (arith, ap score q)
+    go old true e (no q) = omega (arith, old (omega arith), ltb-true (topTo score n .rating) (score (suc n)) e)
+    go old false e (yes q) = omega (arith, ap score q, ltb-false (topTo score n .rating) (score (suc n)) e)
+    go old false e (no q) = old (omega arith)
+
+pub top-under : (score : ℕ → ℕ) (b n : ℕ) → ((z : ℕ) → 1 ≤ z → z ≤ n → score z ≤ b) → topTo score n .rating ≤ b
+unfolding topTo
+top-under score b zero h = omega arith
+top-under score b (suc n) h = go (top-under score b n (λ z l q. h z l (omega arith))) (ltb (topTo score n .rating) (score (suc n)))
+  where
+    go : topTo score n .rating ≤ b → (t : Bool) → cond t (record { rating = score (suc n); vertex = suc n }) (topTo score n) .rating ≤ b
+    go old true = h (suc n) (omega arith) (omega arith)
+    go old false = old
 
 -- what holds of it
 record TopTo (score : ℕ → ℕ) (k : ℕ) (q : Partner) : Type 0 where
@@ -177,31 +197,39 @@ module _ (bits pins firsts sizes netWeights blocks weights : List ℕ) (m n limi
       none : whole z ≡ 0
       none = over-nil bits (u - 1) m _ (λ g h. spread-dead pins (getD firsts g 0) _ _ (getD sizes g 0) z (λ i k. apart (at pins (getD firsts g 0) i) (ok .pin g h i k .2)))
 
-  pub idle-row : (b : Join) → getD blocks (u - 1) 0 ≡ 0 → b ≡ joined u (topTo (scoreOf bits pins firsts sizes netWeights blocks weights m limit u) n) b
-  unfolding scoreOf joined
-  idle-row b e =
-      let t : topTo points n .rating ≡ 0 = top-is points (idle e 0) n .real ∙ idle e (topTo points n .vertex) in
-      sym (ap (λ (k : Bool). cond k (record { rating = topTo points n .rating; into = u; gone = topTo points n .vertex }) b) (le-ltb (b .rating) (topTo points n .rating) (omega arith)))
-
-  -- where the terms of u's own nets sum to no more than the best rating before it, u's row changes nothing
-  pub pruned-row : (b : Join) → ownSum bits sizes netWeights u m ≤ b .rating → b ≡ joined u (topTo (scoreOf bits pins firsts sizes netWeights blocks weights m limit u) n) b
+  -- no rating passes the sum of the terms of u's own nets
+  pub score-own : (z : ℕ) → scoreOf bits pins firsts sizes netWeights blocks weights m limit u z ≤ ownSum bits sizes netWeights u m
   unfolding scoreOf
-  pruned-row b l =
-      let t : topTo points n .rating ≡ points (topTo points n .vertex) = top-is points (outside 0 (λ a b. omega arith)) n .real in
-      joined-old u (topTo points n) b (omega (arith, most (topTo points n .vertex)))
-    where
-      most : (z : ℕ) → points z ≤ ownSum bits sizes netWeights u m
-      most z = omega (arith, cond-le (leb (getD weights (u - 1) 0 + getD weights (z - 1) 0) limit) (whole z) (whole z) (omega arith), row-own bits pins firsts sizes netWeights blocks u m n ok z)
+  score-own z = omega (arith, cond-le (leb (getD weights (u - 1) 0 + getD weights (z - 1) 0) limit) (whole z) (whole z) (omega arith), row-own bits pins firsts sizes netWeights blocks u m n ok z)
 
 -- the best pair of the rows 1 .. k, each of n places
 unfoldable pub joinTo : (ℕ → ℕ → ℕ) → ℕ → ℕ → Join
 joinTo score n zero = record { rating = 0; into = 0; gone = 0 }
 joinTo score n (suc k) = joined (suc k) (topTo (score (suc k)) n) (joinTo score n k)
 
-pub join-none : (score : ℕ → ℕ → ℕ) (n : ℕ) → record { rating = 0; into = 0; gone = 0 } ≡ joinTo score n 0
-unfolding joinTo
-join-none score n = refl
+-- with no row higher than b, the best pair is not
+pub join-under : (score : ℕ → ℕ → ℕ) (n b k : ℕ) → ((x : ℕ) → 1 ≤ x → x ≤ k → topTo (score x) n .rating ≤ b) → joinTo score n k .rating ≤ b
+unfolding joinTo joined
+join-under score n b zero h = omega arith
+join-under score n b (suc k) h = go (join-under score n b k (λ x l q. h x l (omega arith))) (ltb (joinTo score n k .rating) (topTo (score (suc k)) n .rating))
+  where
+    go : joinTo score n k .rating ≤ b → (t : Bool) → cond t (record { rating = topTo (score (suc k)) n .rating; into = suc k; gone = topTo (score (suc k)) n .vertex }) (joinTo score n k) .rating ≤ b
+    go old true = h (suc k) (omega arith) (omega arith)
+    go old false = old
 
-pub join-more : (score : ℕ → ℕ → ℕ) (n k : ℕ) (b r : Join) → b ≡ joinTo score n k → r ≡ joined (k + 1) (topTo (score (k + 1)) n) b → r ≡ joinTo score n (k + 1)
+-- the best pair of row u
+abbrev pub pairOf : (ℕ → ℕ → ℕ) → ℕ → ℕ → Join
+pairOf score n u = record { rating = topTo (score u) n .rating; into = u; gone = topTo (score u) n .vertex }
+
+-- where row u is higher than all before it and no row after it is higher still, its pair is the best
+pub join-at : (score : ℕ → ℕ → ℕ) (n u : ℕ) → ((x : ℕ) → 1 ≤ x → x < u → topTo (score x) n .rating < topTo (score u) n .rating) → 1 ≤ u → 1 ≤ topTo (score u) n .rating
+    → (k : ℕ) → u ≤ k → ((x : ℕ) → 1 ≤ x → x ≤ k → topTo (score x) n .rating ≤ topTo (score u) n .rating) → joinTo score n k ≡ pairOf score n u
 unfolding joinTo
-join-more score n k b r e = subst (λ (x : ℕ). r ≡ joined x (topTo (score x) n) b → r ≡ joinTo score n x) (sym (add-one k)) (λ h. h ∙ ap (joined (suc k) (topTo (score (suc k)) n)) e)
+join-at score n u first low some zero h most = absurd (omega arith)
+join-at score n u first low some (suc k) h most = go (λ l. join-at score n u first low some k l (λ x a b. most x a (omega arith))) (ℕ-discrete u (suc k))
+  where
+    go : (u ≤ k → joinTo score n k ≡ pairOf score n u) → Dec (u ≡ suc k) → joined (suc k) (topTo (score (suc k)) n) (joinTo score n k) ≡ pairOf score n u
+    go old (yes q) =
+        let below : joinTo score n k .rating ≤ topTo (score u) n .rating - 1 = join-under score n (topTo (score u) n .rating - 1) k (λ x a b. omega (arith, first x a (omega arith))) in
+        sym (joined-new (suc k) (topTo (score (suc k)) n) (joinTo score n k) (omega (arith, ap (λ (x : ℕ). topTo (score x) n .rating) q))) ∙ ap (pairOf score n) (sym q)
+    go old (no q) = ap (joined (suc k) (topTo (score (suc k)) n)) (old (omega arith)) ∙ sym (joined-old (suc k) (topTo (score (suc k)) n) (pairOf score n u) (most (suc k) (omega arith) (omega arith)))

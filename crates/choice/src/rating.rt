@@ -7,7 +7,7 @@ ghost use lib.ListN.{length};
 ghost use Rattle.choice.specs.Rating.{near, hit, spread, termOf, rowOf, ownSum, OwnOk, Raised, PinOk, StretchOk, TablesOk, Blank};
 
 // What a net of weight `w` with `n` pins adds to the rating of two of them.
-fn term(w: u16, n: u16) -> u64
+pub fn term(w: u16, n: u16) -> u64
     ensures { λ r. ⌜ (r ≡ termOf w n) × (r ≤ 536870912) ⌝ }
 {
     if n < 2 {
