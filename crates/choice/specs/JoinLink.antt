@@ -43,6 +43,11 @@ pub record Linked (h : Hypergraph) (cs : List Contraction) (block : ℕ → ℕ)
   pub sized : (e : ℕ) → e < m → getD sizes e 0 ≡ size h cs (net h e)
   pub weighs : (e : ℕ) → e < m → (getD netWeights e 0 ≡ net h e .weight) × (1 ≤ net h e .weight)
 
+-- a rating, net by net
+pub rating-sum : (h : Hypergraph) (cs : List Contraction) (m : ℕ) → m ≡ length (h .nets) → (u v : ℕ) → rating h cs u v ≡ sum m (λ e. cond (pin cs (net h e) u && pin cs (net h e) v) (termOf (net h e .weight) (size h cs (net h e))) 0)
+unfolding rating
+rating-sum h cs m q u v = sym (sum-list (h .nets) (record { weight = 0; pins = [] }) _) ∙ ap (λ (z : ℕ). sum z (λ e. cond (pin cs (net h e) u && pin cs (net h e) v) (termOf (net h e .weight) (size h cs (net h e))) 0)) (sym q)
+
 -- ---- the tests
 
 both-pins : (a b : Bool) (t : ℕ) → cond a (t * one b) 0 ≡ cond (a && b) t 0
@@ -70,8 +75,7 @@ module _ (h : Hypergraph) (cs : List Contraction) (block : ℕ → ℕ) (bits pi
   term e = 5040 * net h e .weight / (size h cs (net h e) - 1)
 
   rating-is : (u v : ℕ) → rating h cs u v ≡ sum m (λ e. cond (pin cs (net h e) u && pin cs (net h e) v) (term e) 0)
-  unfolding rating
-  rating-is u v = sym (sum-list (h .nets) (record { weight = 0; pins = [] }) _) ∙ ap (λ (z : ℕ). sum z (λ e. cond (pin cs (net h e) u && pin cs (net h e) v) (term e) 0)) (sym (k .m-is))
+  rating-is = rating-sum h cs m (k .m-is)
 
   row-near : (u v : ℕ) → 1 ≤ u → u ≤ n → 1 ≤ v → v ≤ n → onBoard cs u ≡ true → near blocks u (getD blocks (u - 1) 0) v ≡ true → row u v ≡ rating h cs u v
   unfolding over
@@ -97,7 +101,7 @@ module _ (h : Hypergraph) (cs : List Contraction) (block : ℕ → ℕ) (bits pi
       go false q = row-far u v q
 
   -- no shared net, no rating
-  apart : (u v : ℕ) → adjacent h cs u v ≡ false → rating h cs u v ≡ 0
+  pub apart : (u v : ℕ) → adjacent h cs u v ≡ false → rating h cs u v ≡ 0
   unfolding adjacent
   apart u v q = rating-is u v ∙ sum-nil m _ (λ e l. ap (λ (b : Bool). cond b (term e) 0) (any-not (h .nets) (record { weight = 0; pins = [] }) _ q e (omega (arith, k .m-is))))
 

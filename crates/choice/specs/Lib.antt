@@ -11,6 +11,7 @@
 -- BoundLaw    how bounds begin, which is the highest, how they are raised
 -- Settling    the best pair found by bounds
 -- JoinLink    it is the pair that model contracts, where the tables hold its state
+-- BoundLink   bounds raised for a contraction are bounds after it
 pub mod Open
 pub mod OpenLaw
 pub mod OpenLink
@@ -23,3 +24,4 @@ pub mod Bound
 pub mod BoundLaw
 pub mod Settling
 pub mod JoinLink
+pub mod BoundLink
