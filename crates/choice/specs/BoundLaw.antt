@@ -1,20 +1,20 @@
 -- Laws of bounds: how they begin, the first of the highest, and how they are raised over the pins of a net and the nets of a vertex.
 -- Rests on Bound and RatingLaw. Assumes nothing.
-use mathlib.Core.Path.{_≡_, refl, sym, ap, ap₂, _∙_, subst}
+use mathlib.Core.Path.{_≡_, sym, ap, ap₂, _∙_, subst}
 use mathlib.Core.Logic.{_⊎_, inl, inr}
 use mathlib.Core.Bool.{Bool, true, false, _&&_, cond}
 use mathlib.Core.List.{List}
 use Prim.Native.Nat.{ℕ, _+_, _-_, _*_, _≤_, _<_}
-use native.Mathlib.Decide.{ℕ-discrete, decLt}
-use native.Mathlib.Nat.{add-mul, mul-one, one-mul, zero-mul}
+use native.Mathlib.Decide.{ℕ-discrete}
+use native.Mathlib.Nat.{add-mul, one-mul, zero-mul}
 use native.Mathlib.Omega.{arith}
 use borrow.Author.Tests.{eq-eqb, ne-eqb, lt-ltb, le-ltb}
-use lib.Dec.{eqb, ltb}
+use lib.Dec.{eqb}
 use lib.ListN.{length, getD, set, length-set}
 use lib.Seq.{getD-set-same, getD-set-other}
 use Rattle.incidence.specs.On.{on, Next}
 use Rattle.laws.specs.Occurrence.{at, same, occ, same-yes, same-no, occ-zero, occ-step}
-use Rattle.choice.specs.Rating.{ownSum, scoreOf, termOf, over, TablesOk, TakeOk}
+use Rattle.choice.specs.Rating.{ownSum, scoreOf, termOf, TablesOk, TakeOk}
 use Rattle.choice.specs.RatingLaw.{over-first, over-next, own-room}
 use Rattle.choice.specs.JoinLaw.{score-own}
 use Rattle.choice.specs.Bound.{Bounded, Highest, ceiling, earlier, nearRise, farRise, riseAt, riseOf, Risen, Lifted, Ready, Planned}
@@ -56,22 +56,28 @@ pub highest-one : (l : List ℕ) → Highest l 1 1
 highest-one l = record { low = omega arith; high = omega arith; first = λ x a b. absurd (omega arith); most = λ x a b. let q : x ≡ 1 = omega arith in omega (arith, ap (λ (k : ℕ). getD l k 0) q) }
 
 pub highest-more : (l : List ℕ) (i b c t d r : ℕ) → 1 ≤ i → Highest l i t → c ≡ getD l t 0 → b ≡ getD l (i + 1) 0 → Tops b (i + 1) c t d r → Highest l (i + 1) r × (d ≡ getD l r 0)
-highest-more l i b c t d r some h ec eb (inl w) = (subst (Highest l (i + 1)) (sym (w .2)) (record {
-  low = omega arith;
-  high = omega arith;
-  first = λ x a k. omega (arith, h .most x a (omega arith), w .0);
-  most = λ x a k. go x a k (ℕ-discrete x (i + 1));
-}), w .1 ∙ eb ∙ ap (λ (k : ℕ). getD l k 0) (sym (w .2)))
+highest-more l i b c t d r some h ec eb (inl w) = (
+  subst (Highest l (i + 1)) (sym (w .2)) (record {
+    low = omega arith;
+    high = omega arith;
+    first = λ x a k. omega (arith, h .most x a (omega arith), w .0);
+    most = λ x a k. go x a k (ℕ-discrete x (i + 1));
+  }),
+  w .1 ∙ eb ∙ ap (λ (k : ℕ). getD l k 0) (sym (w .2)),
+)
   where
     go : (x : ℕ) → 1 ≤ x → x ≤ i + 1 → Dec (x ≡ i + 1) → getD l x 0 ≤ getD l (i + 1) 0
     go x a k (yes q) = omega (arith, ap (λ (k : ℕ). getD l k 0) q)
     go x a k (no q) = omega (arith, h .most x a (omega arith), w .0)
-highest-more l i b c t d r some h ec eb (inr w) = (subst (Highest l (i + 1)) (sym (w .2)) (record {
-  low = h .low;
-  high = omega (arith, h .high);
-  first = h .first;
-  most = λ x a k. go x a k (ℕ-discrete x (i + 1));
-}), w .1 ∙ ec ∙ ap (λ (k : ℕ). getD l k 0) (sym (w .2)))
+highest-more l i b c t d r some h ec eb (inr w) = (
+  subst (Highest l (i + 1)) (sym (w .2)) (record {
+    low = h .low;
+    high = omega (arith, h .high);
+    first = h .first;
+    most = λ x a k. go x a k (ℕ-discrete x (i + 1));
+  }),
+  w .1 ∙ ec ∙ ap (λ (k : ℕ). getD l k 0) (sym (w .2)),
+)
   where
     go : (x : ℕ) → 1 ≤ x → x ≤ i + 1 → Dec (x ≡ i + 1) → getD l x 0 ≤ getD l t 0
     go x a k (yes q) = omega (arith, ap (λ (k : ℕ). getD l k 0) q, w .0)
@@ -96,9 +102,6 @@ risen-pin l y k r f h small e up = record { len = length-set l y r ∙ h; above 
     go x s a b (no q) =
         let none : same y x * f x ≡ 0 = ap (λ (i : ℕ). i * f x) (same-no y x (λ z. q (sym z))) ∙ zero-mul (f x) in
         omega (arith, getD-set-other l y x r 0 q)
-
-pub raised-high : (b k : ℕ) → ceiling ≤ b → (s : ℕ) → s ≤ ceiling → s ≤ b + k → s ≤ b
-raised-high b k h s a c = omega arith
 
 -- the pins of a net
 module _ (pins : List ℕ) (f : ℕ) (g : ℕ → ℕ) where

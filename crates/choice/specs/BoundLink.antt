@@ -1,6 +1,6 @@
 -- After v is contracted into u, the rating of a vertex other than u with a later one has grown at most by what v's nets add for it; so bounds
 -- raised by that are bounds again. Rests on BoundLaw, on JoinLink and on guarantees' Climbs, Weights and Calls. Assumes nothing.
-use mathlib.Core.Path.{_≡_, refl, sym, ap, ap₂, _∙_, subst}
+use mathlib.Core.Path.{_≡_, refl, sym, ap, ap₂, _∙_}
 use mathlib.Core.Bool.{Bool, true, false, _&&_, _||_, cond}
 use mathlib.Core.List.{List, _∷_}
 use Prim.Native.Nat.{ℕ, _+_, _-_, _*_, _≤_, _<_}
@@ -23,7 +23,7 @@ use Rattle.incidence.specs.On.{on}
 use Rattle.choice.specs.Rating.{termOf, over, scoreOf}
 use Rattle.choice.specs.JoinLaw.{idle}
 use Rattle.choice.specs.JoinLink.{Linked, net, rating-sum, apart, value}
-use Rattle.choice.specs.Bound.{Bounded, ceiling, earlier, nearRise, farRise, riseAt, riseOf, Ready}
+use Rattle.choice.specs.Bound.{Bounded, earlier, nearRise, farRise, riseAt, riseOf, Ready}
 use Rattle.choice.specs.BoundLaw.{score-small}
 
 -- ---- one net: a, b are whether it has the two rated pins, p and q whether it has u and v; its term is t before and t′ after
@@ -131,7 +131,7 @@ module _ (h : Hypergraph) (cs : List Contraction) (block : ℕ → ℕ) (bits pi
 
         one-net : (e : ℕ) → e < m
             → cond (eqb (on bits (c .gone - 1) e) 1) (occ pins (getD firsts e 0) (getD sizes e 0) x
-              * riseAt blocks (c .into) (getD blocks (c .into - 1) 0) (nearRise (eqb (on bits (c .into - 1) e) 1) (getD netWeights e 0) (getD sizes e 0)) (farRise (eqb (on bits (c .into - 1) e) 1) (getD netWeights e 0) (getD sizes e 0)) x) 0
+            * riseAt blocks (c .into) (getD blocks (c .into - 1) 0) (nearRise (eqb (on bits (c .into - 1) e) 1) (getD netWeights e 0) (getD sizes e 0)) (farRise (eqb (on bits (c .into - 1) e) 1) (getD netWeights e 0) (getD sizes e 0)) x) 0
             ≡ cond (pin cs (net h e) (c .gone)) (one (pin cs (net h e) x) * cond (near x) (cond (pin cs (net h e) (c .into)) (more e) (old e)) (cond (pin cs (net h e) (c .into)) (more e) 0)) 0
         one-net e l = rw (holds (c .gone) e vl vu l (st .0 .gone-on), holds (c .into) e ul uu l (st .0 .into-on), k .members x e xl xu l, k .weighs e l .0, k .sized e l) refl
 

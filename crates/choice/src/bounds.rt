@@ -6,12 +6,11 @@ use crate::rating::term;
 use incidence::is_pin;
 use incidence::next_net;
 ghost use mathlib.Core.Path.{_≡_};
-ghost use mathlib.Core.Bool.{Bool, cond};
-ghost use Prim.Native.Nat.{ℕ, _+_, _-_, _*_, _<_, _≤_};
-ghost use lib.ListN.{length, getD};
-ghost use Rattle.laws.specs.Occurrence.{same, occ};
-ghost use Rattle.choice.specs.Rating.{ownSum, TablesOk, TakeOk};
-ghost use Rattle.choice.specs.Bound.{Highest, earlier, nearRise, farRise, riseAt, riseOf, Risen, Lifted};
+ghost use Prim.Native.Nat.{ℕ, _+_, _-_, _*_, _≤_};
+ghost use lib.ListN.{length};
+ghost use Rattle.laws.specs.Occurrence.{occ};
+ghost use Rattle.choice.specs.Rating.{TablesOk, TakeOk};
+ghost use Rattle.choice.specs.Bound.{Highest, ceiling, nearRise, farRise, riseAt, riseOf, Risen, Lifted};
 ghost use Rattle.choice.specs.BoundLaw.{OwnSums, Tops};
 
 // A vertex and its bound.
@@ -27,7 +26,17 @@ struct Shares {
 }
 
 // Sets the bound of each vertex to the sum of its own terms.
-pub fn begin(bounds: &mut [u64; 1025], bits: &[u64], pins: &[u16], firsts: &[u16], sizes: &[u16], netWeights: &[u16], blocks: &[u16], m: usize, n: usize)
+pub fn begin(
+    bounds: &mut [u64; 1025],
+    bits: &[u64],
+    pins: &[u16],
+    firsts: &[u16],
+    sizes: &[u16],
+    netWeights: &[u16],
+    blocks: &[u16],
+    m: usize,
+    n: usize,
+)
     requires { ⌜ TablesOk (now bits) (now pins) (now firsts) (now sizes) (now netWeights) (now blocks) m n ⌝ }
     requires { ⌜ length (now bounds) ≡ 1025 ⌝ }
     ensures { λ _. ⌜ OwnSums (now (bits .entry)) (now (sizes .entry)) (now (netWeights .entry)) m n (now (bounds .exit)) ⌝ }
@@ -103,10 +112,7 @@ fn rise(both: bool, w: u16, n: u16) -> Shares
             far: more,
         };
     }
-    Shares {
-        near: t,
-        far: 0,
-    }
+    Shares { near: t, far: 0 }
 }
 
 // What is added for the pin `y`.
@@ -126,7 +132,7 @@ fn share(blocks: &[u16], u: usize, own: u16, y: usize, near: u64, far: u64) -> u
 // Raises a bound. One above all ratings needs no more.
 fn raised(bound: u64, more: u64) -> u64
     requires { ⌜ more ≤ 536870912 ⌝ }
-    ensures { λ r. ⌜ ((s : ℕ) → s ≤ 36028797018963968 → s ≤ bound + more → s ≤ r) ⌝ }
+    ensures { λ r. ⌜ ((s : ℕ) → s ≤ ceiling → s ≤ bound + more → s ≤ r) ⌝ }
 {
     if 36028797018963968 <= bound {
         return bound;
@@ -135,7 +141,17 @@ fn raised(bound: u64, more: u64) -> u64
 }
 
 // Raises the bounds of the pins of a net.
-fn lift_net(bounds: &mut [u64; 1025], pins: &[u16], blocks: &[u16], u: usize, own: u16, first: usize, n: usize, near: u64, far: u64)
+fn lift_net(
+    bounds: &mut [u64; 1025],
+    pins: &[u16],
+    blocks: &[u16],
+    u: usize,
+    own: u16,
+    first: usize,
+    n: usize,
+    near: u64,
+    far: u64,
+)
     requires { ⌜ TakeOk (length (now bounds)) (now pins) (length (now blocks)) first n ⌝ }
     requires { ⌜ (near ≤ 536870912) × (far ≤ 536870912) ⌝ }
     ensures { λ _. ⌜ Risen (now (bounds .entry)) (now (bounds .exit)) (λ z. occ (now (pins .entry)) first n z * riseAt (now (blocks .entry)) u own near far z) ⌝ }
@@ -149,7 +165,19 @@ fn lift_net(bounds: &mut [u64; 1025], pins: &[u16], blocks: &[u16], u: usize, ow
 }
 
 // Raises the bounds to what they have to be when `v` has been contracted into `u`. All ratings of `u` change, so that it has no bound.
-pub fn lift(bounds: &mut [u64; 1025], bits: &[u64], pins: &[u16], firsts: &[u16], sizes: &[u16], netWeights: &[u16], blocks: &[u16], u: usize, v: usize, m: usize, n: usize)
+pub fn lift(
+    bounds: &mut [u64; 1025],
+    bits: &[u64],
+    pins: &[u16],
+    firsts: &[u16],
+    sizes: &[u16],
+    netWeights: &[u16],
+    blocks: &[u16],
+    u: usize,
+    v: usize,
+    m: usize,
+    n: usize,
+)
     requires { ⌜ TablesOk (now bits) (now pins) (now firsts) (now sizes) (now netWeights) (now blocks) m n ⌝ }
     requires { ⌜ (length (now bounds) ≡ 1025) × (1 ≤ u) × (u ≤ n) × (1 ≤ v) × (v ≤ n) ⌝ }
     ensures { λ _. ⌜ Lifted (now (bounds .entry)) (now (bounds .exit)) (riseOf (now (bits .entry)) (now (pins .entry)) (now (firsts .entry)) (now (sizes .entry)) (now (netWeights .entry)) (now (blocks .entry)) m u v) u v ⌝ }
@@ -158,7 +186,17 @@ pub fn lift(bounds: &mut [u64; 1025], bits: &[u64], pins: &[u16], firsts: &[u16]
     let mut e = next_net(bits, v - 1, 0, m);
     while e < m {
         let r = rise(is_pin(bits, u - 1, e), netWeights[e], sizes[e]);
-        lift_net(bounds, pins, blocks, u, own, wide(firsts[e]), wide(sizes[e]), r.near, r.far);
+        lift_net(
+            bounds,
+            pins,
+            blocks,
+            u,
+            own,
+            wide(firsts[e]),
+            wide(sizes[e]),
+            r.near,
+            r.far,
+        );
         e = next_net(bits, v - 1, e + 1, m);
     }
     bounds[v] = 0;

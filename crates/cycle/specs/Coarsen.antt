@@ -156,8 +156,8 @@ once-bounds {T} {average = average} o T′ r l qn qm b some j p =
     let c : Contraction = record { into = r .into; gone = r .gone } in
     let s′ : Sound h (c ∷ cs) (place block (r .gone) 0) T′ = joined-sound average r (o .average-is) s b some j in
     let k′ : Linked h (c ∷ cs) (place block (r .gone) 0) (T′ .bits) (T′ .pins) (T′ .firsts) (T′ .sizes) (T′ .netWeights) (T′ .blocks) (T′ .weights) (S .m) (S .n) average =
-        subst (λ (x : ℕ). Linked h (c ∷ cs) (place block (r .gone) 0) (T′ .bits) (T′ .pins) (T′ .firsts) (T′ .sizes) (T′ .netWeights) (T′ .blocks) (T′ .weights) x (S .n) average) qm
-        (subst (λ (x : ℕ). Linked h (c ∷ cs) (place block (r .gone) 0) (T′ .bits) (T′ .pins) (T′ .firsts) (T′ .sizes) (T′ .netWeights) (T′ .blocks) (T′ .weights) (T′ .m) x average) qn (linked s′ average (o .average-is))) in
+    subst (λ (x : ℕ). Linked h (c ∷ cs) (place block (r .gone) 0) (T′ .bits) (T′ .pins) (T′ .firsts) (T′ .sizes) (T′ .netWeights) (T′ .blocks) (T′ .weights) x (S .n) average) qm
+    (subst (λ (x : ℕ). Linked h (c ∷ cs) (place block (r .gone) 0) (T′ .bits) (T′ .pins) (T′ .firsts) (T′ .sizes) (T′ .netWeights) (T′ .blocks) (T′ .weights) (T′ .m) x average) qn (linked s′ average (o .average-is))) in
     bounded-after h cs block (S .bits) (S .pins) (S .firsts) (S .sizes) (S .netWeights) (S .blocks) (S .weights) (S .m) (S .n) average (linked s average (o .average-is)) c (s′ .follows .says .sound) (i .0) (i .1) (i .2) (i .3)
     (T′ .bits) (T′ .pins) (T′ .firsts) (T′ .sizes) (T′ .netWeights) (T′ .blocks) (T′ .weights) k′ l (p .some some)
 

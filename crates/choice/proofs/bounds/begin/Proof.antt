@@ -1,16 +1,12 @@
+-- `begin`: one vertex more has the sum of its own terms.
 use Prim.Native.Nat.{ℕ, _≤_, _-_}
-use mathlib.Core.Path.{subst}
+use mathlib.Core.Path.{subst, _≡_}
 use Rattle.choice.specs.RatingLaw.{own-ok}
 use Rattle.choice.specs.BoundLaw.{OwnSums, sums-none, sums-more}
 use native.Mathlib.Omega.{arith}
-use mathlib.Core.Path.{_≡_, sym, _∙_, ap}
 use denote.Ref.{now}
-use borrow.Author.Needs.{needs}
 use Rattle.choice.proofs.bounds.begin.Statement.{statement}
 use Rattle.choice.proofs.bounds.begin.Tie as tie
-use Rattle.choice.proofs.bounds.begin.Reads as reads
-use Rattle.choice.proofs.bounds.begin.Lts as lts
-use Rattle.choice.proofs.rating.own_sum.Reads as own-sum-reads
 
 abbrev Inv-loop : tie.InvT-loop
 Inv-loop bounds₀ bits pins firsts sizes netWeights blocks m n i₀ bounds i = (i ≤ n) × OwnSums bits sizes netWeights m i bounds

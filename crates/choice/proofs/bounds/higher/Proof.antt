@@ -1,13 +1,9 @@
+-- `higher`: the vertex is chosen where its bound is the higher one.
 use mathlib.Core.Logic.{inl, inr}
 use mathlib.Core.Path.{refl}
 use native.Mathlib.Omega.{arith}
-use mathlib.Core.Path.{_≡_, sym, _∙_, ap}
-use denote.Ref.{now}
-use borrow.Author.Needs.{needs}
 use Rattle.choice.proofs.bounds.higher.Statement.{statement}
 use Rattle.choice.proofs.bounds.higher.Tie as tie
-use Rattle.choice.proofs.bounds.higher.Reads as reads
-use Rattle.choice.proofs.bounds.higher.Lts as lts
 
 returns : tie.Need-returns
 returns c = inl (omega arith, refl, refl)

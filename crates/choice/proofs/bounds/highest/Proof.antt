@@ -1,17 +1,14 @@
+-- `highest`: the first of the highest among the vertices seen.
 use Prim.Native.Nat.{ℕ, _≤_, _-_}
-use mathlib.Core.Path.{refl, subst}
+use mathlib.Core.Path.{refl, subst, _≡_}
 use lib.ListN.{getD}
 use Rattle.choice.specs.Bound.{Highest}
 use Rattle.choice.specs.BoundLaw.{highest-one, highest-more}
 use native.Mathlib.Omega.{arith}
-use mathlib.Core.Path.{_≡_, sym, _∙_, ap}
 use denote.Ref.{now}
 use borrow.Author.Needs.{needs}
 use Rattle.choice.proofs.bounds.highest.Statement.{statement}
 use Rattle.choice.proofs.bounds.highest.Tie as tie
-use Rattle.choice.proofs.bounds.highest.Reads as reads
-use Rattle.choice.proofs.bounds.highest.Lts as lts
-use Rattle.choice.proofs.bounds.higher.Reads as higher-reads
 
 abbrev Inv-loop : tie.InvT-loop
 Inv-loop bounds n top₀ i₀ top i = (1 ≤ i) × (i ≤ n) × Highest bounds i (top .vertex) × (top .bound ≡ getD bounds (top .vertex) 0)

@@ -1,22 +1,15 @@
+-- `lift`: the bounds are raised by what the nets seen so far add; then u and v are set apart.
 use Prim.Native.Nat.{ℕ, _≤_, _<_, _-_}
-use mathlib.Core.Path.{subst}
+use mathlib.Core.Path.{subst, _≡_}
 use lib.ListN.{length-set}
 use Rattle.incidence.specs.On.{on}
 use Rattle.choice.specs.Bound.{riseOf, Risen}
 use Rattle.choice.specs.BoundLaw.{nets-none, nets-take, nets-more, lifted}
 use native.Mathlib.Omega.{arith}
-use mathlib.Core.Path.{_≡_, sym, _∙_, ap}
 use denote.Ref.{now}
 use borrow.Author.Needs.{needs}
 use Rattle.choice.proofs.bounds.lift.Statement.{statement}
 use Rattle.choice.proofs.bounds.lift.Tie as tie
-use Rattle.choice.proofs.bounds.lift.Reads as reads
-use Rattle.choice.proofs.bounds.lift.Lts as lts
-use Rattle.choice.proofs.bounds.lift_net.Reads as lift-net-reads
-use Rattle.choice.proofs.bounds.rise.Reads as rise-reads
-use Rattle.choice.proofs.numbers.wide.Reads as wide-reads
-use Rattle.incidence.proofs.is_pin.Reads as is-pin-reads
-use Rattle.incidence.proofs.next_net.Reads as next-net-reads
 
 abbrev Inv-loop : tie.InvT-loop
 Inv-loop bounds₀ bits pins firsts sizes netWeights blocks u v m n own e₀ bounds e = (e ≤ m) × (e < m → on bits (v - 1) e ≡ 1) × Risen bounds₀ bounds (riseOf bits pins firsts sizes netWeights blocks e u v)

@@ -1,19 +1,14 @@
+-- `lift_net`: the bounds are raised by what the pins seen so far add.
 use Prim.Native.Nat.{ℕ, _≤_, _-_, _*_}
-use mathlib.Core.Path.{subst}
+use mathlib.Core.Path.{subst, _≡_}
 use Rattle.laws.specs.Occurrence.{occ}
 use Rattle.choice.specs.Bound.{riseAt, Risen}
 use Rattle.choice.specs.BoundLaw.{lift-none, lift-more, share-small}
 use native.Mathlib.Omega.{arith}
-use mathlib.Core.Path.{_≡_, sym, _∙_, ap}
 use denote.Ref.{now}
 use borrow.Author.Needs.{needs}
 use Rattle.choice.proofs.bounds.lift_net.Statement.{statement}
 use Rattle.choice.proofs.bounds.lift_net.Tie as tie
-use Rattle.choice.proofs.bounds.lift_net.Reads as reads
-use Rattle.choice.proofs.bounds.lift_net.Lts as lts
-use Rattle.choice.proofs.bounds.raised.Reads as raised-reads
-use Rattle.choice.proofs.bounds.share.Reads as share-reads
-use Rattle.choice.proofs.numbers.wide.Reads as wide-reads
 
 abbrev Inv-loop : tie.InvT-loop
 Inv-loop bounds₀ pins blocks u own first n near far i₀ bounds i = (i ≤ n) × Risen bounds₀ bounds (λ z. occ pins first i z * riseAt blocks u own near far z)

@@ -1,15 +1,8 @@
+-- `rise`: what a net adds, where both vertices are its pins and where one is.
 use Rattle.choice.specs.BoundLaw.{rise-both, rise-one}
-use native.Mathlib.Omega.{arith}
-use mathlib.Core.Path.{_≡_, sym, _∙_, ap}
-use denote.Ref.{now}
 use borrow.Author.Needs.{needs}
 use Rattle.choice.proofs.bounds.rise.Statement.{statement}
 use Rattle.choice.proofs.bounds.rise.Tie as tie
-use Rattle.choice.proofs.bounds.rise.Reads as reads
-use Rattle.choice.proofs.bounds.rise.Lts as lts
-use Rattle.choice.proofs.bounds.excess.Reads as excess-reads
-use Rattle.choice.proofs.bounds.fewer.Reads as fewer-reads
-use Rattle.choice.proofs.rating.term.Reads as term-reads
 
 term-requires : tie.Need-term-requires
 term-requires c κs = search needs

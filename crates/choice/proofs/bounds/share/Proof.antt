@@ -1,12 +1,10 @@
+-- `share`: one case for each test.
 use Rattle.choice.specs.BoundLaw.{share-late, share-apart, share-near}
 use native.Mathlib.Omega.{arith}
-use mathlib.Core.Path.{_≡_, sym, _∙_, ap}
 use denote.Ref.{now}
 use borrow.Author.Needs.{needs}
 use Rattle.choice.proofs.bounds.share.Statement.{statement}
 use Rattle.choice.proofs.bounds.share.Tie as tie
-use Rattle.choice.proofs.bounds.share.Reads as reads
-use Rattle.choice.proofs.bounds.share.Lts as lts
 
 returns : tie.Need-returns
 returns c = let a = c .before .args in share-late (now (a .blocks)) (a .u) (a .own) (a .near) (a .far) (a .y) (c .if1 .taken)

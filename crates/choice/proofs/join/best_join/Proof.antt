@@ -1,15 +1,8 @@
+-- `best_join`: bounds stay bounds, and each rating lowers one or ends the search.
 use Rattle.choice.specs.Rating.{Blank, scoreOf}
 use Rattle.choice.specs.Settling.{Settling, settling, effort, effort-less, settled}
-use native.Mathlib.Omega.{arith}
-use mathlib.Core.Path.{_≡_, sym, _∙_, ap}
-use denote.Ref.{now}
-use borrow.Author.Needs.{needs}
 use Rattle.choice.proofs.join.best_join.Statement.{statement}
 use Rattle.choice.proofs.join.best_join.Tie as tie
-use Rattle.choice.proofs.join.best_join.Reads as reads
-use Rattle.choice.proofs.join.best_join.Lts as lts
-use Rattle.choice.proofs.bounds.highest.Reads as highest-reads
-use Rattle.choice.proofs.join.rate.Reads as rate-reads
 
 abbrev Inv-loop : tie.InvT-loop
 Inv-loop acc₀ bounds₀ bits pins firsts sizes netWeights blocks weights limit m n start s₀ acc bounds s = Settling (scoreOf bits pins firsts sizes netWeights blocks weights m limit) n bounds (s .rating) (s .into) (s .gone) (s .top) × Blank acc

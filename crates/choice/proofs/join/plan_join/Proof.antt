@@ -1,13 +1,10 @@
+-- `plan_join`: without a pair the bounds stay; with one they are raised.
 use native.Mathlib.Omega.{arith}
 use denote.Ref.{now}
 use Rattle.choice.specs.Bound.{riseOf}
 use Rattle.choice.specs.BoundLaw.{planned-none, planned-some}
 use Rattle.choice.proofs.join.plan_join.Statement.{statement}
 use Rattle.choice.proofs.join.plan_join.Tie as tie
-use Rattle.choice.proofs.join.plan_join.Reads as reads
-use Rattle.choice.proofs.join.plan_join.Lts as lts
-use Rattle.choice.proofs.join.best_join.Reads as best-join-reads
-use Rattle.choice.proofs.bounds.lift.Reads as lift-reads
 
 best-join-requires : tie.Need-best-join-requires
 best-join-requires c κs = c .before .before .before .before .before .before .before .before .before .pre

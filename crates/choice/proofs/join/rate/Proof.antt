@@ -1,16 +1,11 @@
+-- `rate`: the best partner's rating becomes the bound.
 use lib.ListN.{length-set}
-use mathlib.Core.Path.{refl}
+use mathlib.Core.Path.{refl, _∙_, ap}
 use Rattle.choice.specs.declared.join.Partner.{Partner}
 use native.Mathlib.Omega.{arith}
-use mathlib.Core.Path.{_≡_, sym, _∙_, ap}
 use denote.Ref.{now}
-use borrow.Author.Needs.{needs}
 use Rattle.choice.proofs.join.rate.Statement.{statement}
 use Rattle.choice.proofs.join.rate.Tie as tie
-use Rattle.choice.proofs.join.rate.Reads as reads
-use Rattle.choice.proofs.join.rate.Lts as lts
-use Rattle.choice.proofs.bounds.highest.Reads as highest-reads
-use Rattle.choice.proofs.join.best_partner.Reads as best-partner-reads
 
 best-partner-requires : tie.Need-best-partner-requires
 best-partner-requires c κs = let p = c .before .before .before .before .before .before .before .before .pre in (p .0, (p .1 .0, p .1 .2, p .1 .3, p .1 .4))
