@@ -4,16 +4,17 @@ use mathlib.Core.Path.{_≡_, refl, sym, ap, ap₂, _∙_, subst}
 use mathlib.Core.Bool.{Bool, true, false, _&&_, and-false, cond}
 use mathlib.Core.Logic.{inl}
 use mathlib.Core.List.{List}
-use Prim.Native.Nat.{ℕ, zero, suc, _+_, _-_, _≤_, _<_}
+use Prim.Native.Nat.{ℕ, zero, suc, _+_, _-_, _*_, _≤_, _<_}
 use native.Mathlib.Decide.{ℕ-discrete, decLt}
+use native.Mathlib.Nat.{mul-zero}
 use native.Mathlib.Omega.{arith}
 use borrow.Author.Tests.{ne-eqb, lt-ltb, le-ltb, ltb-true, ltb-false}
 use lib.Dec.{ltb, leb}
 use lib.ListN.{length, getD}
 use Rattle.laws.specs.Choice.{cond-le}
-use Rattle.laws.specs.Occurrence.{at, occ-none}
-use Rattle.choice.specs.Rating.{near, rowOf, metOf, ownSum, scoreIn, scoreOf, TablesOk, SelectOk, Blank, Raised, Swept}
-use Rattle.choice.specs.RatingLaw.{spread-dead, spread-off, over-off, over-nil, row-own}
+use Rattle.laws.specs.Occurrence.{occ-none}
+use Rattle.choice.specs.Rating.{near, fits, termOf, rowOf, metOf, ownSum, scoreIn, scoreOf, TablesOk, SelectOk, Blank, Raised, Swept}
+use Rattle.choice.specs.RatingLaw.{over-off, over-nil, row-own, row-ok}
 use Rattle.choice.specs.PartnerLaw.{Ahead, Leading, FirstMax, Weighed, nobody, cond-none}
 use Rattle.choice.specs.declared.join.Partner.{Partner}
 use Rattle.choice.specs.declared.join.Join.{Join}
@@ -37,6 +38,7 @@ unfoldable pub topTo : (ℕ → ℕ) → ℕ → Partner
 topTo score zero = record { rating = 0; vertex = 0 }
 topTo score (suc k) = cond (ltb (topTo score k .rating) (score (suc k))) (record { rating = score (suc k); vertex = suc k }) (topTo score k)
 
+-- no place is over it, and it is under what all places are under
 pub top-over : (score : ℕ → ℕ) (n z : ℕ) → 1 ≤ z → z ≤ n → score z ≤ topTo score n .rating
 unfolding topTo
 top-over score zero z l h = absurd (omega arith)
@@ -120,33 +122,37 @@ pub record PartnerOf (score : ℕ → ℕ) (n : ℕ) (l′ : List ℕ) (p : Part
 -- accumulated, weighed and cleared
 module _ (bits pins firsts sizes netWeights blocks weights : List ℕ) (m n limit u : ℕ) (ok : TablesOk bits pins firsts sizes netWeights blocks m n) where
   abbrev whole : ℕ → ℕ
-  whole = rowOf bits pins firsts sizes netWeights blocks u m
+  whole = rowOf bits pins firsts sizes netWeights u m
+
+  abbrev test : ℕ → Bool
+  test = fits blocks weights u (getD blocks (u - 1) 0) (getD weights (u - 1) 0) limit
 
   abbrev points : ℕ → ℕ
-  points = scoreIn weights (getD weights (u - 1) 0) limit whole
+  points = scoreIn test whole
 
   unmet : (z : ℕ) → metOf bits pins firsts sizes u m z ≡ 0 → whole z ≡ 0
-  unmet z e = over-off bits (u - 1) m _ _ (λ g h q. spread-off pins (getD firsts g 0) _ _ (getD sizes g 0) z q) e
+  unmet z e = over-off bits (u - 1) m _ _ (λ g h q. ap (λ (k : ℕ). termOf (getD netWeights g 0) (getD sizes g 0) * k) q ∙ mul-zero (termOf (getD netWeights g 0) (getD sizes g 0))) e
+
+  none-there : (z : ℕ) → whole z ≡ 0 → points z ≡ 0
+  none-there z e = ap (λ (k : ℕ). cond (test z) k 0) e ∙ cond-none (test z)
 
   outside : (z : ℕ) → (1 ≤ z → z ≤ n → ⊥) → points z ≡ 0
-  outside z no-pin = ap (λ (k : ℕ). cond (leb (getD weights (u - 1) 0 + getD weights (z - 1) 0) limit) k 0) none ∙ cond-none (leb (getD weights (u - 1) 0 + getD weights (z - 1) 0) limit)
-    where
-      none : whole z ≡ 0
-      none = unmet z (over-nil bits (u - 1) m _ (λ g h. occ-none pins (getD firsts g 0) (getD sizes g 0) z (λ i k q. no-pin (omega (arith, ok .pin g h i k .0)) (omega (arith, ok .pin g h i k .1)))))
+  outside z no-pin = none-there z (unmet z (over-nil bits (u - 1) m _ (λ g h. occ-none pins (getD firsts g 0) (getD sizes g 0) z (λ i k q. no-pin (omega (arith, ok .pin g h i k .0)) (omega (arith, ok .pin g h i k .1))))))
 
-  pub select-ok : n ≤ length weights → SelectOk bits pins firsts sizes weights m n
+  pub select-ok : n ≤ length weights → SelectOk bits pins firsts sizes blocks weights m n
   select-ok h = record {
     rows = ok .rows;
     nets = ok .nets;
     vertices = ok .vertices;
     in-firsts = ok .in-firsts;
     in-sizes = ok .in-sizes;
+    in-blocks = ok .in-blocks;
     in-weights = h;
     stretch = ok .stretch;
     pin = λ e k i q. (ok .pin e k i q .0, ok .pin e k i q .1);
   }
 
-  pub partner-law : (l0 l1 l2 : List ℕ) (p : Partner) → Blank l0 → Raised l0 l1 whole → Swept l1 l2 (metOf bits pins firsts sizes u m) → Weighed weights (getD weights (u - 1) 0) limit l1 l2 nobody p
+  pub partner-law : (l0 l1 l2 : List ℕ) (p : Partner) → Blank l0 → Raised l0 l1 whole → Swept l1 l2 (metOf bits pins firsts sizes u m) → Weighed test l1 l2 nobody p
       → PartnerOf (scoreOf bits pins firsts sizes netWeights blocks weights m limit u) n l2 p
   unfolding scoreOf
   partner-law l0 l1 l2 p c r s w = record {
@@ -167,7 +173,7 @@ module _ (bits pins firsts sizes netWeights blocks weights : List ℕ) (m n limi
       start : Leading whole points l1 nobody
       start = record {
         held = λ z. inl (raised z);
-        ahead = λ z q. subst (λ (k : ℕ). Ahead k z nobody) (sym (ap (λ (k : ℕ). cond (leb (getD weights (u - 1) 0 + getD weights (z - 1) 0) limit) k 0) (sym (raised z) ∙ q) ∙ cond-none (leb (getD weights (u - 1) 0 + getD weights (z - 1) 0) limit))) (record { high = omega arith; first = λ e. omega arith });
+        ahead = λ z q. subst (λ (k : ℕ). Ahead k z nobody) (sym (none-there z (sym (raised z) ∙ q))) (record { high = omega arith; first = λ e. omega arith });
         real = sym (outside 0 (λ a b. omega arith));
         plain = λ e. refl;
       }
@@ -188,18 +194,18 @@ module _ (bits pins firsts sizes netWeights blocks weights : List ℕ) (m n limi
 
   -- a vertex of block 0 has no partner: every pin is in some block
   pub idle : getD blocks (u - 1) 0 ≡ 0 → (z : ℕ) → points z ≡ 0
-  idle e z = ap (λ (k : ℕ). cond (leb (getD weights (u - 1) 0 + getD weights (z - 1) 0) limit) k 0) none ∙ cond-none (leb (getD weights (u - 1) 0 + getD weights (z - 1) 0) limit)
+  idle e z = go (ℕ-discrete (getD blocks (z - 1) 0) 0)
     where
-      apart : (y : ℕ) → 1 ≤ getD blocks (y - 1) 0 → near blocks u (getD blocks (u - 1) 0) y ≡ false
-      apart y l = ap (λ (b : Bool). ltb u y && b) (ne-eqb (getD blocks (y - 1) 0) (getD blocks (u - 1) 0) (λ q. omega arith)) ∙ and-false (ltb u y)
-
-      none : whole z ≡ 0
-      none = over-nil bits (u - 1) m _ (λ g h. spread-dead pins (getD firsts g 0) _ _ (getD sizes g 0) z (λ i k. apart (at pins (getD firsts g 0) i) (ok .pin g h i k .2)))
+      go : Dec (getD blocks (z - 1) 0 ≡ 0) → points z ≡ 0
+      go (yes q) = none-there z (unmet z (over-nil bits (u - 1) m _ (λ g h. occ-none pins (getD firsts g 0) (getD sizes g 0) z (λ i k w. omega (arith, ok .pin g h i k .2, ap (λ (y : ℕ). getD blocks (y - 1) 0) w)))))
+      go (no q) =
+          let apart : near blocks u (getD blocks (u - 1) 0) z ≡ false = ap (λ (b : Bool). ltb u z && b) (ne-eqb (getD blocks (z - 1) 0) (getD blocks (u - 1) 0) (λ w. q (w ∙ e))) ∙ and-false (ltb u z) in
+          ap (λ (b : Bool). cond (b && leb (getD weights (u - 1) 0 + getD weights (z - 1) 0) limit) (whole z) 0) apart
 
   -- no rating passes the sum of the terms of u's own nets
   pub score-own : (z : ℕ) → scoreOf bits pins firsts sizes netWeights blocks weights m limit u z ≤ ownSum bits sizes netWeights u m
   unfolding scoreOf
-  score-own z = omega (arith, cond-le (leb (getD weights (u - 1) 0 + getD weights (z - 1) 0) limit) (whole z) (whole z) (omega arith), row-own bits pins firsts sizes netWeights blocks u m n ok z)
+  score-own z = omega (arith, cond-le (test z) (whole z) (whole z) (omega arith), row-own bits pins firsts sizes netWeights u m n (row-ok ok) z)
 
 -- the best pair of the rows 1 .. k, each of n places
 unfoldable pub joinTo : (ℕ → ℕ → ℕ) → ℕ → ℕ → Join

@@ -7,13 +7,11 @@ use crate::numbers::wide32;
 use crate::rating::accumulate;
 use incidence::next_net;
 ghost use mathlib.Core.Path.{_≡_};
-ghost use Prim.Native.Nat.{ℕ, _+_, _-_, _≤_};
-ghost use mathlib.Core.Bool.{cond};
-ghost use lib.Dec.{leb};
+ghost use Prim.Native.Nat.{_-_, _≤_};
 ghost use lib.ListN.{length, getD};
 ghost use Rattle.laws.specs.Occurrence.{same, occ};
-ghost use Rattle.choice.specs.Rating.{metOf, scoreIn, scoreOf, Swept, TakeOk, TablesOk, SelectOk, Blank};
-ghost use Rattle.choice.specs.PartnerLaw.{Leading, Chose, Weighed, nobody};
+ghost use Rattle.choice.specs.Rating.{metOf, fits, scoreOf, Swept, TakeOk, TablesOk, SelectOk, Blank};
+ghost use Rattle.choice.specs.PartnerLaw.{Chose, Weighed, nobody};
 ghost use Rattle.choice.specs.JoinLaw.{PartnerOf};
 ghost use Rattle.choice.specs.JoinPair.{BestJoin};
 ghost use Rattle.choice.specs.Bound.{Bounded, Planned, riseOf};
@@ -40,17 +38,29 @@ struct Rated {
     top: usize,
 }
 
-// The rating, or 0 where the two are too heavy together.
-fn scored(s: u64, a: u64, b: u64, limit: u64) -> u64
-    ensures { λ r. ⌜ r ≡ cond (leb (a + b) limit) s 0 ⌝ }
+// Whether `y` may be the partner of `u`: it comes after it, is in its block `own`, and the two are not too heavy together; `u` weighs `a`.
+fn may_join(
+    blocks: &[u16],
+    weights: &[u32],
+    u: usize,
+    own: u16,
+    a: u64,
+    limit: u64,
+    y: usize,
+) -> bool
+    requires { ⌜ (1 ≤ y) × (y ≤ length (now blocks)) × (y ≤ length (now weights)) ⌝ }
+    ensures { λ r. ⌜ r ≡ fits (now (blocks .entry)) (now (weights .entry)) u own a limit y ⌝ }
 {
+    if y <= u {
+        return false;
+    }
+    if blocks[y - 1] != own {
+        return false;
+    }
     if limit < a {
-        return 0;
+        return false;
     }
-    if limit - a < b {
-        return 0;
-    }
-    s
+    wide32(weights[y - 1]) <= limit - a
 }
 
 // The better of `y`, of rating `s`, and the best before it.
@@ -77,43 +87,66 @@ fn choose(s: u64, y: usize, best: Partner) -> Partner
     }
 }
 
-// Weighs the pin `y`, and clears its place.
+// Weighs the pin `y`, and clears its place. Few pins rate as high as the best before them, so that this is tested first.
 fn take_pin(
     acc: &mut [u64; 1025],
+    blocks: &[u16],
     weights: &[u32],
+    u: usize,
+    own: u16,
     a: u64,
     limit: u64,
     y: usize,
     best: Partner,
 ) -> Partner
-    requires { ⌜ (length (now acc) ≡ 1025) × (1 ≤ y) × (y ≤ 1024) × (y ≤ length (now weights)) ⌝ }
+    requires { ⌜ (length (now acc) ≡ 1025) × (1 ≤ y) × (y ≤ 1024) × (y ≤ length (now blocks)) × (y ≤ length (now weights)) ⌝ }
     ensures { λ r. ⌜ Swept (now (acc .entry)) (now (acc .exit)) (same y) ⌝ }
-    ensures { λ r. ⌜ ((raw : ℕ → ℕ) → Leading raw (scoreIn (now (weights .entry)) a limit raw) (now (acc .entry)) best → Leading raw (scoreIn (now (weights .entry)) a limit raw) (now (acc .exit)) r) ⌝ }
+    ensures { λ r. ⌜ Weighed (fits (now (blocks .entry)) (now (weights .entry)) u own a limit) (now (acc .entry)) (now (acc .exit)) best r ⌝ }
 {
-    let s = scored(acc[y], a, wide32(weights[y - 1]), limit);
+    let s = acc[y];
     acc[y] = 0;
-    choose(s, y, best)
+    let high = best.rating;
+    if s < high {
+        return best;
+    }
+    if may_join(blocks, weights, u, own, a, limit, y) {
+        return choose(s, y, best);
+    }
+    best
 }
 
 // Weighs and clears the pins of a net.
 fn take_net(
     acc: &mut [u64; 1025],
     pins: &[u16],
+    blocks: &[u16],
     weights: &[u32],
+    u: usize,
+    own: u16,
     a: u64,
     limit: u64,
     first: usize,
     n: usize,
     before: Partner,
 ) -> Partner
-    requires { ⌜ TakeOk (length (now acc)) (now pins) (length (now weights)) first n ⌝ }
+    requires { ⌜ TakeOk (length (now acc)) (now pins) (length (now blocks)) first n × TakeOk (length (now acc)) (now pins) (length (now weights)) first n ⌝ }
     ensures { λ r. ⌜ Swept (now (acc .entry)) (now (acc .exit)) (occ (now (pins .entry)) first n) ⌝ }
-    ensures { λ r. ⌜ ((raw : ℕ → ℕ) → Leading raw (scoreIn (now (weights .entry)) a limit raw) (now (acc .entry)) before → Leading raw (scoreIn (now (weights .entry)) a limit raw) (now (acc .exit)) r) ⌝ }
+    ensures { λ r. ⌜ Weighed (fits (now (blocks .entry)) (now (weights .entry)) u own a limit) (now (acc .entry)) (now (acc .exit)) before r ⌝ }
 {
     let mut best = before;
     let mut i = 0;
     while i < n {
-        best = take_pin(acc, weights, a, limit, wide(pins[first + i]), best);
+        best = take_pin(
+            acc,
+            blocks,
+            weights,
+            u,
+            own,
+            a,
+            limit,
+            wide(pins[first + i]),
+            best,
+        );
         i += 1;
     }
     best
@@ -126,17 +159,19 @@ fn select(
     pins: &[u16],
     firsts: &[u16],
     sizes: &[u16],
+    blocks: &[u16],
     weights: &[u32],
     limit: u64,
     u: usize,
     m: usize,
     n: usize,
 ) -> Partner
-    requires { ⌜ SelectOk (now bits) (now pins) (now firsts) (now sizes) (now weights) m n ⌝ }
+    requires { ⌜ SelectOk (now bits) (now pins) (now firsts) (now sizes) (now blocks) (now weights) m n ⌝ }
     requires { ⌜ (length (now acc) ≡ 1025) × (1 ≤ u) × (u ≤ n) ⌝ }
     ensures { λ r. ⌜ Swept (now (acc .entry)) (now (acc .exit)) (metOf (now (bits .entry)) (now (pins .entry)) (now (firsts .entry)) (now (sizes .entry)) u m) ⌝ }
-    ensures { λ r. ⌜ Weighed (now (weights .entry)) (getD (now (weights .entry)) (u - 1) 0) limit (now (acc .entry)) (now (acc .exit)) nobody r ⌝ }
+    ensures { λ r. ⌜ Weighed (fits (now (blocks .entry)) (now (weights .entry)) u (getD (now (blocks .entry)) (u - 1) 0) (getD (now (weights .entry)) (u - 1) 0) limit) (now (acc .entry)) (now (acc .exit)) nobody r ⌝ }
 {
+    let own = blocks[u - 1];
     let a = wide32(weights[u - 1]);
     let mut best = Partner {
         rating: 0,
@@ -147,7 +182,10 @@ fn select(
         best = take_net(
             acc,
             pins,
+            blocks,
             weights,
+            u,
+            own,
             a,
             limit,
             wide(firsts[e]),
@@ -178,8 +216,20 @@ fn best_partner(
     requires { ⌜ Blank (now acc) × (1 ≤ u) × (u ≤ n) × (n ≤ length (now weights)) ⌝ }
     ensures { λ r. ⌜ PartnerOf (scoreOf (now (bits .entry)) (now (pins .entry)) (now (firsts .entry)) (now (sizes .entry)) (now (netWeights .entry)) (now (blocks .entry)) (now (weights .entry)) m limit u) n (now (acc .exit)) r ⌝ }
 {
-    accumulate(acc, bits, pins, firsts, sizes, netWeights, blocks, u, m, n);
-    select(acc, bits, pins, firsts, sizes, weights, limit, u, m, n)
+    accumulate(acc, bits, pins, firsts, sizes, netWeights, u, m, n);
+    select(
+        acc,
+        bits,
+        pins,
+        firsts,
+        sizes,
+        blocks,
+        weights,
+        limit,
+        u,
+        m,
+        n,
+    )
 }
 
 // Finds the best partner of `u`; its rating is then u's bound.
