@@ -1,20 +1,20 @@
--- The best pair of all rows, by scores; a row that has none, and a row that is left out since its ratings can't be higher.
+-- The best pair of all rows, by scores; a row that has none; and that the first of the highest rows has the best pair.
 -- Rests on RatingLaw and PartnerLaw. Assumes nothing.
 use mathlib.Core.Path.{_≡_, refl, sym, ap, ap₂, _∙_, subst}
 use mathlib.Core.Bool.{Bool, true, false, _&&_, and-false, cond}
 use mathlib.Core.Logic.{inl}
 use mathlib.Core.List.{List}
-use Prim.Native.Nat.{ℕ, zero, suc, _+_, _-_, _≤_, _<_}
+use Prim.Native.Nat.{ℕ, zero, suc, _+_, _-_, _*_, _≤_, _<_}
 use native.Mathlib.Decide.{ℕ-discrete, decLt}
+use native.Mathlib.Nat.{mul-zero}
 use native.Mathlib.Omega.{arith}
-use native.Mathlib.Numerals.{add-one}
 use borrow.Author.Tests.{ne-eqb, lt-ltb, le-ltb, ltb-true, ltb-false}
 use lib.Dec.{ltb, leb}
 use lib.ListN.{length, getD}
 use Rattle.laws.specs.Choice.{cond-le}
-use Rattle.laws.specs.Occurrence.{at, occ-none}
-use Rattle.choice.specs.Rating.{near, rowOf, metOf, ownSum, scoreIn, scoreOf, TablesOk, SelectOk, Blank, Raised, Swept}
-use Rattle.choice.specs.RatingLaw.{spread-dead, spread-off, over-off, over-nil, row-own}
+use Rattle.laws.specs.Occurrence.{occ-none}
+use Rattle.choice.specs.Rating.{near, fits, termOf, rowOf, metOf, ownSum, scoreIn, scoreOf, TablesOk, SelectOk, Blank, Raised, Swept}
+use Rattle.choice.specs.RatingLaw.{over-off, over-nil, row-own, row-ok}
 use Rattle.choice.specs.PartnerLaw.{Ahead, Leading, FirstMax, Weighed, nobody, cond-none}
 use Rattle.choice.specs.declared.join.Partner.{Partner}
 use Rattle.choice.specs.declared.join.Join.{Join}
@@ -37,6 +37,27 @@ joined-old u p b h = rw (le-ltb (b .rating) (p .rating) h)
 unfoldable pub topTo : (ℕ → ℕ) → ℕ → Partner
 topTo score zero = record { rating = 0; vertex = 0 }
 topTo score (suc k) = cond (ltb (topTo score k .rating) (score (suc k))) (record { rating = score (suc k); vertex = suc k }) (topTo score k)
+
+-- no place is over it, and it is under what all places are under
+pub top-over : (score : ℕ → ℕ) (n z : ℕ) → 1 ≤ z → z ≤ n → score z ≤ topTo score n .rating
+unfolding topTo
+top-over score zero z l h = absurd (omega arith)
+top-over score (suc n) z l h = go (top-over score n z l) (ltb (topTo score n .rating) (score (suc n))) refl (ℕ-discrete z (suc n))
+  where
+    go : (z ≤ n → score z ≤ topTo score n .rating) → (b : Bool) → ltb (topTo score n .rating) (score (suc n)) ≡ b → Dec (z ≡ suc n) → score z ≤ cond b (record { rating = score (suc n); vertex = suc n }) (topTo score n) .rating
+    go old true e (yes q) = omega (arith, ap score q)
+    go old true e (no q) = omega (arith, old (omega arith), ltb-true (topTo score n .rating) (score (suc n)) e)
+    go old false e (yes q) = omega (arith, ap score q, ltb-false (topTo score n .rating) (score (suc n)) e)
+    go old false e (no q) = old (omega arith)
+
+pub top-under : (score : ℕ → ℕ) (b n : ℕ) → ((z : ℕ) → 1 ≤ z → z ≤ n → score z ≤ b) → topTo score n .rating ≤ b
+unfolding topTo
+top-under score b zero h = omega arith
+top-under score b (suc n) h = go (top-under score b n (λ z l q. h z l (omega arith))) (ltb (topTo score n .rating) (score (suc n)))
+  where
+    go : topTo score n .rating ≤ b → (t : Bool) → cond t (record { rating = score (suc n); vertex = suc n }) (topTo score n) .rating ≤ b
+    go old true = h (suc n) (omega arith) (omega arith)
+    go old false = old
 
 -- what holds of it
 record TopTo (score : ℕ → ℕ) (k : ℕ) (q : Partner) : Type 0 where
@@ -101,33 +122,37 @@ pub record PartnerOf (score : ℕ → ℕ) (n : ℕ) (l′ : List ℕ) (p : Part
 -- accumulated, weighed and cleared
 module _ (bits pins firsts sizes netWeights blocks weights : List ℕ) (m n limit u : ℕ) (ok : TablesOk bits pins firsts sizes netWeights blocks m n) where
   abbrev whole : ℕ → ℕ
-  whole = rowOf bits pins firsts sizes netWeights blocks u m
+  whole = rowOf bits pins firsts sizes netWeights u m
+
+  abbrev test : ℕ → Bool
+  test = fits blocks weights u (getD blocks (u - 1) 0) (getD weights (u - 1) 0) limit
 
   abbrev points : ℕ → ℕ
-  points = scoreIn weights (getD weights (u - 1) 0) limit whole
+  points = scoreIn test whole
 
   unmet : (z : ℕ) → metOf bits pins firsts sizes u m z ≡ 0 → whole z ≡ 0
-  unmet z e = over-off bits (u - 1) m _ _ (λ g h q. spread-off pins (getD firsts g 0) _ _ (getD sizes g 0) z q) e
+  unmet z e = over-off bits (u - 1) m _ _ (λ g h q. ap (λ (k : ℕ). termOf (getD netWeights g 0) (getD sizes g 0) * k) q ∙ mul-zero (termOf (getD netWeights g 0) (getD sizes g 0))) e
+
+  none-there : (z : ℕ) → whole z ≡ 0 → points z ≡ 0
+  none-there z e = ap (λ (k : ℕ). cond (test z) k 0) e ∙ cond-none (test z)
 
   outside : (z : ℕ) → (1 ≤ z → z ≤ n → ⊥) → points z ≡ 0
-  outside z no-pin = ap (λ (k : ℕ). cond (leb (getD weights (u - 1) 0 + getD weights (z - 1) 0) limit) k 0) none ∙ cond-none (leb (getD weights (u - 1) 0 + getD weights (z - 1) 0) limit)
-    where
-      none : whole z ≡ 0
-      none = unmet z (over-nil bits (u - 1) m _ (λ g h. occ-none pins (getD firsts g 0) (getD sizes g 0) z (λ i k q. no-pin (omega (arith, ok .pin g h i k .0)) (omega (arith, ok .pin g h i k .1)))))
+  outside z no-pin = none-there z (unmet z (over-nil bits (u - 1) m _ (λ g h. occ-none pins (getD firsts g 0) (getD sizes g 0) z (λ i k q. no-pin (omega (arith, ok .pin g h i k .0)) (omega (arith, ok .pin g h i k .1))))))
 
-  pub select-ok : n ≤ length weights → SelectOk bits pins firsts sizes weights m n
+  pub select-ok : n ≤ length weights → SelectOk bits pins firsts sizes blocks weights m n
   select-ok h = record {
     rows = ok .rows;
     nets = ok .nets;
     vertices = ok .vertices;
     in-firsts = ok .in-firsts;
     in-sizes = ok .in-sizes;
+    in-blocks = ok .in-blocks;
     in-weights = h;
     stretch = ok .stretch;
     pin = λ e k i q. (ok .pin e k i q .0, ok .pin e k i q .1);
   }
 
-  pub partner-law : (l0 l1 l2 : List ℕ) (p : Partner) → Blank l0 → Raised l0 l1 whole → Swept l1 l2 (metOf bits pins firsts sizes u m) → Weighed weights (getD weights (u - 1) 0) limit l1 l2 nobody p
+  pub partner-law : (l0 l1 l2 : List ℕ) (p : Partner) → Blank l0 → Raised l0 l1 whole → Swept l1 l2 (metOf bits pins firsts sizes u m) → Weighed test l1 l2 nobody p
       → PartnerOf (scoreOf bits pins firsts sizes netWeights blocks weights m limit u) n l2 p
   unfolding scoreOf
   partner-law l0 l1 l2 p c r s w = record {
@@ -148,7 +173,7 @@ module _ (bits pins firsts sizes netWeights blocks weights : List ℕ) (m n limi
       start : Leading whole points l1 nobody
       start = record {
         held = λ z. inl (raised z);
-        ahead = λ z q. subst (λ (k : ℕ). Ahead k z nobody) (sym (ap (λ (k : ℕ). cond (leb (getD weights (u - 1) 0 + getD weights (z - 1) 0) limit) k 0) (sym (raised z) ∙ q) ∙ cond-none (leb (getD weights (u - 1) 0 + getD weights (z - 1) 0) limit))) (record { high = omega arith; first = λ e. omega arith });
+        ahead = λ z q. subst (λ (k : ℕ). Ahead k z nobody) (sym (none-there z (sym (raised z) ∙ q))) (record { high = omega arith; first = λ e. omega arith });
         real = sym (outside 0 (λ a b. omega arith));
         plain = λ e. refl;
       }
@@ -169,39 +194,47 @@ module _ (bits pins firsts sizes netWeights blocks weights : List ℕ) (m n limi
 
   -- a vertex of block 0 has no partner: every pin is in some block
   pub idle : getD blocks (u - 1) 0 ≡ 0 → (z : ℕ) → points z ≡ 0
-  idle e z = ap (λ (k : ℕ). cond (leb (getD weights (u - 1) 0 + getD weights (z - 1) 0) limit) k 0) none ∙ cond-none (leb (getD weights (u - 1) 0 + getD weights (z - 1) 0) limit)
+  idle e z = go (ℕ-discrete (getD blocks (z - 1) 0) 0)
     where
-      apart : (y : ℕ) → 1 ≤ getD blocks (y - 1) 0 → near blocks u (getD blocks (u - 1) 0) y ≡ false
-      apart y l = ap (λ (b : Bool). ltb u y && b) (ne-eqb (getD blocks (y - 1) 0) (getD blocks (u - 1) 0) (λ q. omega arith)) ∙ and-false (ltb u y)
+      go : Dec (getD blocks (z - 1) 0 ≡ 0) → points z ≡ 0
+      go (yes q) = none-there z (unmet z (over-nil bits (u - 1) m _ (λ g h. occ-none pins (getD firsts g 0) (getD sizes g 0) z (λ i k w. omega (arith, ok .pin g h i k .2, ap (λ (y : ℕ). getD blocks (y - 1) 0) w)))))
+      go (no q) =
+          let apart : near blocks u (getD blocks (u - 1) 0) z ≡ false = ap (λ (b : Bool). ltb u z && b) (ne-eqb (getD blocks (z - 1) 0) (getD blocks (u - 1) 0) (λ w. q (w ∙ e))) ∙ and-false (ltb u z) in
+          ap (λ (b : Bool). cond (b && leb (getD weights (u - 1) 0 + getD weights (z - 1) 0) limit) (whole z) 0) apart
 
-      none : whole z ≡ 0
-      none = over-nil bits (u - 1) m _ (λ g h. spread-dead pins (getD firsts g 0) _ _ (getD sizes g 0) z (λ i k. apart (at pins (getD firsts g 0) i) (ok .pin g h i k .2)))
-
-  pub idle-row : (b : Join) → getD blocks (u - 1) 0 ≡ 0 → b ≡ joined u (topTo (scoreOf bits pins firsts sizes netWeights blocks weights m limit u) n) b
-  unfolding scoreOf joined
-  idle-row b e =
-      let t : topTo points n .rating ≡ 0 = top-is points (idle e 0) n .real ∙ idle e (topTo points n .vertex) in
-      sym (ap (λ (k : Bool). cond k (record { rating = topTo points n .rating; into = u; gone = topTo points n .vertex }) b) (le-ltb (b .rating) (topTo points n .rating) (omega arith)))
-
-  -- where the terms of u's own nets sum to no more than the best rating before it, u's row changes nothing
-  pub pruned-row : (b : Join) → ownSum bits sizes netWeights u m ≤ b .rating → b ≡ joined u (topTo (scoreOf bits pins firsts sizes netWeights blocks weights m limit u) n) b
+  -- no rating passes the sum of the terms of u's own nets
+  pub score-own : (z : ℕ) → scoreOf bits pins firsts sizes netWeights blocks weights m limit u z ≤ ownSum bits sizes netWeights u m
   unfolding scoreOf
-  pruned-row b l =
-      let t : topTo points n .rating ≡ points (topTo points n .vertex) = top-is points (outside 0 (λ a b. omega arith)) n .real in
-      joined-old u (topTo points n) b (omega (arith, most (topTo points n .vertex)))
-    where
-      most : (z : ℕ) → points z ≤ ownSum bits sizes netWeights u m
-      most z = omega (arith, cond-le (leb (getD weights (u - 1) 0 + getD weights (z - 1) 0) limit) (whole z) (whole z) (omega arith), row-own bits pins firsts sizes netWeights blocks u m n ok z)
+  score-own z = omega (arith, cond-le (test z) (whole z) (whole z) (omega arith), row-own bits pins firsts sizes netWeights u m n (row-ok ok) z)
 
 -- the best pair of the rows 1 .. k, each of n places
 unfoldable pub joinTo : (ℕ → ℕ → ℕ) → ℕ → ℕ → Join
 joinTo score n zero = record { rating = 0; into = 0; gone = 0 }
 joinTo score n (suc k) = joined (suc k) (topTo (score (suc k)) n) (joinTo score n k)
 
-pub join-none : (score : ℕ → ℕ → ℕ) (n : ℕ) → record { rating = 0; into = 0; gone = 0 } ≡ joinTo score n 0
-unfolding joinTo
-join-none score n = refl
+-- with no row higher than b, the best pair is not
+pub join-under : (score : ℕ → ℕ → ℕ) (n b k : ℕ) → ((x : ℕ) → 1 ≤ x → x ≤ k → topTo (score x) n .rating ≤ b) → joinTo score n k .rating ≤ b
+unfolding joinTo joined
+join-under score n b zero h = omega arith
+join-under score n b (suc k) h = go (join-under score n b k (λ x l q. h x l (omega arith))) (ltb (joinTo score n k .rating) (topTo (score (suc k)) n .rating))
+  where
+    go : joinTo score n k .rating ≤ b → (t : Bool) → cond t (record { rating = topTo (score (suc k)) n .rating; into = suc k; gone = topTo (score (suc k)) n .vertex }) (joinTo score n k) .rating ≤ b
+    go old true = h (suc k) (omega arith) (omega arith)
+    go old false = old
 
-pub join-more : (score : ℕ → ℕ → ℕ) (n k : ℕ) (b r : Join) → b ≡ joinTo score n k → r ≡ joined (k + 1) (topTo (score (k + 1)) n) b → r ≡ joinTo score n (k + 1)
+-- the best pair of row u
+abbrev pub pairOf : (ℕ → ℕ → ℕ) → ℕ → ℕ → Join
+pairOf score n u = record { rating = topTo (score u) n .rating; into = u; gone = topTo (score u) n .vertex }
+
+-- where row u is higher than all before it and no row after it is higher still, its pair is the best
+pub join-at : (score : ℕ → ℕ → ℕ) (n u : ℕ) → ((x : ℕ) → 1 ≤ x → x < u → topTo (score x) n .rating < topTo (score u) n .rating) → 1 ≤ u → 1 ≤ topTo (score u) n .rating
+    → (k : ℕ) → u ≤ k → ((x : ℕ) → 1 ≤ x → x ≤ k → topTo (score x) n .rating ≤ topTo (score u) n .rating) → joinTo score n k ≡ pairOf score n u
 unfolding joinTo
-join-more score n k b r e = subst (λ (x : ℕ). r ≡ joined x (topTo (score x) n) b → r ≡ joinTo score n x) (sym (add-one k)) (λ h. h ∙ ap (joined (suc k) (topTo (score (suc k)) n)) e)
+join-at score n u first low some zero h most = absurd (omega arith)
+join-at score n u first low some (suc k) h most = go (λ l. join-at score n u first low some k l (λ x a b. most x a (omega arith))) (ℕ-discrete u (suc k))
+  where
+    go : (u ≤ k → joinTo score n k ≡ pairOf score n u) → Dec (u ≡ suc k) → joined (suc k) (topTo (score (suc k)) n) (joinTo score n k) ≡ pairOf score n u
+    go old (yes q) =
+        let below : joinTo score n k .rating ≤ topTo (score u) n .rating - 1 = join-under score n (topTo (score u) n .rating - 1) k (λ x a b. omega (arith, first x a (omega arith))) in
+        sym (joined-new (suc k) (topTo (score (suc k)) n) (joinTo score n k) (omega (arith, ap (λ (x : ℕ). topTo (score x) n .rating) q))) ∙ ap (pairOf score n) (sym q)
+    go old (no q) = ap (joined (suc k) (topTo (score (suc k)) n)) (old (omega arith)) ∙ sym (joined-old (suc k) (topTo (score (suc k)) n) (pairOf score n u) (most (suc k) (omega arith) (omega arith)))

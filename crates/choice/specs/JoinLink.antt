@@ -19,8 +19,7 @@ use Rattle.model.specs.Measure.{Contraction, onBoard, pin, size, weight, adjace
 use Rattle.model.specs.Search.{bestPair, rating, canJoin, joinBest}
 use Rattle.guarantees.specs.Tops.{bestPair-ext}
 use Rattle.incidence.specs.On.{on}
-use Rattle.choice.specs.Rating.{near, spread, termOf, over, rowOf, scoreOf, TablesOk}
-use Rattle.choice.specs.RatingLaw.{over-nil, spread-in, spread-out}
+use Rattle.choice.specs.Rating.{fits, termOf, over, rowOf, scoreOf, TablesOk}
 use Rattle.choice.specs.JoinLaw.{idle}
 use Rattle.choice.specs.JoinPair.{BestJoin, joinable, scored, join-open}
 use Rattle.choice.specs.declared.join.Join.{Join}
@@ -43,6 +42,11 @@ pub record Linked (h : Hypergraph) (cs : List Contraction) (block : ℕ → ℕ)
   pub sized : (e : ℕ) → e < m → getD sizes e 0 ≡ size h cs (net h e)
   pub weighs : (e : ℕ) → e < m → (getD netWeights e 0 ≡ net h e .weight) × (1 ≤ net h e .weight)
 
+-- a rating, net by net
+pub rating-sum : (h : Hypergraph) (cs : List Contraction) (m : ℕ) → m ≡ length (h .nets) → (u v : ℕ) → rating h cs u v ≡ sum m (λ e. cond (pin cs (net h e) u && pin cs (net h e) v) (termOf (net h e .weight) (size h cs (net h e))) 0)
+unfolding rating
+rating-sum h cs m q u v = sym (sum-list (h .nets) (record { weight = 0; pins = [] }) _) ∙ ap (λ (z : ℕ). sum z (λ e. cond (pin cs (net h e) u && pin cs (net h e) v) (termOf (net h e .weight) (size h cs (net h e))) 0)) (sym q)
+
 -- ---- the tests
 
 both-pins : (a b : Bool) (t : ℕ) → cond a (t * one b) 0 ≡ cond (a && b) t 0
@@ -51,53 +55,38 @@ both-pins true false t = mul-zero t
 both-pins false b t = refl
 
 -- the tests in the code's order and in the model's
-tests : (l e d w : Bool) (r : ℕ) → (d ≡ false → r ≡ 0) → cond w (cond (l && e) r 0) 0 ≡ cond (l && true && true && e && d && w) r 0
-tests false e d true r z = refl
-tests false e d false r z = refl
-tests true false d true r z = refl
-tests true false d false r z = refl
-tests true true true true r z = refl
-tests true true true false r z = refl
+tests : (l e d w : Bool) (r : ℕ) → (d ≡ false → r ≡ 0) → cond (l && e && w) r 0 ≡ cond (l && true && true && e && d && w) r 0
+tests false e d w r z = refl
+tests true false d w r z = refl
+tests true true true w r z = refl
 tests true true false true r z = z refl
 tests true true false false r z = refl
 
 module _ (h : Hypergraph) (cs : List Contraction) (block : ℕ → ℕ) (bits pins firsts sizes netWeights blocks weights : List ℕ) (m n limit : ℕ)
     (k : Linked h cs block bits pins firsts sizes netWeights blocks weights m n limit) where
   abbrev row : ℕ → ℕ → ℕ
-  row u = rowOf bits pins firsts sizes netWeights blocks u m
+  row u = rowOf bits pins firsts sizes netWeights u m
 
   abbrev term : ℕ → ℕ
   term e = 5040 * net h e .weight / (size h cs (net h e) - 1)
 
   rating-is : (u v : ℕ) → rating h cs u v ≡ sum m (λ e. cond (pin cs (net h e) u && pin cs (net h e) v) (term e) 0)
-  unfolding rating
-  rating-is u v = sym (sum-list (h .nets) (record { weight = 0; pins = [] }) _) ∙ ap (λ (z : ℕ). sum z (λ e. cond (pin cs (net h e) u && pin cs (net h e) v) (term e) 0)) (sym (k .m-is))
+  rating-is = rating-sum h cs m (k .m-is)
 
-  row-near : (u v : ℕ) → 1 ≤ u → u ≤ n → 1 ≤ v → v ≤ n → onBoard cs u ≡ true → near blocks u (getD blocks (u - 1) 0) v ≡ true → row u v ≡ rating h cs u v
+  row-is : (u v : ℕ) → 1 ≤ u → u ≤ n → 1 ≤ v → v ≤ n → onBoard cs u ≡ true → row u v ≡ rating h cs u v
   unfolding over
-  row-near u v ul uu vl vu on-u q = sum-ext m _ _ one-net ∙ sym (rating-is u v)
+  row-is u v ul uu vl vu on-u = sum-ext m _ _ one-net ∙ sym (rating-is u v)
     where
-      one-net : (e : ℕ) → e < m → cond (eqb (on bits (u - 1) e) 1) (spread pins (getD firsts e 0) (near blocks u (getD blocks (u - 1) 0)) (termOf (getD netWeights e 0) (getD sizes e 0)) (getD sizes e 0) v) 0
+      one-net : (e : ℕ) → e < m → cond (eqb (on bits (u - 1) e) 1) (termOf (getD netWeights e 0) (getD sizes e 0) * occ pins (getD firsts e 0) (getD sizes e 0) v) 0
           ≡ cond (pin cs (net h e) u && pin cs (net h e) v) (term e) 0
       one-net e l =
           ap₂ (λ (b : Bool) (z : ℕ). cond b z 0)
           (ap (λ (z : ℕ). eqb z 1) (k .incident u e ul uu l on-u) ∙ one-eqb (pin cs (net h e) u))
-          (spread-in pins (getD firsts e 0) (near blocks u (getD blocks (u - 1) 0)) (termOf (getD netWeights e 0) (getD sizes e 0)) (getD sizes e 0) v q
-          ∙ ap₂ (λ (a b : ℕ). a * b) (ap₂ (λ (a b : ℕ). 5040 * a / (b - 1)) (k .weighs e l .0) (k .sized e l)) (k .members v e vl vu l))
+          (ap₂ (λ (a b : ℕ). a * b) (ap₂ (λ (a b : ℕ). 5040 * a / (b - 1)) (k .weighs e l .0) (k .sized e l)) (k .members v e vl vu l))
           ∙ both-pins (pin cs (net h e) u) (pin cs (net h e) v) (term e)
 
-  row-far : (u v : ℕ) → near blocks u (getD blocks (u - 1) 0) v ≡ false → row u v ≡ 0
-  row-far u v q = over-nil bits (u - 1) m _ (λ e l. spread-out pins (getD firsts e 0) (near blocks u (getD blocks (u - 1) 0)) (termOf (getD netWeights e 0) (getD sizes e 0)) (getD sizes e 0) v q)
-
-  row-is : (u v : ℕ) → 1 ≤ u → u ≤ n → 1 ≤ v → v ≤ n → onBoard cs u ≡ true → row u v ≡ cond (near blocks u (getD blocks (u - 1) 0) v) (rating h cs u v) 0
-  row-is u v ul uu vl vu on-u = go (near blocks u (getD blocks (u - 1) 0) v) refl
-    where
-      go : (b : Bool) → near blocks u (getD blocks (u - 1) 0) v ≡ b → row u v ≡ cond b (rating h cs u v) 0
-      go true q = row-near u v ul uu vl vu on-u q
-      go false q = row-far u v q
-
   -- no shared net, no rating
-  apart : (u v : ℕ) → adjacent h cs u v ≡ false → rating h cs u v ≡ 0
+  pub apart : (u v : ℕ) → adjacent h cs u v ≡ false → rating h cs u v ≡ 0
   unfolding adjacent
   apart u v q = rating-is u v ∙ sum-nil m _ (λ e l. ap (λ (b : Bool). cond b (term e) 0) (any-not (h .nets) (record { weight = 0; pins = [] }) _ q e (omega (arith, k .m-is))))
 
@@ -131,11 +120,14 @@ module _ (h : Hypergraph) (cs : List Contraction) (block : ℕ → ℕ) (bits pi
   abbrev light-enough : ℕ → ℕ → Bool
   light-enough u v = leb (getD weights (u - 1) 0 + getD weights (v - 1) 0) limit
 
+  abbrev test : ℕ → ℕ → Bool
+  test u = fits blocks weights u (getD blocks (u - 1) 0) (getD weights (u - 1) 0) limit
+
   -- both on the board
-  value-on : (u v : ℕ) → 1 ≤ u → u ≤ n → 1 ≤ v → v ≤ n → onBoard cs u ≡ true → onBoard cs v ≡ true → cond (light-enough u v) (row u v) 0 ≡ cond (canJoin h cs block u v) (rating h cs u v) 0
+  value-on : (u v : ℕ) → 1 ≤ u → u ≤ n → 1 ≤ v → v ≤ n → onBoard cs u ≡ true → onBoard cs v ≡ true → cond (test u v) (row u v) 0 ≡ cond (canJoin h cs block u v) (rating h cs u v) 0
   unfolding canJoin
   value-on u v ul uu vl vu on-u on-v =
-      ap₂ (λ (w : Bool) (z : ℕ). cond w z 0) same-light-enough (row-is u v ul uu vl vu on-u ∙ ap (λ (b : Bool). cond (ltb u v && b) (rating h cs u v) 0) same-block)
+      ap₂ (λ (b : Bool) (z : ℕ). cond b z 0) (ap₂ (λ (b w : Bool). ltb u v && b && w) same-block same-light-enough) (row-is u v ul uu vl vu on-u)
       ∙ tests (ltb u v) (eqb (block u) (block v)) (adjacent h cs u v) (leb (weight h cs u + weight h cs v) (averageWeight h)) (rating h cs u v) (apart u v)
       ∙ sym (ap₂ (λ (a b : Bool). cond (ltb u v && a && b && eqb (block u) (block v) && adjacent h cs u v && leb (weight h cs u + weight h cs v) (averageWeight h)) (rating h cs u v) 0) on-u on-v)
     where
@@ -154,10 +146,6 @@ module _ (h : Hypergraph) (cs : List Contraction) (block : ℕ → ℕ) (bits pi
   unfolding canJoin
   shut-second u v q = ap (λ (a : Bool). a && eqb (block u) (block v) && adjacent h cs u v && leb (weight h cs u + weight h cs v) (averageWeight h)) (ap (λ (a : Bool). ltb u v && onBoard cs u && a) q ∙ and-false (ltb u v && onBoard cs u))
 
-  nothing : (b : Bool) (z : ℕ) → z ≡ 0 → cond b z 0 ≡ 0
-  nothing true z e = e
-  nothing false z e = refl
-
   closed : (u v : ℕ) → canJoin h cs block u v ≡ false → 0 ≡ cond (canJoin h cs block u v) (rating h cs u v) 0
   closed u v q = sym (ap (λ (b : Bool). cond b (rating h cs u v) 0) q)
 
@@ -165,11 +153,11 @@ module _ (h : Hypergraph) (cs : List Contraction) (block : ℕ → ℕ) (bits pi
   unfolding scoreOf
   value u v ul uu vl vu = go (onBoard cs u) refl (onBoard cs v) refl
     where
-      go : (a : Bool) → onBoard cs u ≡ a → (b : Bool) → onBoard cs v ≡ b → cond (light-enough u v) (row u v) 0 ≡ cond (canJoin h cs block u v) (rating h cs u v) 0
+      go : (a : Bool) → onBoard cs u ≡ a → (b : Bool) → onBoard cs v ≡ b → cond (test u v) (row u v) 0 ≡ cond (canJoin h cs block u v) (rating h cs u v) 0
       go true p true q = value-on u v ul uu vl vu p q
       go true p false q =
           let far : eqb (getD blocks (v - 1) 0) (getD blocks (u - 1) 0) ≡ false = ne-eqb (getD blocks (v - 1) 0) (getD blocks (u - 1) 0) (λ e. omega (arith, k .off v vl vu q, k .block-is u ul uu p .0, k .block-is u ul uu p .1)) in
-          nothing (light-enough u v) (row u v) (row-far u v (ap (λ (b : Bool). ltb u v && b) far ∙ and-false (ltb u v))) ∙ closed u v (shut-second u v q)
+          ap (λ (b : Bool). cond (b && light-enough u v) (row u v) 0) (ap (λ (b : Bool). ltb u v && b) far ∙ and-false (ltb u v)) ∙ closed u v (shut-second u v q)
       go false p b q = idle bits pins firsts sizes netWeights blocks weights m n limit u (k .tables) (k .off u ul uu p) v ∙ closed u v (shut-first u v p)
 
   parts : (u v : ℕ) → canJoin h cs block u v ≡ true → (u < v) × (adjacent h cs u v ≡ true)

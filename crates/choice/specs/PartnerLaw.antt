@@ -1,18 +1,20 @@
 -- The best partner of a vertex: the pins of its nets are weighed, and their places in the table cleared, in one pass.
 -- Rests on Rating and RatingLaw. Assumes nothing.
-use mathlib.Core.Path.{_≡_, refl, sym, ap, _∙_, subst}
-use mathlib.Core.Bool.{Bool, true, false, cond}
+use mathlib.Core.Path.{_≡_, refl, sym, ap, ap₂, _∙_, subst}
+use mathlib.Core.Bool.{Bool, true, false, _&&_, and-false, cond}
 use mathlib.Core.Logic.{_⊎_, inl, inr, ⊎-elim}
 use mathlib.Core.List.{List}
 use Prim.Native.Nat.{ℕ, _+_, _-_, _≤_, _<_}
 use native.Mathlib.Decide.{ℕ-discrete}
 use native.Mathlib.Omega.{arith}
-use lib.Dec.{leb}
+use borrow.Author.Tests.{eq-eqb, ne-eqb, lt-ltb, le-ltb, lt-leb, le-leb, leb-true, leb-false}
+use lib.Dec.{eqb, ltb, leb}
 use lib.ListN.{length, getD, set, length-set}
 use lib.Seq.{getD-set-same, getD-set-other}
 use Rattle.incidence.specs.On.{on, Next}
+use Rattle.laws.specs.Choice.{cond-le}
 use Rattle.laws.specs.Occurrence.{at, same, occ, same-yes, same-no, occ-zero, occ-step}
-use Rattle.choice.specs.Rating.{metOf, scoreIn, TakeOk, SelectOk, Swept}
+use Rattle.choice.specs.Rating.{near, fits, metOf, scoreIn, TakeOk, SelectOk, Swept}
 use Rattle.choice.specs.RatingLaw.{swept-none, swept-more, over-first, over-next}
 use Rattle.choice.specs.declared.join.Partner.{Partner}
 
@@ -72,12 +74,33 @@ chose-old s y b e h = record {
   plain = λ k q. k q;
 }
 
--- the pin y is weighed and its place is cleared
-module _ (weights : List ℕ) (a limit : ℕ) (raw : ℕ → ℕ) (l : List ℕ) (y : ℕ) (b r : Partner) (h : Leading raw (scoreIn weights a limit raw) l b) where
-  abbrev score : ℕ → ℕ
-  score = scoreIn weights a limit raw
+-- the tests of a partner, one by one
+module _ (blocks weights : List ℕ) (u own a limit y : ℕ) where
+  abbrev light-enough : Bool
+  light-enough = leb (a + getD weights (y - 1) 0) limit
 
-  pub leading-more : (l′ : List ℕ) → getD l′ y 0 ≡ 0 → ((z : ℕ) → (z ≡ y → ⊥) → getD l′ z 0 ≡ getD l z 0) → Chose (scoreIn weights a limit (λ z. getD l z 0) y) y b r → Leading raw score l′ r
+  pub fits-early : y ≤ u → false ≡ fits blocks weights u own a limit y
+  fits-early h = sym (ap (λ (b : Bool). b && eqb (getD blocks (y - 1) 0) own && light-enough) (le-ltb u y h))
+
+  pub fits-apart : (getD blocks (y - 1) 0 ≡ own → ⊥) → false ≡ fits blocks weights u own a limit y
+  fits-apart n = sym (ap (λ (b : Bool). ltb u y && b && light-enough) (ne-eqb _ _ n) ∙ ap (λ (b : Bool). b && light-enough) (and-false (ltb u y)))
+
+  pub fits-heavy : limit < a → false ≡ fits blocks weights u own a limit y
+  fits-heavy h = sym (ap (λ (b : Bool). near blocks u own y && b) (lt-leb (a + getD weights (y - 1) 0) limit (omega arith)) ∙ and-false (near blocks u own y))
+
+  pub fits-left : (w : ℕ) → u < y → getD blocks (y - 1) 0 ≡ own → a ≤ limit → w ≡ getD weights (y - 1) 0 → leb w (limit - a) ≡ fits blocks weights u own a limit y
+  fits-left w lt e l ew = go light-enough refl ∙ sym (ap₂ (λ (b d : Bool). b && d && light-enough) (lt-ltb u y lt) (eq-eqb _ _ e))
+    where
+      go : (t : Bool) → light-enough ≡ t → leb w (limit - a) ≡ light-enough
+      go true q = let k : a + getD weights (y - 1) 0 ≤ limit = leb-true _ _ q in le-leb w (limit - a) (omega arith) ∙ sym q
+      go false q = let k : limit < a + getD weights (y - 1) 0 = leb-false _ _ q in lt-leb w (limit - a) (omega arith) ∙ sym q
+
+-- the pin y is weighed and its place is cleared
+module _ (test : ℕ → Bool) (raw : ℕ → ℕ) (l : List ℕ) (y : ℕ) (b r : Partner) (h : Leading raw (scoreIn test raw) l b) where
+  abbrev score : ℕ → ℕ
+  score = scoreIn test raw
+
+  leading-more : (l′ : List ℕ) → getD l′ y 0 ≡ 0 → ((z : ℕ) → (z ≡ y → ⊥) → getD l′ z 0 ≡ getD l z 0) → Chose (cond (test y) (getD l y 0) 0) y b r → Leading raw score l′ r
   leading-more l′ gone rest c = record {
     held = λ z. held z (ℕ-discrete z y);
     ahead = λ z q. ahead z q (ℕ-discrete z y);
@@ -89,8 +112,8 @@ module _ (weights : List ℕ) (a limit : ℕ) (raw : ℕ → ℕ) (l : List ℕ)
       held z (yes q) = inr (ap (λ (k : ℕ). getD l′ k 0) q ∙ gone)
       held z (no n) = rw (rest z n) (h .held z)
 
-      fresh : getD l y 0 ≡ raw y → scoreIn weights a limit (λ z. getD l z 0) y ≡ score y
-      fresh q = ap (λ (k : ℕ). cond (leb (a + getD weights (y - 1) 0) limit) k 0) q
+      fresh : getD l y 0 ≡ raw y → cond (test y) (getD l y 0) 0 ≡ score y
+      fresh q = ap (λ (k : ℕ). cond (test y) k 0) q
 
       ahead-y : (getD l y 0 ≡ raw y) ⊎ (getD l y 0 ≡ 0) → Ahead (score y) y r
       ahead-y (inl q) = subst (λ (k : ℕ). Ahead k y r) (fresh q) (c .new)
@@ -100,10 +123,10 @@ module _ (weights : List ℕ) (a limit : ℕ) (raw : ℕ → ℕ) (l : List ℕ)
       ahead z q (yes e) = subst (λ (k : ℕ). Ahead (score k) k r) (sym e) (ahead-y (h .held y))
       ahead z q (no n) = ahead-trans (score z) z b r (h .ahead z (sym (rest z n) ∙ q)) (c .old)
 
-      real-new : (r .rating ≡ scoreIn weights a limit (λ z. getD l z 0) y) × (r .vertex ≡ y) → (getD l y 0 ≡ raw y) ⊎ (getD l y 0 ≡ 0) → r .rating ≡ score (r .vertex)
+      real-new : (r .rating ≡ cond (test y) (getD l y 0) 0) × (r .vertex ≡ y) → (getD l y 0 ≡ raw y) ⊎ (getD l y 0 ≡ 0) → r .rating ≡ score (r .vertex)
       real-new e (inl q) = e .0 ∙ fresh q ∙ ap score (sym (e .1))
       real-new e (inr q) =
-          let none : r .rating ≡ 0 = e .0 ∙ ap (λ (k : ℕ). cond (leb (a + getD weights (y - 1) 0) limit) k 0) q ∙ cond-none (leb (a + getD weights (y - 1) 0) limit) in
+          let none : r .rating ≡ 0 = e .0 ∙ ap (λ (k : ℕ). cond (test y) k 0) q ∙ cond-none (test y) in
           let low : score y ≤ r .rating = ahead-y (inr q) .high in
           let zero-y : score y ≡ 0 = omega arith in
           none ∙ sym zero-y ∙ ap score (sym (e .1))
@@ -119,14 +142,25 @@ swept-set l y len small = record {
     gone z q (yes e) = rw (← e) (getD-set-same l y 0 0 (omega arith))
     gone z q (no n) = absurd (omega (arith, same-no y z n))
 
--- the loop over the pins of a net that are weighed
-abbrev pub Weighed : List ℕ → ℕ → ℕ → List ℕ → List ℕ → Partner → Partner → Type 0
-Weighed weights a limit l l′ b r = (raw : ℕ → ℕ) → Leading raw (scoreIn weights a limit raw) l b → Leading raw (scoreIn weights a limit raw) l′ r
+-- what weighing some pins does: whatever the ratings were, the best of the cleared ones is still known
+abbrev pub Weighed : (ℕ → Bool) → List ℕ → List ℕ → Partner → Partner → Type 0
+Weighed test l l′ b r = (raw : ℕ → ℕ) → Leading raw (scoreIn test raw) l b → Leading raw (scoreIn test raw) l′ r
 
-pub weighed-pin : (weights : List ℕ) (a limit : ℕ) (l : List ℕ) (y w s : ℕ) (b r : Partner) → length l ≡ 1025 → y ≤ 1024 → w ≡ getD weights (y - 1) 0 → s ≡ cond (leb (a + w) limit) (getD l y 0) 0 → Chose s y b r → Weighed weights a limit l (set l y 0) b r
-weighed-pin weights a limit l y w s b r len small ew es c raw h =
-    leading-more weights a limit raw l y b r h (set l y 0) (getD-set-same l y 0 0 (omega arith)) (λ z n. getD-set-other l y z 0 0 n)
-    (subst (λ (k : ℕ). Chose k y b r) (es ∙ ap (λ (k : ℕ). cond (leb (a + k) limit) (getD l y 0) 0) ew) c)
+module _ (test : ℕ → Bool) (l : List ℕ) (y : ℕ) (b : Partner) (len : length l ≡ 1025) (small : y ≤ 1024) where
+  weighed-by : (r : Partner) → ((b .rating ≡ 0 → b .vertex ≡ 0) → Chose (cond (test y) (getD l y 0) 0) y b r) → Weighed test l (set l y 0) b r
+  weighed-by r c raw h = leading-more test raw l y b r h (set l y 0) (getD-set-same l y 0 0 (omega arith)) (λ z n. getD-set-other l y z 0 0 n) (c (h .plain))
+
+  -- it rates lower than the best before it
+  pub weighed-low : getD l y 0 < b .rating → Weighed test l (set l y 0) b b
+  weighed-low lt = weighed-by b (λ _. let le : cond (test y) (getD l y 0) 0 ≤ getD l y 0 = cond-le (test y) (getD l y 0) (getD l y 0) (omega arith) in chose-old _ y b (omega arith) (λ q. absurd (omega arith)))
+
+  -- it fails the test
+  pub weighed-unfit : test y ≡ false → Weighed test l (set l y 0) b b
+  weighed-unfit q = weighed-by b (λ plain. subst (λ (t : Bool). Chose (cond t (getD l y 0) 0) y b b) (sym q) (chose-old 0 y b (omega arith) (λ e. omega (arith, plain (sym e)))))
+
+  -- it passes
+  pub weighed-fit : (r : Partner) → test y ≡ true → Chose (getD l y 0) y b r → Weighed test l (set l y 0) b r
+  weighed-fit r q c = weighed-by r (λ _. subst (λ (t : Bool). Chose (cond t (getD l y 0) 0) y b r) (sym q) c)
 
 pub sweep-none : (l pins : List ℕ) (f : ℕ) → length l ≡ 1025 → Swept l l (occ pins f 0)
 sweep-none l pins f h = swept-none l _ h (occ-zero pins f)
@@ -138,19 +172,22 @@ sweep-more l l′ l″ pins f i y r e h = swept-more l l′ l″ _ _ _ r h (λ z
 abbrev pub nobody : Partner
 nobody = record { rating = 0; vertex = 0 }
 
-module _ (bits pins firsts sizes weights : List ℕ) (u m n : ℕ) (ok : SelectOk bits pins firsts sizes weights m n) where
+module _ (bits pins firsts sizes blocks weights : List ℕ) (u m n : ℕ) (ok : SelectOk bits pins firsts sizes blocks weights m n) where
   abbrev met : ℕ → ℕ → ℕ
   met = metOf bits pins firsts sizes u
 
   pub met-none : (l : List ℕ) (e : ℕ) → length l ≡ 1025 → Next bits (u - 1) 0 m e → Swept l l (met e)
   met-none l e h k = swept-none l (met e) h (λ z. over-first bits (u - 1) _ m e k)
 
-  pub met-stretch : (len e f s : ℕ) → e < m → len ≡ 1025 → f ≡ getD firsts e 0 → s ≡ getD sizes e 0 → TakeOk len pins (length weights) f s
-  met-stretch len e f s h full ef es = subst (λ (k : ℕ). TakeOk len pins (length weights) k s) (sym ef) (subst (λ (k : ℕ). TakeOk len pins (length weights) (getD firsts e 0) k) (sym es) (record {
-    full = full;
-    stretch = ok .stretch e h;
-    pin = λ i k. (ok .pin e h i k .0, omega (arith, ok .pin e h i k .1, ok .vertices), omega (arith, ok .pin e h i k .1, ok .in-weights));
-  }))
+  pub met-stretch : (len e f s : ℕ) → e < m → len ≡ 1025 → f ≡ getD firsts e 0 → s ≡ getD sizes e 0 → TakeOk len pins (length blocks) f s × TakeOk len pins (length weights) f s
+  met-stretch len e f s h full ef es = (within (length blocks) (ok .in-blocks), within (length weights) (ok .in-weights))
+    where
+      within : (other : ℕ) → n ≤ other → TakeOk len pins other f s
+      within other room = subst (λ (k : ℕ). TakeOk len pins other k s) (sym ef) (subst (λ (k : ℕ). TakeOk len pins other (getD firsts e 0) k) (sym es) (record {
+        full = full;
+        stretch = ok .stretch e h;
+        pin = λ i k. (ok .pin e h i k .0, omega (arith, ok .pin e h i k .1, ok .vertices), omega (arith, ok .pin e h i k .1));
+      }))
 
   pub met-more : (l0 l l′ : List ℕ) (e e′ f s : ℕ) → Swept l0 l (met e) → on bits (u - 1) e ≡ 1 → f ≡ getD firsts e 0 → s ≡ getD sizes e 0 → Swept l l′ (occ pins f s) → Next bits (u - 1) (e + 1) m e′ → Swept l0 l′ (met e′)
   met-more l0 l l′ e e′ f s r here ef es h k = swept-more l0 l l′ (met e) _ (met e′) r h (λ z. over-next bits (u - 1) _ m e e′ here k ∙ ap (λ (q : ℕ). met e z + q) (same-net z))

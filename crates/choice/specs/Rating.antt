@@ -14,13 +14,9 @@ use Rattle.laws.specs.Sum.{sum}
 abbrev pub near : List ℕ → ℕ → ℕ → ℕ → Bool
 near blocks u own z = ltb u z && eqb (getD blocks (z - 1) 0) own
 
--- what meeting the pin y adds for z
-unfoldable pub hit : (ℕ → Bool) → ℕ → ℕ → ℕ → ℕ
-hit g t y z = cond (eqb y z && g z) t 0
-
--- what the n pins from f on add for z
-unfoldable pub spread : List ℕ → ℕ → (ℕ → Bool) → ℕ → ℕ → ℕ → ℕ
-spread l f g t n z = sum n (λ i. hit g t (at l f i) z)
+-- and is not too heavy for u, of block `own` and weight a
+abbrev pub fits : List ℕ → List ℕ → ℕ → ℕ → ℕ → ℕ → ℕ → Bool
+fits blocks weights u own a limit z = near blocks u own z && leb (a + getD weights (z - 1) 0) limit
 
 -- what a net of weight w and n present pins adds: 5,040 × weight / (present marks − 1), rounded down; 0 for a sole pin
 abbrev pub termOf : ℕ → ℕ → ℕ
@@ -31,9 +27,8 @@ unfoldable pub over : List ℕ → ℕ → ℕ → (ℕ → ℕ) → ℕ
 over bits x m G = sum m (λ e. cond (eqb (on bits x e) 1) (G e) 0)
 
 -- what the nets of u below m add for z
-abbrev pub rowOf : (bits pins firsts sizes netWeights blocks : List ℕ) (u m : ℕ) → ℕ → ℕ
-rowOf bits pins firsts sizes netWeights blocks u m z =
-    over bits (u - 1) m (λ e. spread pins (getD firsts e 0) (near blocks u (getD blocks (u - 1) 0)) (termOf (getD netWeights e 0) (getD sizes e 0)) (getD sizes e 0) z)
+abbrev pub rowOf : (bits pins firsts sizes netWeights : List ℕ) (u m : ℕ) → ℕ → ℕ
+rowOf bits pins firsts sizes netWeights u m z = over bits (u - 1) m (λ e. termOf (getD netWeights e 0) (getD sizes e 0) * occ pins (getD firsts e 0) (getD sizes e 0) z)
 
 -- the terms of u's own nets below m
 abbrev pub ownSum : (bits sizes netWeights : List ℕ) (u m : ℕ) → ℕ
@@ -43,37 +38,29 @@ ownSum bits sizes netWeights u m = over bits (u - 1) m (λ e. termOf (getD netWe
 abbrev pub metOf : (bits pins firsts sizes : List ℕ) (u m : ℕ) → ℕ → ℕ
 metOf bits pins firsts sizes u m z = over bits (u - 1) m (λ e. occ pins (getD firsts e 0) (getD sizes e 0) z)
 
--- the rating, or 0 where z is too heavy for a partner of weight a
-abbrev pub scoreIn : List ℕ → ℕ → ℕ → (ℕ → ℕ) → ℕ → ℕ
-scoreIn weights a limit raw z = cond (leb (a + getD weights (z - 1) 0) limit) (raw z) 0
+-- the rating where z passes the test, else 0
+abbrev pub scoreIn : (ℕ → Bool) → (ℕ → ℕ) → ℕ → ℕ
+scoreIn test raw z = cond (test z) (raw z) 0
 
 -- the rating of u and z where the two may be contracted, else 0
 unfoldable pub scoreOf : (bits pins firsts sizes netWeights blocks weights : List ℕ) (m limit u : ℕ) → ℕ → ℕ
-scoreOf bits pins firsts sizes netWeights blocks weights m limit u = scoreIn weights (getD weights (u - 1) 0) limit (rowOf bits pins firsts sizes netWeights blocks u m)
+scoreOf bits pins firsts sizes netWeights blocks weights m limit u = scoreIn (fits blocks weights u (getD blocks (u - 1) 0) (getD weights (u - 1) 0) limit) (rowOf bits pins firsts sizes netWeights u m)
 
 -- ---- what the tables must be
 
--- the table of ratings l has room for t more at pin y
-pub record PinOk (l : List ℕ) (blocks y t : ℕ) : Type 0 where
-  pub len : length l ≡ 1025
-  pub low : 1 ≤ y
-  pub high : y ≤ 1024
-  pub known : y ≤ blocks
-  pub room : getD l y 0 + t < 18446744073709551616
-
--- the n pins from f on are vertices, and no entry of l passes `top`
-pub record StretchOk (l pins : List ℕ) (blocks f n top : ℕ) : Type 0 where
+-- the n pins from f on are vertices, each there once, and no entry of the table of ratings l passes `top`
+pub record StretchOk (l pins : List ℕ) (f n top : ℕ) : Type 0 where
   pub len : length l ≡ 1025
   pub stretch : f + n ≤ length pins
-  pub few : n ≤ 65535
-  pub pin : (i : ℕ) → i < n → (1 ≤ at pins f i) × (at pins f i ≤ 1024) × (at pins f i ≤ blocks)
+  pub pin : (i : ℕ) → i < n → at pins f i ≤ 1024
+  pub once : (z : ℕ) → occ pins f n z ≤ 1
   pub small : (z : ℕ) → getD l z 0 ≤ top
 
--- the same where pins are weighed and cleared
-pub record TakeOk (len : ℕ) (pins : List ℕ) (weights f n : ℕ) : Type 0 where
+-- the n pins from f on are vertices of another table too
+pub record TakeOk (len : ℕ) (pins : List ℕ) (other f n : ℕ) : Type 0 where
   pub full : len ≡ 1025
   pub stretch : f + n ≤ length pins
-  pub pin : (i : ℕ) → i < n → (1 ≤ at pins f i) × (at pins f i ≤ 1024) × (at pins f i ≤ weights)
+  pub pin : (i : ℕ) → i < n → (1 ≤ at pins f i) × (at pins f i ≤ 1024) × (at pins f i ≤ other)
 
 -- the pin lists of m nets over n vertices: each stretch lies in its table, and its pins are vertices of some block, each there once
 pub record TablesOk (bits pins firsts sizes netWeights blocks : List ℕ) (m n : ℕ) : Type 0 where
@@ -84,10 +71,21 @@ pub record TablesOk (bits pins firsts sizes netWeights blocks : List ℕ) (m n :
   pub in-sizes : m ≤ length sizes
   pub in-netWeights : m ≤ length netWeights
   pub in-blocks : n ≤ length blocks
-  pub few : (e : ℕ) → e < m → getD sizes e 0 ≤ 65535
   pub light : (e : ℕ) → e < m → getD netWeights e 0 ≤ 65535
   pub stretch : (e : ℕ) → e < m → getD firsts e 0 + getD sizes e 0 ≤ length pins
   pub pin : (e : ℕ) → e < m → (i : ℕ) → i < getD sizes e 0 → (1 ≤ at pins (getD firsts e 0) i) × (at pins (getD firsts e 0) i ≤ n) × (1 ≤ getD blocks (at pins (getD firsts e 0) i - 1) 0)
+  pub once : (e z : ℕ) → e < m → occ pins (getD firsts e 0) (getD sizes e 0) z ≤ 1
+
+-- what the adding up of ratings needs of them
+pub record RowOk (bits pins firsts sizes netWeights : List ℕ) (m n : ℕ) : Type 0 where
+  pub rows : 16 * n ≤ length bits
+  pub nets : m ≤ 1024
+  pub in-firsts : m ≤ length firsts
+  pub in-sizes : m ≤ length sizes
+  pub in-netWeights : m ≤ length netWeights
+  pub light : (e : ℕ) → e < m → getD netWeights e 0 ≤ 65535
+  pub stretch : (e : ℕ) → e < m → getD firsts e 0 + getD sizes e 0 ≤ length pins
+  pub pin : (e : ℕ) → e < m → (i : ℕ) → i < getD sizes e 0 → at pins (getD firsts e 0) i ≤ 1024
   pub once : (e z : ℕ) → e < m → occ pins (getD firsts e 0) (getD sizes e 0) z ≤ 1
 
 -- what the sum of a vertex's own terms needs
@@ -100,12 +98,13 @@ pub record OwnOk (bits sizes netWeights : List ℕ) (u m : ℕ) : Type 0 where
   pub light : (e : ℕ) → e < m → getD netWeights e 0 ≤ 65535
 
 -- what the weighing needs of them
-pub record SelectOk (bits pins firsts sizes weights : List ℕ) (m n : ℕ) : Type 0 where
+pub record SelectOk (bits pins firsts sizes blocks weights : List ℕ) (m n : ℕ) : Type 0 where
   pub rows : 16 * n ≤ length bits
   pub nets : m ≤ 1024
   pub vertices : n ≤ 1024
   pub in-firsts : m ≤ length firsts
   pub in-sizes : m ≤ length sizes
+  pub in-blocks : n ≤ length blocks
   pub in-weights : n ≤ length weights
   pub stretch : (e : ℕ) → e < m → getD firsts e 0 + getD sizes e 0 ≤ length pins
   pub pin : (e : ℕ) → e < m → (i : ℕ) → i < getD sizes e 0 → (1 ≤ at pins (getD firsts e 0) i) × (at pins (getD firsts e 0) i ≤ n)

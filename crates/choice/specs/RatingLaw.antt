@@ -1,20 +1,20 @@
 -- Laws of the table that ratings are added up in: one pin, one net, all nets of a vertex; and that no rating passes the sum of the
 -- vertex's own terms. Rests on Rating. Assumes nothing.
-use mathlib.Core.Path.{_≡_, refl, sym, ap, ap₂, _∙_, subst}
-use mathlib.Core.Bool.{Bool, true, false, _&&_, and-false, cond}
+use mathlib.Core.Path.{_≡_, refl, sym, ap, _∙_, subst}
+use mathlib.Core.Bool.{Bool, true, false, cond}
 use mathlib.Core.List.{List}
 use Prim.Native.Nat.{ℕ, zero, suc, _+_, _-_, _*_, _/_, _≤_, _<_}
 use native.Mathlib.Decide.{ℕ-discrete}
-use native.Mathlib.Nat.{div-zero, div-le-self, mul-one, mul-zero}
+use native.Mathlib.Nat.{div-zero, div-le-self, mul-one, mul-zero, mul-add}
 use native.Mathlib.Omega.{arith}
-use borrow.Author.Tests.{eq-eqb, ne-eqb, lt-ltb, le-ltb}
+use borrow.Author.Tests.{eq-eqb, ne-eqb}
 use lib.Dec.{eqb}
 use lib.ListN.{length, getD, set, length-set}
 use lib.Seq.{getD-set-same, getD-set-other}
 use Rattle.incidence.specs.On.{on, Next}
-use Rattle.laws.specs.Occurrence.{at, same, occ, same-yes, same-no}
-use Rattle.laws.specs.Sum.{sum, sum-zero, sum-step, sum-nil, sum-ext, sum-mul, sum-mono, sum-skip, term-le}
-use Rattle.choice.specs.Rating.{near, hit, spread, termOf, over, rowOf, ownSum, PinOk, StretchOk, TablesOk, OwnOk, Blank, Raised, Swept}
+use Rattle.laws.specs.Occurrence.{at, same, occ, same-yes, same-no, occ-zero, occ-step, occ-more}
+use Rattle.laws.specs.Sum.{sum, sum-step, sum-nil, sum-mono, sum-skip, term-le}
+use Rattle.choice.specs.Rating.{termOf, over, rowOf, ownSum, StretchOk, TablesOk, RowOk, OwnOk, Blank, Raised, Swept}
 
 pub raised-none : (l : List ℕ) (d : ℕ → ℕ) → length l ≡ 1025 → ((z : ℕ) → d z ≡ 0) → Raised l l d
 raised-none l d h k = record { here = λ z. omega (arith, k z); len = h }
@@ -36,45 +36,6 @@ swept-more l l′ l″ d d′ d″ r s k = record {
     go z q (yes e) = s .rest z e ∙ r .gone z (omega (arith, k z))
     go z q (no e) = s .gone z (omega arith)
 
--- ---- one pin
-
-pub hit-other : (g : ℕ → Bool) (t y z : ℕ) → (y ≡ z → ⊥) → hit g t y z ≡ 0
-unfolding hit
-hit-other g t y z n = rw (ne-eqb y z n)
-
-pub hit-same : (g : ℕ → Bool) (t y : ℕ) (b : Bool) → g y ≡ b → hit g t y y ≡ cond b t 0
-unfolding hit
-hit-same g t y b q = rw (eq-eqb y y refl, q)
-
-pub hit-le : (g : ℕ → Bool) (t y z : ℕ) → hit g t y z ≤ t
-unfolding hit
-hit-le g t y z = go (eqb y z && g z)
-  where
-    go : (b : Bool) → cond b t 0 ≤ t
-    go true = omega arith
-    go false = omega arith
-
-hit-off : (g : ℕ → Bool) (t y z : ℕ) → g y ≡ false → hit g t y z ≡ 0
-hit-off g t y z q = go (ℕ-discrete y z)
-  where
-    go : Dec (y ≡ z) → hit g t y z ≡ 0
-    go (yes e) = ap (hit g t y) (sym e) ∙ hit-same g t y false q
-    go (no n) = hit-other g t y z n
-
-module _ (l blocks : List ℕ) (u own y t : ℕ) (len : length l ≡ 1025) where
-  pub pin-early : y ≤ u → Raised l l (hit (near blocks u own) t y)
-  pin-early h = raised-none l _ len (λ z. hit-off (near blocks u own) t y z (ap (λ (b : Bool). b && eqb (getD blocks (y - 1) 0) own) (le-ltb u y h)))
-
-  pub pin-apart : u < y → (getD blocks (y - 1) 0 ≡ own → ⊥) → Raised l l (hit (near blocks u own) t y)
-  pin-apart h n = raised-none l _ len (λ z. hit-off (near blocks u own) t y z (ap₂ (λ (a b : Bool). a && b) (lt-ltb u y h) (ne-eqb _ _ n)))
-
-  pub pin-near : y ≤ 1024 → u < y → getD blocks (y - 1) 0 ≡ own → Raised l (set l y (getD l y 0 + t)) (hit (near blocks u own) t y)
-  pin-near small h e = record { here = λ z. go z (ℕ-discrete z y); len = length-set l y (getD l y 0 + t) ∙ len }
-    where
-      go : (z : ℕ) → Dec (z ≡ y) → getD (set l y (getD l y 0 + t)) z 0 ≡ getD l z 0 + hit (near blocks u own) t y z
-      go z (yes q) = rw q (getD-set-same l y _ 0 (omega arith) ∙ sym (ap (λ (k : ℕ). getD l y 0 + k) (hit-same (near blocks u own) t y true (ap₂ (λ (a b : Bool). a && b) (lt-ltb u y h) (eq-eqb _ _ e)))))
-      go z (no n) = omega (arith, getD-set-other l y z (getD l y 0 + t) 0 n, hit-other (near blocks u own) t y z (λ q. n (sym q)))
-
 -- ---- the term of a net
 
 pub term-none : (w n : ℕ) → n < 2 → (0 ≡ termOf w n) × (0 ≤ 536870912)
@@ -85,44 +46,43 @@ term-some w n h = (refl, omega (arith, div-le-self (5040 * w) (n - 1)))
 
 -- ---- one net
 
-pub spread-none : (l : List ℕ) (f : ℕ) (g : ℕ → Bool) (t z : ℕ) → spread l f g t 0 z ≡ 0
-unfolding spread
-spread-none l f g t z = sum-zero (λ i. hit g t (at l f i) z)
-
-pub spread-step : (l : List ℕ) (f : ℕ) (g : ℕ → Bool) (t n z : ℕ) → spread l f g t (n + 1) z ≡ spread l f g t n z + hit g t (at l f n) z
-unfolding spread
-spread-step l f g t n z = sum-step n (λ i. hit g t (at l f i) z)
-
-sum-29 : (n : ℕ) (f : ℕ → ℕ) → ((i : ℕ) → f i ≤ 536870912) → sum n f ≤ n * 536870912
-unfolding sum
-sum-29 zero f h = omega arith
-sum-29 (suc n) f h = omega (arith, sum-29 n f h, h n)
-
 sum-45 : (n : ℕ) (f : ℕ → ℕ) → ((i : ℕ) → i < n → f i ≤ 35184372088832) → sum n f ≤ n * 35184372088832
 unfolding sum
 sum-45 zero f h = omega arith
 sum-45 (suc n) f h = omega (arith, sum-45 n f (λ i q. h i (omega arith)), h n (omega arith))
 
-pub spread-le : (l : List ℕ) (f : ℕ) (g : ℕ → Bool) (t n z : ℕ) → t ≤ 536870912 → spread l f g t n z ≤ n * 536870912
-unfolding spread
-spread-le l f g t n z h = sum-29 n (λ i. hit g t (at l f i) z) (λ i. omega (arith, hit-le g t (at l f i) z))
+-- at most the term, since no pin stands in a net twice
+times-once : (t k : ℕ) → k ≤ 1 → t * k ≤ t
+times-once t zero h = omega (arith, mul-zero t)
+times-once t (suc zero) h = omega (arith, mul-one t)
+times-once t (suc (suc k)) h = absurd (omega arith)
+
+-- one pin
+raised-pin : (l : List ℕ) (y t : ℕ) → length l ≡ 1025 → y ≤ 1024 → Raised l (set l y (getD l y 0 + t)) (λ z. t * same y z)
+raised-pin l y t len small = record { here = λ z. go z (ℕ-discrete z y); len = length-set l y (getD l y 0 + t) ∙ len }
+  where
+    go : (z : ℕ) → Dec (z ≡ y) → getD (set l y (getD l y 0 + t)) z 0 ≡ getD l z 0 + t * same y z
+    go z (yes q) =
+        let one : t * same y z ≡ t = ap (λ (k : ℕ). t * k) (same-yes y z (sym q)) ∙ mul-one t in
+        omega (arith, ap (λ (k : ℕ). getD (set l y (getD l y 0 + t)) k 0) q, ap (λ (k : ℕ). getD l k 0) q, getD-set-same l y (getD l y 0 + t) 0 (omega arith))
+    go z (no q) =
+        let none : t * same y z ≡ 0 = ap (λ (k : ℕ). t * k) (same-no y z (λ w. q (sym w))) ∙ mul-zero t in
+        omega (arith, getD-set-other l y z (getD l y 0 + t) 0 q)
 
 -- the loop over the pins of a net
-module _ (l0 pins blocks : List ℕ) (u own f n t : ℕ) (ok : StretchOk l0 pins (length blocks) f n 1152921504606846976) (small : t ≤ 536870912) where
-  pub net-none : Raised l0 l0 (spread pins f (near blocks u own) t 0)
-  net-none = raised-none l0 _ (ok .len) (spread-none pins f (near blocks u own) t)
+module _ (l0 pins : List ℕ) (f n t : ℕ) (ok : StretchOk l0 pins f n 1152921504606846976) (small : t ≤ 536870912) where
+  pub net-none : Raised l0 l0 (λ z. t * occ pins f 0 z)
+  net-none = raised-none l0 _ (ok .len) (λ z. ap (λ (k : ℕ). t * k) (occ-zero pins f z) ∙ mul-zero t)
 
-  pub net-pin : (l : List ℕ) (i y : ℕ) → i < n → Raised l0 l (spread pins f (near blocks u own) t i) → y ≡ at pins f i → PinOk l (length blocks) y t
-  net-pin l i y h r e = record {
-    len = r .len;
-    low = omega (arith, ok .pin i h);
-    high = omega (arith, ok .pin i h);
-    known = omega (arith, ok .pin i h);
-    room = omega (arith, r .here y, ok .small y, ok .few, spread-le pins f (near blocks u own) t i y small);
-  }
+  pub net-room : (l : List ℕ) (i y : ℕ) → i < n → Raised l0 l (λ z. t * occ pins f i z) → y ≡ at pins f i → (y < 1025) × (getD l y 0 + t < 18446744073709551616)
+  net-room l i y h r e = (omega (arith, ok .pin i h), omega (arith, r .here y, ok .small y, times-once t (occ pins f i y) few))
+    where
+      few : occ pins f i y ≤ 1
+      few = let all : i + (n - i) ≡ n = omega arith in omega (arith, occ-more pins f i (n - i) y, ap (λ (k : ℕ). occ pins f k y) all, ok .once y)
 
-  pub net-more : (l l′ : List ℕ) (i y : ℕ) → Raised l0 l (spread pins f (near blocks u own) t i) → y ≡ at pins f i → Raised l l′ (hit (near blocks u own) t y) → Raised l0 l′ (spread pins f (near blocks u own) t (i + 1))
-  net-more l l′ i y r e h = raised-more l0 l l′ _ _ _ r h (λ z. spread-step pins f (near blocks u own) t i z ∙ ap (λ (k : ℕ). spread pins f (near blocks u own) t i z + hit (near blocks u own) t k z) (sym e))
+  pub net-more : (l : List ℕ) (i y : ℕ) → i < n → Raised l0 l (λ z. t * occ pins f i z) → y ≡ at pins f i → Raised l0 (set l y (getD l y 0 + t)) (λ z. t * occ pins f (i + 1) z)
+  net-more l i y h r e = raised-more l0 l (set l y (getD l y 0 + t)) _ _ _ r (raised-pin l y t (r .len) (omega (arith, ok .pin i h)))
+      (λ z. ap (λ (k : ℕ). t * k) (occ-step pins f i z ∙ ap (λ (k : ℕ). occ pins f i z + same k z) (sym e)) ∙ mul-add t (occ pins f i z) (same y z))
 
 -- ---- all nets of a vertex
 
@@ -148,14 +108,6 @@ over-le bits x m G h = sum-45 m _ (λ e q. go (eqb (on bits x e) 1) e q)
 
 -- ---- nothing met, nothing added
 
-pub spread-dead : (l : List ℕ) (f : ℕ) (g : ℕ → Bool) (t n z : ℕ) → ((i : ℕ) → i < n → g (at l f i) ≡ false) → spread l f g t n z ≡ 0
-unfolding spread
-spread-dead l f g t n z h = sum-nil n _ (λ i k. hit-off g t (at l f i) z (h i k))
-
-pub spread-off : (l : List ℕ) (f : ℕ) (g : ℕ → Bool) (t n z : ℕ) → occ l f n z ≡ 0 → spread l f g t n z ≡ 0
-unfolding spread occ
-spread-off l f g t n z e = sum-nil n _ (λ i h. hit-other g t (at l f i) z (λ q. omega (arith, term-le n i (λ i. same (at l f i) z) h, same-yes (at l f i) z q)))
-
 pub over-off : (bits : List ℕ) (x m : ℕ) (G H : ℕ → ℕ) → ((e : ℕ) → e < m → G e ≡ 0 → H e ≡ 0) → over bits x m G ≡ 0 → over bits x m H ≡ 0
 unfolding over
 over-off bits x m G H k e = sum-nil m _ (λ i h. go i h (eqb (on bits x i) 1) (omega (arith, term-le m i (λ e. cond (eqb (on bits x e) 1) (G e) 0) h)))
@@ -172,30 +124,6 @@ over-nil bits x m G k = sum-nil m _ (λ i h. go i h (eqb (on bits x i) 1))
     go i h true = k i h
     go i h false = refl
 
--- ---- one net adds for z as often as z stands in it
-
-pub spread-in : (l : List ℕ) (f : ℕ) (g : ℕ → Bool) (t n z : ℕ) → g z ≡ true → spread l f g t n z ≡ t * occ l f n z
-unfolding spread occ
-spread-in l f g t n z q = sum-ext n _ (λ i. t * same (at l f i) z) (λ i h. go (at l f i) (ℕ-discrete (at l f i) z)) ∙ sum-mul n t (λ i. same (at l f i) z)
-  where
-    go : (y : ℕ) → Dec (y ≡ z) → hit g t y z ≡ t * same y z
-    go y (yes e) = subst (λ (k : ℕ). hit g t k z ≡ t * same k z) (sym e) (hit-same g t z true q ∙ sym (ap (λ (k : ℕ). t * k) (same-yes z z refl) ∙ mul-one t))
-    go y (no e) = hit-other g t y z e ∙ sym (ap (λ (k : ℕ). t * k) (same-no y z e) ∙ mul-zero t)
-
-pub spread-out : (l : List ℕ) (f : ℕ) (g : ℕ → Bool) (t n z : ℕ) → g z ≡ false → spread l f g t n z ≡ 0
-unfolding spread hit
-spread-out l f g t n z q = sum-nil n _ (λ i h. ap (λ (b : Bool). cond (eqb (at l f i) z && b) t 0) q ∙ ap (λ (b : Bool). cond b t 0) (and-false (eqb (at l f i) z)))
-
--- at most its term, since no pin stands in it twice
-spread-once : (l : List ℕ) (f : ℕ) (g : ℕ → Bool) (t n z : ℕ) → occ l f n z ≤ 1 → spread l f g t n z ≤ t
-spread-once l f g t n z o = go (g z) refl (occ l f n z) refl
-  where
-    go : (b : Bool) → g z ≡ b → (k : ℕ) → occ l f n z ≡ k → spread l f g t n z ≤ t
-    go false q k e = omega (arith, spread-out l f g t n z q)
-    go true q zero e = omega (arith, spread-in l f g t n z q, ap (λ (k : ℕ). t * k) e, mul-zero t)
-    go true q (suc zero) e = omega (arith, spread-in l f g t n z q, ap (λ (k : ℕ). t * k) e, mul-one t)
-    go true q (suc (suc k)) e = absurd (omega arith)
-
 over-mono : (bits : List ℕ) (x m : ℕ) (G H : ℕ → ℕ) → ((e : ℕ) → e < m → G e ≤ H e) → over bits x m G ≤ over bits x m H
 unfolding over
 over-mono bits x m G H h = sum-mono m _ _ (λ e l. go (eqb (on bits x e) 1) e l)
@@ -206,41 +134,51 @@ over-mono bits x m G H h = sum-mono m _ _ (λ e l. go (eqb (on bits x e) 1) e l)
 
 -- ---- all nets: the two loops
 
-module _ (bits pins firsts sizes netWeights blocks : List ℕ) (u m n : ℕ) (ok : TablesOk bits pins firsts sizes netWeights blocks m n) where
+module _ (bits pins firsts sizes netWeights : List ℕ) (u m n : ℕ) (ok : RowOk bits pins firsts sizes netWeights m n) where
   abbrev row : ℕ → ℕ → ℕ
-  row = rowOf bits pins firsts sizes netWeights blocks u
-
-  abbrev own : ℕ
-  own = getD blocks (u - 1) 0
+  row = rowOf bits pins firsts sizes netWeights u
 
   pub row-none : (l : List ℕ) (e : ℕ) → Blank l → Next bits (u - 1) 0 m e → Raised l l (row e)
   row-none l e h k = raised-none l (row e) (h .len) (λ z. over-first bits (u - 1) _ m e k)
 
-  pub row-stretch : (l0 l : List ℕ) (e f s : ℕ) → Blank l0 → e < m → Raised l0 l (row e) → f ≡ getD firsts e 0 → s ≡ getD sizes e 0 → StretchOk l pins (length blocks) f s 1152921504606846976
-  row-stretch l0 l e f s c h r ef es = subst (λ (k : ℕ). StretchOk l pins (length blocks) k s 1152921504606846976) (sym ef) (subst (λ (k : ℕ). StretchOk l pins (length blocks) (getD firsts e 0) k 1152921504606846976) (sym es) (record {
+  pub row-stretch : (l0 l : List ℕ) (e f s : ℕ) → Blank l0 → e < m → Raised l0 l (row e) → f ≡ getD firsts e 0 → s ≡ getD sizes e 0 → StretchOk l pins f s 1152921504606846976
+  row-stretch l0 l e f s c h r ef es = subst (λ (k : ℕ). StretchOk l pins k s 1152921504606846976) (sym ef) (subst (λ (k : ℕ). StretchOk l pins (getD firsts e 0) k 1152921504606846976) (sym es) (record {
     len = r .len;
     stretch = ok .stretch e h;
-    few = ok .few e h;
-    pin = λ i k. (ok .pin e h i k .0, omega (arith, ok .pin e h i k .1, ok .vertices), omega (arith, ok .pin e h i k .1, ok .in-blocks));
+    pin = ok .pin e h;
+    once = λ z. ok .once e z h;
     small = λ z. omega (arith, r .here z, c .zeros z, ok .nets, bound z);
   }))
     where
-      inner : (z g : ℕ) → g < m → spread pins (getD firsts g 0) (near blocks u own) (termOf (getD netWeights g 0) (getD sizes g 0)) (getD sizes g 0) z ≤ 35184372088832
-      inner z g q = omega (arith, ok .few g q, spread-le pins (getD firsts g 0) (near blocks u own) (termOf (getD netWeights g 0) (getD sizes g 0)) (getD sizes g 0) z (term-some (getD netWeights g 0) (getD sizes g 0) (ok .light g q) .1))
+      inner : (z g : ℕ) → g < m → termOf (getD netWeights g 0) (getD sizes g 0) * occ pins (getD firsts g 0) (getD sizes g 0) z ≤ 35184372088832
+      inner z g q = omega (arith, times-once (termOf (getD netWeights g 0) (getD sizes g 0)) (occ pins (getD firsts g 0) (getD sizes g 0) z) (ok .once g z q), term-some (getD netWeights g 0) (getD sizes g 0) (ok .light g q) .1)
 
       bound : (z : ℕ) → row e z ≤ e * 35184372088832
       bound z = over-le bits (u - 1) e _ (λ g q. inner z g (omega arith))
 
   pub row-more : (l0 l l′ : List ℕ) (e e′ f s t : ℕ) → Raised l0 l (row e) → on bits (u - 1) e ≡ 1 → f ≡ getD firsts e 0 → s ≡ getD sizes e 0 → t ≡ termOf (getD netWeights e 0) (getD sizes e 0)
-      → Raised l l′ (spread pins f (near blocks u own) t s) → Next bits (u - 1) (e + 1) m e′ → Raised l0 l′ (row e′)
+      → Raised l l′ (λ z. t * occ pins f s z) → Next bits (u - 1) (e + 1) m e′ → Raised l0 l′ (row e′)
   row-more l0 l l′ e e′ f s t r here ef es et h k = raised-more l0 l l′ (row e) _ (row e′) r h (λ z. over-next bits (u - 1) _ m e e′ here k ∙ ap (λ (q : ℕ). row e z + q) (same-net z))
     where
-      same-net : (z : ℕ) → spread pins (getD firsts e 0) (near blocks u own) (termOf (getD netWeights e 0) (getD sizes e 0)) (getD sizes e 0) z ≡ spread pins f (near blocks u own) t s z
+      same-net : (z : ℕ) → termOf (getD netWeights e 0) (getD sizes e 0) * occ pins (getD firsts e 0) (getD sizes e 0) z ≡ t * occ pins f s z
       same-net z = rw (ef, es, et)
 
   -- no rating passes the sum of the terms of u's own nets
   pub row-own : (z : ℕ) → row m z ≤ ownSum bits sizes netWeights u m
-  row-own z = over-mono bits (u - 1) m _ _ (λ e l. spread-once pins (getD firsts e 0) (near blocks u own) (termOf (getD netWeights e 0) (getD sizes e 0)) (getD sizes e 0) z (ok .once e z l))
+  row-own z = over-mono bits (u - 1) m _ _ (λ e l. times-once (termOf (getD netWeights e 0) (getD sizes e 0)) (occ pins (getD firsts e 0) (getD sizes e 0) z) (ok .once e z l))
+
+pub row-ok : {bits pins firsts sizes netWeights blocks : List ℕ} {m n : ℕ} → TablesOk bits pins firsts sizes netWeights blocks m n → RowOk bits pins firsts sizes netWeights m n
+row-ok ok = record {
+  rows = ok .rows;
+  nets = ok .nets;
+  in-firsts = ok .in-firsts;
+  in-sizes = ok .in-sizes;
+  in-netWeights = ok .in-netWeights;
+  light = ok .light;
+  stretch = ok .stretch;
+  pin = λ e h i k. omega (arith, ok .pin e h i k .1, ok .vertices);
+  once = ok .once;
+}
 
 -- the sum of those terms, as the loop has it
 module _ (bits sizes netWeights : List ℕ) (u m : ℕ) where

@@ -1,5 +1,6 @@
 // The choices of a search: the best open pair of a vertex and a block, for a walk and for a polish; and the best pair to contract. Each is
 // equal to the choice that model defines.
+pub mod bounds;
 pub mod join;
 mod numbers;
 pub mod open;

@@ -22,7 +22,9 @@ use Rattle.calls.specs.Tables.{Tables, Sound, Keeps}
 use Rattle.calls.specs.Join.{Pair, Joined}
 use Rattle.choice.specs.Rating.{scoreOf}
 use Rattle.choice.specs.JoinPair.{BestJoin, joinOf, joinOf-none, joinOf-some}
-use Rattle.choice.specs.JoinLink.{join-is, join-may}
+use Rattle.choice.specs.JoinLink.{Linked, join-is, join-may}
+use Rattle.choice.specs.Bound.{Bounded, Planned, riseOf}
+use Rattle.choice.specs.BoundLink.{bounded-after}
 use Rattle.choice.specs.declared.join.Join.{Join}
 use Rattle.search.specs.Keeping.{keeps-none, keeps-more}
 use Rattle.cycle.specs.Linked.{linked, block-at, block-from}
@@ -74,9 +76,13 @@ pub record Once (T : Tables) (L : Locals) (average : ℕ) (T′ : Tables) (L′ 
   pub less : L′ .left < L .left
   pub keeps : (h : Hypergraph) (c : Coarse) → Here h c T L → Keeps T T′
 
+-- ratings by the tables
+abbrev pub scoreIn : Tables → ℕ → ℕ → ℕ → ℕ
+scoreIn T average = scoreOf (T .bits) (T .pins) (T .firsts) (T .sizes) (T .netWeights) (T .blocks) (T .weights) (T .m) average
+
 -- the pair that the tables give
 abbrev pub Chosen : Tables → ℕ → Join → Type 0
-Chosen T average r = BestJoin (scoreOf (T .bits) (T .pins) (T .firsts) (T .sizes) (T .netWeights) (T .blocks) (T .weights) (T .m) average) (T .n) r
+Chosen T average r = BestJoin (scoreIn T average) (T .n) r
 
 chosen-is : {h : Hypergraph} {cs : List Contraction} {block : ℕ → ℕ} {T : Tables} (average : ℕ) (r : Join) → average ≡ averageWeight h → Sound h cs block T → Chosen T average r
     → joinBest h cs block ≡ joinOf r
@@ -129,6 +135,31 @@ module _ {h : Hypergraph} {cs : List Contraction} {block : ℕ → ℕ} {T : Tab
       let v : r .gone - 1 + 1 ≡ r .gone = omega (arith, i) in
       subst (λ (y : ℕ). Sound h (record { into = r .into; gone = y } ∷ cs) (place block y 0) T′) v
       (subst (λ (x : ℕ). Sound h (record { into = x; gone = r .gone - 1 + 1 } ∷ cs) (place block (r .gone - 1 + 1) 0) T′) u (j .sound h cs block s))
+
+-- what v's nets add to the bound of a vertex, by the tables
+abbrev pub riseIn : Tables → ℕ → ℕ → ℕ → ℕ
+riseIn T = riseOf (T .bits) (T .pins) (T .firsts) (T .sizes) (T .netWeights) (T .blocks) (T .m)
+
+-- the bounds that the choice leaves are bounds after the contraction
+pub once-bounds : {T : List ℕ → List ℕ → Tables} {L : Locals} {average : ℕ} (o : OnceOk T L average) (T′ : Tables) (r : Join) (l : List ℕ)
+    → T′ .n ≡ T (o .loads) (o .loaded) .n → T′ .m ≡ T (o .loads) (o .loaded) .m → Chosen (T (o .loads) (o .loaded)) average r → 1 ≤ r .rating
+    → Joined (T (o .loads) (o .loaded)) T′ (r .into - 1) (r .gone - 1)
+    → Planned (scoreIn (T (o .loads) (o .loaded)) average) (riseIn (T (o .loads) (o .loaded))) (T (o .loads) (o .loaded) .n) l r
+    → Bounded (scoreOf (T′ .bits) (T′ .pins) (T′ .firsts) (T′ .sizes) (T′ .netWeights) (T′ .blocks) (T′ .weights) (T (o .loads) (o .loaded) .m) average) (T (o .loads) (o .loaded) .n) l
+once-bounds {T} {average = average} o T′ r l qn qm b some j p =
+    let S = T (o .loads) (o .loaded) in
+    let h = o .h in
+    let cs = o .c .stack in
+    let block = o .c .block in
+    let s = o .here .stands .sound in
+    let i = b .within some in
+    let c : Contraction = record { into = r .into; gone = r .gone } in
+    let s′ : Sound h (c ∷ cs) (place block (r .gone) 0) T′ = joined-sound average r (o .average-is) s b some j in
+    let k′ : Linked h (c ∷ cs) (place block (r .gone) 0) (T′ .bits) (T′ .pins) (T′ .firsts) (T′ .sizes) (T′ .netWeights) (T′ .blocks) (T′ .weights) (S .m) (S .n) average =
+    subst (λ (x : ℕ). Linked h (c ∷ cs) (place block (r .gone) 0) (T′ .bits) (T′ .pins) (T′ .firsts) (T′ .sizes) (T′ .netWeights) (T′ .blocks) (T′ .weights) x (S .n) average) qm
+    (subst (λ (x : ℕ). Linked h (c ∷ cs) (place block (r .gone) 0) (T′ .bits) (T′ .pins) (T′ .firsts) (T′ .sizes) (T′ .netWeights) (T′ .blocks) (T′ .weights) (T′ .m) x average) qn (linked s′ average (o .average-is))) in
+    bounded-after h cs block (S .bits) (S .pins) (S .firsts) (S .sizes) (S .netWeights) (S .blocks) (S .weights) (S .m) (S .n) average (linked s average (o .average-is)) c (s′ .follows .says .sound) (i .0) (i .1) (i .2) (i .3)
+    (T′ .bits) (T′ .pins) (T′ .firsts) (T′ .sizes) (T′ .netWeights) (T′ .blocks) (T′ .weights) k′ l (p .some some)
 
 coarsen-step : (h : Hypergraph) (c : Coarse) (u v f : ℕ) (q : ℕ) → 2 * h .blocks < boardSize h (c .stack) → joinBest h (c .stack) (c .block) ≡ best u v (pos q)
     → coarsen h (suc f) c ≡ coarsen h f (record { stack = record { into = u; gone = v } ∷ c .stack; block = place (c .block) v 0 })

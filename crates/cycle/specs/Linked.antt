@@ -10,7 +10,7 @@ use lib.ListN.{getD, replicate, length-replicate, getD-replicate, List·getD-eq-
 use Rattle.laws.specs.Choice.{one}
 use Rattle.laws.specs.Fold.{all-get}
 use Rattle.laws.specs.Occurrence.{occ, occ-total}
-use Rattle.laws.specs.Sum.{sumTo, sumTo-ext, countTo-le}
+use Rattle.laws.specs.Sum.{sumTo, sumTo-ext}
 use Rattle.model.specs.Catalogue.{Hypergraph, vertices, averageWeight}
 use Rattle.model.specs.Memory.{noNet}
 use Rattle.model.specs.Measure.{Contraction, above, pin, size, weight}
@@ -44,10 +44,6 @@ module _ {h : Hypergraph} {cs : List Contraction} {block : ℕ → ℕ} {T : Tab
       ∙ sumTo-ext (T .n) (occ (T .pins) (getD (T .firsts) e 0) (getD (T .sizes) e 0)) (λ v. one (pin cs (netAt h e) v)) (λ v _ _. member v e l)
       ∙ ap (λ (n : ℕ). sumTo n (λ v. one (pin cs (netAt h e) v))) (s .follows .says .all-vertices)
 
-  size-few : (e : ℕ) → size h cs (netAt h e) ≤ vertices h
-  unfolding size
-  size-few e = countTo-le (vertices h) (λ v. pin cs (netAt h e) v)
-
   pub tables-ok : TablesOk (T .bits) (T .pins) (T .firsts) (T .sizes) (T .netWeights) (T .blocks) (T .m) (T .n)
   tables-ok = record {
     rows = s .follows .room .bits-fit;
@@ -57,7 +53,6 @@ module _ {h : Hypergraph} {cs : List Contraction} {block : ℕ → ℕ} {T : Tab
     in-sizes = s .follows .room .sizes-fit;
     in-netWeights = s .follows .world .frame .weights-fit;
     in-blocks = s .follows .world .lists .blocks-fit;
-    few = λ e l. omega (arith, sized e l, size-few e, s .follows .says .all-vertices, s .follows .room .few-vertices);
     light = λ e l. omega (arith, s .follows .world .frame .weight e l);
     stretch = λ e l. s .follows .world .lists .nets e l .pins-fit;
     pin = λ e l i k. let a = s .follows .world .lists .nets e l .in-range i k in (a .0, a .1, s .follows .world .lists .nets e l .in-blocks i k .0);

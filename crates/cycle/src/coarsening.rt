@@ -3,12 +3,14 @@ ghost use Prim.Native.Nat.{ℕ, _-_, _*_, _<_, _≤_};
 ghost use mathlib.Core.Path.{_≡_};
 ghost use mathlib.Core.List.{List};
 ghost use Rattle.calls.specs.Tables.{tables};
-ghost use Rattle.choice.specs.Rating.{Blank};
+ghost use Rattle.choice.specs.Rating.{Blank, scoreOf};
+ghost use Rattle.choice.specs.Bound.{Bounded};
 ghost use Rattle.cycle.specs.Coarsen.{locals, OnceOk, Once, CoarsenOk, Coarsens};
 use crate::numbers::short;
 use calls::joins::join;
 use calls::pairs::Stack;
-use choice::join::best_join;
+use choice::bounds::begin;
+use choice::join::plan_join;
 
 // The stack, and how many vertices have still to leave the board: 0 too where no pair is left.
 pub struct Round {
@@ -29,9 +31,10 @@ fn excess(n: usize, k: usize, len: usize) -> usize
     board - low
 }
 
-// Contracts the best pair, if there is one. `acc` is all 0 before and after.
+// Contracts the best pair, if there is one. `acc` is all 0 before and after; `bounds` has each vertex's bound on its ratings.
 fn coarsen_once(
     acc: &mut [u64; 1025],
+    bounds: &mut [u64; 1025],
     counts: &mut [u16],
     visited: &mut [u16],
     gains: &mut [i32],
@@ -51,13 +54,14 @@ fn coarsen_once(
     s: Round,
 ) -> Round
     requires { ⌜ OnceOk (λ loads loaded. tables (now counts) (now visited) (now gains) (now pins) (now sizes) (now bits) (now blocks) (now weights) (now aboves) loads (now netweights) (now firsts) loaded n m k total) (locals (s .stack .into) (s .stack .gone) (s .stack .len) (s .left)) average ⌝ }
-    requires { ⌜ Blank (now acc) ⌝ }
+    requires { ⌜ Blank (now acc) × Bounded (scoreOf (now bits) (now pins) (now firsts) (now sizes) (now netweights) (now blocks) (now weights) m average) n (now bounds) ⌝ }
     ensures { λ r. ⌜ ((loads loaded : List ℕ) → Once (tables (now (counts .entry)) (now (visited .entry)) (now (gains .entry)) (now (pins .entry)) (now (sizes .entry)) (now (bits .entry)) (now (blocks .entry)) (now (weights .entry)) (now (aboves .entry)) loads (now (netweights .entry)) (now (firsts .entry)) loaded n m k total) (locals (s .stack .into) (s .stack .gone) (s .stack .len) (s .left)) average
         (tables (now (counts .exit)) (now (visited .exit)) (now (gains .exit)) (now (pins .exit)) (now (sizes .exit)) (now (bits .exit)) (now (blocks .exit)) (now (weights .exit)) (now (aboves .exit)) loads (now (netweights .exit)) (now (firsts .exit)) loaded n m k total) (locals (r .stack .into) (r .stack .gone) (r .stack .len) (r .left))) ⌝ }
-    ensures { λ r. ⌜ Blank (now (acc .exit)) ⌝ }
+    ensures { λ r. ⌜ Blank (now (acc .exit)) × Bounded (scoreOf (now (bits .exit)) (now (pins .exit)) (now (firsts .exit)) (now (sizes .exit)) (now (netweights .exit)) (now (blocks .exit)) (now (weights .exit)) m average) n (now (bounds .exit)) ⌝ }
 {
-    let pair = best_join(
+    let pair = plan_join(
         acc,
+        bounds,
         bits,
         pins,
         firsts,
@@ -130,6 +134,18 @@ pub fn coarsen(
         (tables (now (counts .exit)) (now (visited .exit)) (now (gains .exit)) (now (pins .exit)) (now (sizes .exit)) (now (bits .exit)) (now (blocks .exit)) (now (weights .exit)) (now (aboves .exit)) loads (now (netweights .exit)) (now (firsts .exit)) loaded n m k total) (r .into) (r .gone) (r .len)) ⌝ }
 {
     let mut acc = [0u64; 1025];
+    let mut bounds = [0u64; 1025];
+    begin(
+        &mut bounds,
+        bits,
+        pins,
+        firsts,
+        sizes,
+        netweights,
+        blocks,
+        m,
+        n,
+    );
     let mut s = Round {
         stack: stack,
         left: excess(n, k, stack.len),
@@ -137,6 +153,7 @@ pub fn coarsen(
     while 0 < s.left {
         s = coarsen_once(
             &mut acc,
+            &mut bounds,
             counts,
             visited,
             gains,

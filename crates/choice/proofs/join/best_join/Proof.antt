@@ -1,53 +1,35 @@
-use Prim.Native.Nat.{_≤_, _-_}
+-- `best_join`: bounds stay bounds, and each rating lowers one or ends the search.
 use Rattle.choice.specs.Rating.{Blank, scoreOf}
-use Rattle.choice.specs.JoinLaw.{joinTo, join-none, join-more}
-use native.Mathlib.Omega.{arith}
-use Rattle.choice.specs.JoinPair.{best-join}
-use mathlib.Core.Path.{_≡_, _∙_, ap}
-use denote.Ref.{now}
+use Rattle.choice.specs.Settling.{Settling, settling, effort, effort-less, settled}
 use Rattle.choice.proofs.join.best_join.Statement.{statement}
 use Rattle.choice.proofs.join.best_join.Tie as tie
-use Rattle.choice.proofs.join.best_join.Reads as reads
-use Rattle.choice.proofs.join.best_join.Lts as lts
-use Rattle.choice.proofs.join.join_row.Reads as join-row-reads
 
 abbrev Inv-loop : tie.InvT-loop
-Inv-loop acc₀ bits pins firsts sizes netWeights blocks weights limit m n best₀ i₀ acc best i = (i ≤ n) × (best ≡ joinTo (scoreOf bits pins firsts sizes netWeights blocks weights m limit) n i) × Blank acc
+Inv-loop acc₀ bounds₀ bits pins firsts sizes netWeights blocks weights limit m n start s₀ acc bounds s = Settling (scoreOf bits pins firsts sizes netWeights blocks weights m limit) n bounds (s .rating) (s .into) (s .gone) (s .top) × Blank acc
 
 abbrev μ-loop : tie.MeasureT-loop
-μ-loop acc₀ bits pins firsts sizes netWeights blocks weights limit m n best₀ i₀ acc best i = n - i
+μ-loop acc₀ bounds₀ bits pins firsts sizes netWeights blocks weights limit m n start s₀ acc bounds s = effort bounds (s .into) (s .top)
+
+highest-requires : tie.Need-highest-requires Inv-loop μ-loop
+highest-requires c κs = let p = c .before .before .before .before .before .before .before .before .pre in (p .1 .1 .len, p .1 .0 .1, p .0 .vertices)
+
+rate-requires : tie.Need-rate-requires Inv-loop μ-loop
+rate-requires c κs = let p = c .before .before .before .before .before .before .before .before .before .before .before .pre in let h = c .before .before .highest .ensures in (p .0, (p .1 .0 .0, p .1 .1 .len, h .low, h .high, p .1 .0 .2))
 
 loop-holds : tie.Need-loop-holds Inv-loop μ-loop
-loop-holds c =
-    let a = c .before .before .before .before .before .before .before .args in
-    (omega arith, join-none (scoreOf (now (a .bits)) (now (a .pins)) (now (a .firsts)) (now (a .sizes)) (now (a .netWeights)) (now (a .blocks)) (now (a .weights)) (a .m) (a .limit)) (a .n), c .before .before .before .before .before .before .before .pre .1 .0)
+loop-holds c = let p = c .before .before .before .before .before .before .before .before .before .before .before .before .pre in let h = c .before .before .before .highest .ensures in (settling (p .1 .1) (h .low) (h .high) (p .0 .vertices) (c .rate .ensures .0), c .rate .ensures .1)
 
-add-join-row : tie.Need-add-join-row Inv-loop μ-loop
-add-join-row c = omega arith
-
-join-row-requires : tie.Need-join-row-requires Inv-loop μ-loop
-join-row-requires c κs =
-    let p = c .before .before .before .before .before .before .before .before .before .before .pre in
-    (p .0, (c .before .before .loop .inv .2, omega arith, omega arith, p .1 .1))
-
-add-i : tie.Need-add-i Inv-loop μ-loop
-add-i c = omega arith
+rate-requires-2 : tie.Need-rate-requires-2 Inv-loop μ-loop
+rate-requires-2 c κs = let p = c .before .before .before .before .before .before .before .before .before .before .before .before .before .before .before .before .before .pre in let v = c .before .before .before .before .loop .inv in (p .0, (v .1, v .0 .bounded .len, v .0 .high .low, v .0 .high .high, p .1 .0 .2))
 
 loop-less : tie.Need-loop-less Inv-loop μ-loop
-loop-less c = omega arith
+loop-less c = effort-less (c .before .before .before .before .before .before .before .before .before .before .before .before .before .before .before .before .before .before .pre .0 .vertices) (c .before .before .before .before .before .loop .inv .0) (c .before .before .before .if1 .taken) (c .rate2 .ensures .0)
 
 loop-again : tie.Need-loop-again Inv-loop μ-loop
-loop-again c =
-    let a = c .before .before .before .before .before .before .before .before .before .before .before .args in
-    let l = c .before .before .before .loop in
-    (omega arith, join-more (scoreOf (now (a .bits)) (now (a .pins)) (now (a .firsts)) (now (a .sizes)) (now (a .netWeights)) (now (a .blocks)) (now (a .weights)) (a .m) (a .limit)) (a .n) (l .i) (l .best) _ (l .inv .1) (c .join-row .ensures .0), c .join-row .ensures .1)
+loop-again c = let p = c .before .before .before .before .before .before .before .before .before .before .before .before .before .before .before .before .before .before .pre in let v = c .before .before .before .before .before .loop .inv .0 in (settling (v .bounded) (v .high .low) (v .high .high) (p .0 .vertices) (c .rate2 .ensures .0), c .rate2 .ensures .1)
 
 returns : tie.Need-returns Inv-loop μ-loop
-returns c =
-    let a = c .before .before .before .before .before .before .before .before .before .args in
-    let score = scoreOf (now (a .bits)) (now (a .pins)) (now (a .firsts)) (now (a .sizes)) (now (a .netWeights)) (now (a .blocks)) (now (a .weights)) (a .m) (a .limit) in
-    let e : c .before .loop .i ≡ a .n = omega (arith, c .before .loop .inv .0) in
-    (best-join score (a .n) _ (c .before .loop .inv .1 ∙ ap (joinTo score (a .n)) e), c .before .loop .inv .2)
+returns c = let v = c .before .before .loop .inv in (settled (v .0) (c .if1 .left), (v .0 .bounded, v .1))
 
 pub best-join-spec : {M : Type 1} → statement M
 best-join-spec =
@@ -55,10 +37,10 @@ best-join-spec =
     (tie.spec
     Inv-loop
     μ-loop
+    highest-requires
+    rate-requires
     loop-holds
-    add-join-row
-    join-row-requires
-    add-i
+    rate-requires-2
     loop-less
     loop-again
     returns)

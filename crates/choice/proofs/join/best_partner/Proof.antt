@@ -1,16 +1,13 @@
+use Rattle.choice.specs.RatingLaw.{row-ok}
 use Rattle.choice.specs.JoinLaw.{select-ok, partner-law}
 use denote.Ref.{now}
 use Rattle.choice.proofs.join.best_partner.Statement.{statement}
 use Rattle.choice.proofs.join.best_partner.Tie as tie
-use Rattle.choice.proofs.join.best_partner.Reads as reads
-use Rattle.choice.proofs.join.best_partner.Lts as lts
-use Rattle.choice.proofs.rating.accumulate.Reads as accumulate-reads
-use Rattle.choice.proofs.join.select.Reads as select-reads
 
 accumulate-requires : tie.Need-accumulate-requires
 accumulate-requires c κs =
     let p = c .before .before .before .before .before .before .before .before .pre in
-    (p .0, (p .1 .0, p .1 .1, p .1 .2))
+    (row-ok (p .0), (p .1 .0, p .1 .1, p .1 .2))
 
 select-requires : tie.Need-select-requires
 select-requires c κs =

@@ -3,8 +3,6 @@ use native.Mathlib.Omega.{arith}
 use borrow.Author.Needs.{needs}
 use Rattle.choice.proofs.join.choose.Statement.{statement}
 use Rattle.choice.proofs.join.choose.Tie as tie
-use Rattle.choice.proofs.join.choose.Reads as reads
-use Rattle.choice.proofs.join.choose.Lts as lts
 
 returns : tie.Need-returns
 returns c = search (needs, chose-new)

@@ -1,40 +1,46 @@
--- `coarsen`: what is left to contract leads to model's end, and nothing is left once no vertex has to leave the board.
+-- `coarsen`: what is left to contract leads to model's end, and nothing is left once no vertex has to leave the board; bounds stay bounds.
 use Prim.Native.Nat.{ℕ}
 use native.Mathlib.Omega.{arith}
 use mathlib.Core.Path.{_≡_, refl}
 use mathlib.Core.List.{List}
-use lib.ListN.{length}
+use lib.ListN.{length, length-replicate}
 use Rattle.calls.specs.Tables.{tables}
-use Rattle.choice.specs.Rating.{Blank}
-use Rattle.cycle.specs.Linked.{blank}
+use Rattle.choice.specs.Rating.{Blank, scoreOf}
+use Rattle.choice.specs.Bound.{Bounded}
+use Rattle.choice.specs.BoundLaw.{bounded-begin}
+use Rattle.cycle.specs.Linked.{blank, tables-ok}
 use Rattle.cycle.specs.Coarsen.{locals, Going, len-is, going-none, going-more, going-done, once-asks}
 use Rattle.cycle.proofs.coarsening.coarsen.Statement.{statement}
 use Rattle.cycle.proofs.coarsening.coarsen.Tie as tie
 
 abbrev Inv-loop : tie.InvT-loop
-Inv-loop counts₀ visited₀ gains₀ pins₀ sizes₀ bits₀ blocks₀ weights₀ aboves₀ netweights firsts n m k average total acc₀ s₀ counts visited gains pins sizes bits blocks weights aboves acc s =
+Inv-loop counts₀ visited₀ gains₀ pins₀ sizes₀ bits₀ blocks₀ weights₀ aboves₀ netweights firsts n m k average total acc₀ bounds₀ s₀ counts visited gains pins sizes bits blocks weights aboves acc bounds s =
     ((loads loaded : List ℕ) → Going (tables counts₀ visited₀ gains₀ pins₀ sizes₀ bits₀ blocks₀ weights₀ aboves₀ loads netweights firsts loaded n m k total) (s₀ .stack .into) (s₀ .stack .gone) (s₀ .stack .len) average (tables counts visited gains pins sizes bits blocks weights aboves loads netweights firsts loaded n m k total) (locals (s .stack .into) (s .stack .gone) (s .stack .len) (s .left)))
     × Blank acc
+    × Bounded (scoreOf bits pins firsts sizes netweights blocks weights m average) n bounds
     × (length counts ≡ length counts₀) × (length visited ≡ length visited₀) × (length gains ≡ length gains₀) × (length pins ≡ length pins₀) × (length sizes ≡ length sizes₀) × (length bits ≡ length bits₀) × (length blocks ≡ length blocks₀) × (length weights ≡ length weights₀) × (length aboves ≡ length aboves₀)
 
 abbrev μ-loop : tie.MeasureT-loop
-μ-loop counts₀ visited₀ gains₀ pins₀ sizes₀ bits₀ blocks₀ weights₀ aboves₀ netweights firsts n m k average total acc₀ s₀ counts visited gains pins sizes bits blocks weights aboves acc s =
+μ-loop counts₀ visited₀ gains₀ pins₀ sizes₀ bits₀ blocks₀ weights₀ aboves₀ netweights firsts n m k average total acc₀ bounds₀ s₀ counts visited gains pins sizes bits blocks weights aboves acc bounds s =
     s .left
 
+begin-requires : tie.Need-begin-requires Inv-loop μ-loop
+begin-requires c κs = (tables-ok (c .before .before .before .before .before .before .before .before .before .before .before .before .before .before .before .pre .stands .sound), length-replicate {A = ℕ} 1025 0)
+
 excess-requires : tie.Need-excess-requires Inv-loop μ-loop
-excess-requires c κs = let p = c .before .before .before .before .before .before .before .before .before .before .pre in (omega (arith, len-is (p .stands)), p .stands .sound .follows .world .frame .few)
+excess-requires c κs = let p = c .before .before .before .before .before .before .before .before .before .before .before .before .before .before .before .before .pre in (omega (arith, len-is (p .stands)), p .stands .sound .follows .world .frame .few)
 
 loop-holds : tie.Need-loop-holds Inv-loop μ-loop
-loop-holds c = (λ loads loaded. going-none _ _ _ _ _ _ (c .excess .ensures), blank 1025 refl, refl, refl, refl, refl, refl, refl, refl, refl, refl)
+loop-holds c = (λ loads loaded. going-none _ _ _ _ _ _ (c .excess .ensures), blank 1025 refl, bounded-begin _ _ _ _ _ _ _ _ _ _ (tables-ok (c .before .before .before .before .before .before .before .before .before .before .before .before .before .before .before .before .before .pre .stands .sound)) _ (c .before .begin .ensures), refl, refl, refl, refl, refl, refl, refl, refl, refl)
 
 coarsen-once-requires : tie.Need-coarsen-once-requires Inv-loop μ-loop
-coarsen-once-requires c κs = (once-asks (c .before .before .before .before .before .before .before .before .before .before .before .before .before .before .before .before .before .before .before .before .before .before .before .before .pre) (c .before .before .before .before .before .before .before .before .before .before .before .before .loop .inv .0) (omega (arith, c .before .before .before .before .before .before .before .before .before .before .if1 .taken)), c .before .before .before .before .before .before .before .before .before .before .before .before .loop .inv .1)
+coarsen-once-requires c κs = let v = c .before .before .before .before .before .before .before .before .before .before .before .before .before .loop .inv in (once-asks (c .before .before .before .before .before .before .before .before .before .before .before .before .before .before .before .before .before .before .before .before .before .before .before .before .before .before .before .before .before .before .before .pre) (v .0) (omega (arith, c .before .before .before .before .before .before .before .before .before .before .before .if1 .taken)), (v .1, v .2))
 
 loop-less : tie.Need-loop-less Inv-loop μ-loop
-loop-less c = c .before .before .before .before .before .before .before .before .before .before .before .before .before .before .before .before .before .coarsen-once .ensures .0 (c .before .before .before .before .before .before .before .before .before .before .before .before .before .before .before .before .before .before .before .before .before .before .before .before .before .before .before .before .before .before .before .before .before .before .before .before .before .before .before .before .before .before .pre .loads) (c .before .before .before .before .before .before .before .before .before .before .before .before .before .before .before .before .before .before .before .before .before .before .before .before .before .before .before .before .before .before .before .before .before .before .before .before .before .before .before .before .before .before .pre .loaded) .less
+loop-less c = c .before .before .before .before .before .before .before .before .before .before .before .before .before .before .before .before .before .coarsen-once .ensures .0 (c .before .before .before .before .before .before .before .before .before .before .before .before .before .before .before .before .before .before .before .before .before .before .before .before .before .before .before .before .before .before .before .before .before .before .before .before .before .before .before .before .before .before .before .before .before .before .before .before .before .pre .loads) (c .before .before .before .before .before .before .before .before .before .before .before .before .before .before .before .before .before .before .before .before .before .before .before .before .before .before .before .before .before .before .before .before .before .before .before .before .before .before .before .before .before .before .before .before .before .before .before .before .before .pre .loaded) .less
 
 loop-again : tie.Need-loop-again Inv-loop μ-loop
-loop-again c = (λ loads loaded. going-more refl refl refl refl refl (c .before .before .before .before .before .before .before .before .before .before .before .before .before .before .before .before .before .before .before .before .before .before .before .before .before .before .before .before .before .before .loop .inv .0 loads loaded) (c .before .before .before .before .before .before .before .before .before .before .before .before .before .before .before .before .before .coarsen-once .ensures .0 loads loaded), c .before .before .before .before .before .before .before .before .before .before .before .before .before .before .before .before .before .coarsen-once .ensures .1, omega (arith, c .before .before .before .before .before .before .before .before .before .before .before .before .before .before .before .before .before .before .before .before .before .before .before .before .before .before .before .before .before .before .loop .inv, c .before .before .before .before .before .before .before .before .before .before .before .before .before .before .before .before .before .coarsen-once .kept), omega (arith, c .before .before .before .before .before .before .before .before .before .before .before .before .before .before .before .before .before .before .before .before .before .before .before .before .before .before .before .before .before .before .loop .inv, c .before .before .before .before .before .before .before .before .before .before .before .before .before .before .before .before .before .coarsen-once .kept), omega (arith, c .before .before .before .before .before .before .before .before .before .before .before .before .before .before .before .before .before .before .before .before .before .before .before .before .before .before .before .before .before .before .loop .inv, c .before .before .before .before .before .before .before .before .before .before .before .before .before .before .before .before .before .coarsen-once .kept), omega (arith, c .before .before .before .before .before .before .before .before .before .before .before .before .before .before .before .before .before .before .before .before .before .before .before .before .before .before .before .before .before .before .loop .inv, c .before .before .before .before .before .before .before .before .before .before .before .before .before .before .before .before .before .coarsen-once .kept), omega (arith, c .before .before .before .before .before .before .before .before .before .before .before .before .before .before .before .before .before .before .before .before .before .before .before .before .before .before .before .before .before .before .loop .inv, c .before .before .before .before .before .before .before .before .before .before .before .before .before .before .before .before .before .coarsen-once .kept), omega (arith, c .before .before .before .before .before .before .before .before .before .before .before .before .before .before .before .before .before .before .before .before .before .before .before .before .before .before .before .before .before .before .loop .inv, c .before .before .before .before .before .before .before .before .before .before .before .before .before .before .before .before .before .coarsen-once .kept), omega (arith, c .before .before .before .before .before .before .before .before .before .before .before .before .before .before .before .before .before .before .before .before .before .before .before .before .before .before .before .before .before .before .loop .inv, c .before .before .before .before .before .before .before .before .before .before .before .before .before .before .before .before .before .coarsen-once .kept), omega (arith, c .before .before .before .before .before .before .before .before .before .before .before .before .before .before .before .before .before .before .before .before .before .before .before .before .before .before .before .before .before .before .loop .inv, c .before .before .before .before .before .before .before .before .before .before .before .before .before .before .before .before .before .coarsen-once .kept), omega (arith, c .before .before .before .before .before .before .before .before .before .before .before .before .before .before .before .before .before .before .before .before .before .before .before .before .before .before .before .before .before .before .loop .inv, c .before .before .before .before .before .before .before .before .before .before .before .before .before .before .before .before .before .coarsen-once .kept))
+loop-again c = let v = c .before .before .before .before .before .before .before .before .before .before .before .before .before .before .before .before .before .before .before .before .before .before .before .before .before .before .before .before .before .before .before .loop .inv in let o = c .before .before .before .before .before .before .before .before .before .before .before .before .before .before .before .before .before .coarsen-once in (λ loads loaded. going-more refl refl refl refl refl (v .0 loads loaded) (o .ensures .0 loads loaded), o .ensures .1 .0, o .ensures .1 .1, omega (arith, v, o .kept), omega (arith, v, o .kept), omega (arith, v, o .kept), omega (arith, v, o .kept), omega (arith, v, o .kept), omega (arith, v, o .kept), omega (arith, v, o .kept), omega (arith, v, o .kept), omega (arith, v, o .kept))
 
 same-length : tie.Need-same-length Inv-loop μ-loop
 same-length c = omega (arith, c .before .before .before .loop .inv)
@@ -72,6 +78,7 @@ coarsen-spec =
     (tie.spec
     Inv-loop
     μ-loop
+    begin-requires
     excess-requires
     loop-holds
     coarsen-once-requires
