@@ -1,0 +1,2 @@
+-- The list entry's lines lie in the output. Assumes nothing.
+pub mod Lines

@@ -1,0 +1,41 @@
+// An example of the entry that takes a catalogue and a list of calls apart from each other: the catalogue from standard input, the worked
+// sale's calls, and the lines of their answers to standard output.
+use engine::listing::kapokdrill_list;
+
+fn main() {
+    // one byte more than a file may have, so that a longer one is seen to be longer
+    let mut file = [0u8; 60001];
+    let mut output = [0u8; 60000];
+    let mut weights = [0u32; 1024];
+    let mut blocks = [0u16; 1024];
+    let mut aboves = [0u16; 1024];
+    let mut pins = [0u16; 8192];
+    let mut present = [0u16; 8192];
+    let mut firsts = [0u16; 1024];
+    let mut sizes = [0u16; 1024];
+    let mut standing = [0u16; 1024];
+    let mut counts = [0u16; 16384];
+    let mut gains = [0i32; 16384];
+    let mut visited = [0u16; 1024];
+    let n = io::read_full(0, &mut file);
+    // J,2,5  M,2,2  S  B  A
+    let list = [74u32, 2, 5, 77, 2, 2, 83, 0, 0, 66, 0, 0, 65, 0, 0];
+    let ran = kapokdrill_list(
+        &file[..n],
+        &list,
+        &mut output,
+        &mut weights,
+        &mut blocks,
+        &mut aboves,
+        &mut pins,
+        &mut present,
+        &mut firsts,
+        &mut sizes,
+        &mut standing,
+        &mut counts,
+        &mut gains,
+        &mut visited,
+    );
+    let written = ran.written;
+    io::write_all(1, &output[..written]);
+}
