@@ -21,7 +21,9 @@ add-own-sum : tie.Need-add-own-sum Inv-loop μ-loop
 add-own-sum c = omega (arith, c .before .before .before .before .before .before .before .before .pre .0 .vertices)
 
 own-sum-requires : tie.Need-own-sum-requires Inv-loop μ-loop
-own-sum-requires c κs = let s = c .before .before .before .before .before .before .before .before in own-ok (now (s .args .bits)) (now (s .args .pins)) (now (s .args .firsts)) (now (s .args .sizes)) (now (s .args .netWeights)) (now (s .args .blocks)) _ (s .args .m) (s .args .n) (s .pre .0) (omega arith) (omega arith)
+own-sum-requires c κs =
+    let s = c .before .before .before .before .before .before .before .before in
+    own-ok (now (s .args .bits)) (now (s .args .pins)) (now (s .args .firsts)) (now (s .args .sizes)) (now (s .args .netWeights)) (now (s .args .blocks)) _ (s .args .m) (s .args .n) (s .pre .0) (omega arith) (omega arith)
 
 add-bounds : tie.Need-add-bounds Inv-loop μ-loop
 add-bounds c = omega (arith, c .before .before .before .before .before .before .before .before .before .pre .0 .vertices)
@@ -39,10 +41,14 @@ loop-less : tie.Need-loop-less Inv-loop μ-loop
 loop-less c = omega arith
 
 loop-again : tie.Need-loop-again Inv-loop μ-loop
-loop-again c = let a = c .before .before .before .before .before .before .before .before .before .args in (omega arith, sums-more (now (a .bits)) (now (a .sizes)) (now (a .netWeights)) (a .m) (c .before .before .loop .bounds) (c .before .before .loop .i) _ (omega (arith, c .before .before .before .before .before .before .before .before .before .pre .0 .vertices)) (c .before .before .loop .inv .1) (c .own-sum .ensures))
+loop-again c =
+    let a = c .before .before .before .before .before .before .before .before .before .args in
+    (omega arith, sums-more (now (a .bits)) (now (a .sizes)) (now (a .netWeights)) (a .m) (c .before .before .loop .bounds) (c .before .before .loop .i) _ (omega (arith, c .before .before .before .before .before .before .before .before .before .pre .0 .vertices)) (c .before .before .loop .inv .1) (c .own-sum .ensures))
 
 returns : tie.Need-returns Inv-loop μ-loop
-returns c = let e : c .before .loop .i ≡ c .before .before .before .before .before .before .before .before .args .n = omega (arith, c .before .loop .inv .0) in subst (λ (k : ℕ). OwnSums (now (c .before .before .before .before .before .before .before .before .args .bits)) (now (c .before .before .before .before .before .before .before .before .args .sizes)) (now (c .before .before .before .before .before .before .before .before .args .netWeights)) (c .before .before .before .before .before .before .before .before .args .m) k (c .before .loop .bounds)) e (c .before .loop .inv .1)
+returns c =
+    let e : c .before .loop .i ≡ c .before .before .before .before .before .before .before .before .args .n = omega (arith, c .before .loop .inv .0) in
+    subst (λ (k : ℕ). OwnSums (now (c .before .before .before .before .before .before .before .before .args .bits)) (now (c .before .before .before .before .before .before .before .before .args .sizes)) (now (c .before .before .before .before .before .before .before .before .args .netWeights)) (c .before .before .before .before .before .before .before .before .args .m) k (c .before .loop .bounds)) e (c .before .loop .inv .1)
 
 pub begin-spec : {M : Type 1} → statement M
 begin-spec =

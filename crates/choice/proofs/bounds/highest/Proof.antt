@@ -44,10 +44,16 @@ loop-less : tie.Need-loop-less Inv-loop μ-loop
 loop-less c = omega arith
 
 loop-again : tie.Need-loop-again Inv-loop μ-loop
-loop-again c = let l = c .before .before .before .loop in let h = highest-more (now (c .before .before .before .before .before .args .bounds)) (l .i) _ _ _ _ _ (l .inv .0) (l .inv .2) (l .inv .3) refl (c .higher .ensures) in (omega arith, omega arith, h .0, h .1)
+loop-again c =
+    let l = c .before .before .before .loop in
+    let h = highest-more (now (c .before .before .before .before .before .args .bounds)) (l .i) _ _ _ _ _ (l .inv .0) (l .inv .2) (l .inv .3) refl (c .higher .ensures) in
+    (omega arith, omega arith, h .0, h .1)
 
 returns : tie.Need-returns Inv-loop μ-loop
-returns c = let l = c .before .loop in let e : l .i ≡ c .before .before .before .args .n = omega (arith, l .inv .1) in subst (λ (k : ℕ). Highest (now (c .before .before .before .args .bounds)) k (l .top .vertex)) e (l .inv .2)
+returns c =
+    let l = c .before .loop in
+    let e : l .i ≡ c .before .before .before .args .n = omega (arith, l .inv .1) in
+    subst (λ (k : ℕ). Highest (now (c .before .before .before .args .bounds)) k (l .top .vertex)) e (l .inv .2)
 
 pub highest-spec : {M : Type 1} → statement M
 highest-spec =

@@ -30,16 +30,23 @@ sub-next-net : tie.Need-sub-next-net Inv-loop μ-loop
 sub-next-net c = omega (arith, c .before .before .before .before .before .before .before .pre .1)
 
 next-net-requires : tie.Need-next-net-requires Inv-loop μ-loop
-next-net-requires c κs = let p = c .before .before .before .before .before .before .before .pre in (omega (arith, p .0 .rows, p .1), omega arith, p .0 .nets)
+next-net-requires c κs =
+    let p = c .before .before .before .before .before .before .before .pre in
+    (omega (arith, p .0 .rows, p .1), omega arith, p .0 .nets)
 
 loop-holds : tie.Need-loop-holds Inv-loop μ-loop
-loop-holds c = let s = c .before .before .before .before .before .before .before .before in let a = s .args in (c .next-net .ensures .high, c .next-net .ensures .found, nets-none (now (a .bits)) (now (a .pins)) (now (a .firsts)) (now (a .sizes)) (now (a .netWeights)) (now (a .blocks)) (a .m) (a .n) (a .u) (a .v) (s .pre .0) (now (a .bounds)) _ (s .pre .1 .0) (c .next-net .ensures))
+loop-holds c =
+    let s = c .before .before .before .before .before .before .before .before in
+    let a = s .args in
+    (c .next-net .ensures .high, c .next-net .ensures .found, nets-none (now (a .bits)) (now (a .pins)) (now (a .firsts)) (now (a .sizes)) (now (a .netWeights)) (now (a .blocks)) (a .m) (a .n) (a .u) (a .v) (s .pre .0) (now (a .bounds)) _ (s .pre .1 .0) (c .next-net .ensures))
 
 sub-is-pin : tie.Need-sub-is-pin Inv-loop μ-loop
 sub-is-pin c = omega (arith, c .before .before .before .before .before .before .before .before .before .before .pre .1)
 
 is-pin-requires : tie.Need-is-pin-requires Inv-loop μ-loop
-is-pin-requires c κs = let p = c .before .before .before .before .before .before .before .before .before .before .pre in (omega (arith, p .0 .rows, p .1), omega (arith, p .0 .nets))
+is-pin-requires c κs =
+    let p = c .before .before .before .before .before .before .before .before .before .before .pre in
+    (omega (arith, p .0 .rows, p .1), omega (arith, p .0 .nets))
 
 mul-rise : tie.Need-mul-rise Inv-loop μ-loop
 mul-rise c = omega (arith, c .before .before .before .before .before .before .before .before .before .before .before .pre .0 .nets)
@@ -75,7 +82,10 @@ wide-requires-2 : tie.Need-wide-requires-2 Inv-loop μ-loop
 wide-requires-2 c κs = search needs
 
 lift-net-requires : tie.Need-lift-net-requires Inv-loop μ-loop
-lift-net-requires c κs = let s = c .before .before .before .before .before .before .before .before .before .before .before .before .before .before .before .before .before .before .before in let a = s .args in (nets-take (now (a .bits)) (now (a .pins)) (now (a .firsts)) (now (a .sizes)) (now (a .netWeights)) (now (a .blocks)) (a .m) (a .n) (a .u) (a .v) (s .pre .0) _ (c .before .before .before .before .before .before .before .before .before .before .loop .e) _ _ (omega arith) (c .before .before .before .before .before .before .before .before .before .before .loop .inv .2 .len) (c .before .before .wide .ensures) (c .wide2 .ensures), c .before .before .before .before .before .rise .ensures .1)
+lift-net-requires c κs =
+    let s = c .before .before .before .before .before .before .before .before .before .before .before .before .before .before .before .before .before .before .before in
+    let a = s .args in
+    (nets-take (now (a .bits)) (now (a .pins)) (now (a .firsts)) (now (a .sizes)) (now (a .netWeights)) (now (a .blocks)) (a .m) (a .n) (a .u) (a .v) (s .pre .0) _ (c .before .before .before .before .before .before .before .before .before .before .loop .e) _ _ (omega arith) (c .before .before .before .before .before .before .before .before .before .before .loop .inv .2 .len) (c .before .before .wide .ensures) (c .wide2 .ensures), c .before .before .before .before .before .rise .ensures .1)
 
 sub-next-net-2 : tie.Need-sub-next-net-2 Inv-loop μ-loop
 sub-next-net-2 c = omega (arith, c .before .before .before .before .before .before .before .before .before .before .before .before .before .before .before .before .before .before .before .before .pre .1)
@@ -84,13 +94,19 @@ add-next-net : tie.Need-add-next-net Inv-loop μ-loop
 add-next-net c = omega (arith, c .before .before .before .before .before .before .before .before .before .before .before .before .before .before .before .before .before .before .before .before .pre .0 .nets)
 
 next-net-requires-2 : tie.Need-next-net-requires-2 Inv-loop μ-loop
-next-net-requires-2 c κs = let p = c .before .before .before .before .before .before .before .before .before .before .before .before .before .before .before .before .before .before .before .before .pre in (omega (arith, p .0 .rows, p .1), omega arith, p .0 .nets)
+next-net-requires-2 c κs =
+    let p = c .before .before .before .before .before .before .before .before .before .before .before .before .before .before .before .before .before .before .before .before .pre in
+    (omega (arith, p .0 .rows, p .1), omega arith, p .0 .nets)
 
 loop-less : tie.Need-loop-less Inv-loop μ-loop
 loop-less c = omega (arith, c .next-net2 .ensures .low, c .next-net2 .ensures .high)
 
 loop-again : tie.Need-loop-again Inv-loop μ-loop
-loop-again c = let s = c .before .before .before .before .before .before .before .before .before .before .before .before .before .before .before .before .before .before .before .before .before in let a = s .args in let l = c .before .before .before .before .before .before .before .before .before .before .before .before .loop in (c .next-net2 .ensures .high, c .next-net2 .ensures .found, nets-more (now (a .bits)) (now (a .pins)) (now (a .firsts)) (now (a .sizes)) (now (a .netWeights)) (now (a .blocks)) (a .m) (a .n) (a .u) (a .v) (s .pre .0) (now (a .bounds)) (l .bounds) _ (l .e) _ _ _ _ _ (c .before .before .before .before .before .before .before .before .before .before .is-pin .result) (l .inv .2) (l .inv .1 (omega arith)) (c .before .before .before .before .wide .ensures) (c .before .before .wide2 .ensures) (c .before .before .before .before .before .before .before .before .before .before .is-pin .ensures) (c .before .before .before .before .before .before .before .rise .ensures .0 .0) (c .before .before .before .before .before .before .before .rise .ensures .0 .1) (c .before .lift-net .ensures) (c .next-net2 .ensures))
+loop-again c =
+    let s = c .before .before .before .before .before .before .before .before .before .before .before .before .before .before .before .before .before .before .before .before .before in
+    let a = s .args in
+    let l = c .before .before .before .before .before .before .before .before .before .before .before .before .loop in
+    (c .next-net2 .ensures .high, c .next-net2 .ensures .found, nets-more (now (a .bits)) (now (a .pins)) (now (a .firsts)) (now (a .sizes)) (now (a .netWeights)) (now (a .blocks)) (a .m) (a .n) (a .u) (a .v) (s .pre .0) (now (a .bounds)) (l .bounds) _ (l .e) _ _ _ _ _ (c .before .before .before .before .before .before .before .before .before .before .is-pin .result) (l .inv .2) (l .inv .1 (omega arith)) (c .before .before .before .before .wide .ensures) (c .before .before .wide2 .ensures) (c .before .before .before .before .before .before .before .before .before .before .is-pin .ensures) (c .before .before .before .before .before .before .before .rise .ensures .0 .0) (c .before .before .before .before .before .before .before .rise .ensures .0 .1) (c .before .lift-net .ensures) (c .next-net2 .ensures))
 
 mul-bounds : tie.Need-mul-bounds Inv-loop μ-loop
 mul-bounds c = omega (arith, c .before .before .before .before .before .before .before .before .before .before .pre .0 .vertices, c .before .before .before .before .before .before .before .before .before .before .pre .1)
@@ -105,7 +121,12 @@ element-write-bounds-2 : tie.Need-element-write-bounds-2 Inv-loop μ-loop
 element-write-bounds-2 c = omega (arith, c .before .before .before .before .before .before .before .before .before .before .pre .0 .vertices, c .before .before .before .before .before .before .before .before .before .before .pre .1, c .before .loop .inv .2 .len, length-set (c .before .loop .bounds) (c .before .before .before .before .before .before .before .before .before .before .args .v) 0)
 
 returns : tie.Need-returns Inv-loop μ-loop
-returns c = let s = c .before .before .before .before .before .before .before .before .before .before in let a = s .args in let l = c .before .loop in let e : l .e ≡ a .m = omega (arith, l .inv .0) in lifted (now (a .bounds)) (l .bounds) _ (a .u) (a .v) (subst (λ (k : ℕ). Risen (now (a .bounds)) (l .bounds) (riseOf (now (a .bits)) (now (a .pins)) (now (a .firsts)) (now (a .sizes)) (now (a .netWeights)) (now (a .blocks)) k (a .u) (a .v))) e (l .inv .2)) (omega (arith, s .pre .0 .vertices, s .pre .1))
+returns c =
+    let s = c .before .before .before .before .before .before .before .before .before .before in
+    let a = s .args in
+    let l = c .before .loop in
+    let e : l .e ≡ a .m = omega (arith, l .inv .0) in
+    lifted (now (a .bounds)) (l .bounds) _ (a .u) (a .v) (subst (λ (k : ℕ). Risen (now (a .bounds)) (l .bounds) (riseOf (now (a .bits)) (now (a .pins)) (now (a .firsts)) (now (a .sizes)) (now (a .netWeights)) (now (a .blocks)) k (a .u) (a .v))) e (l .inv .2)) (omega (arith, s .pre .0 .vertices, s .pre .1))
 
 pub lift-spec : {M : Type 1} → statement M
 lift-spec =

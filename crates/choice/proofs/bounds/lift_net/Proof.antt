@@ -17,7 +17,9 @@ abbrev μ-loop : tie.MeasureT-loop
 μ-loop bounds₀ pins blocks u own first n near far i₀ bounds i = n - i
 
 loop-holds : tie.Need-loop-holds Inv-loop μ-loop
-loop-holds c = let a = c .before .before .args in (omega arith, lift-none (now (a .pins)) (a .first) (riseAt (now (a .blocks)) (a .u) (a .own) (a .near) (a .far)) (now (a .bounds)) (c .before .before .pre .0 .full))
+loop-holds c =
+    let a = c .before .before .args in
+    (omega arith, lift-none (now (a .pins)) (a .first) (riseAt (now (a .blocks)) (a .u) (a .own) (a .near) (a .far)) (now (a .bounds)) (c .before .before .pre .0 .full))
 
 add-wide : tie.Need-add-wide Inv-loop μ-loop
 add-wide c = omega (arith, c .before .before .before .before .pre .0 .stretch)
@@ -41,7 +43,9 @@ share-requires : tie.Need-share-requires Inv-loop μ-loop
 share-requires c κs = omega (arith, c .before .wide .ensures, c .before .before .before .before .before .before .before .pre .0 .pin (c .before .before .before .before .loop .i) (omega arith))
 
 raised-requires : tie.Need-raised-requires Inv-loop μ-loop
-raised-requires c κs = let a = c .before .before .before .before .before .before .before .before .args in share-small (now (a .blocks)) (a .u) (a .own) (a .near) (a .far) (c .before .before .wide .result) (c .share .result) (c .before .before .before .before .before .before .before .before .pre .1 .0) (c .before .before .before .before .before .before .before .before .pre .1 .1) (c .share .ensures)
+raised-requires c κs =
+    let a = c .before .before .before .before .before .before .before .before .args in
+    share-small (now (a .blocks)) (a .u) (a .own) (a .near) (a .far) (c .before .before .wide .result) (c .share .result) (c .before .before .before .before .before .before .before .before .pre .1 .0) (c .before .before .before .before .before .before .before .before .pre .1 .1) (c .share .ensures)
 
 mul-bounds : tie.Need-mul-bounds Inv-loop μ-loop
 mul-bounds c = omega (arith, c .before .before .before .wide .ensures, c .before .before .before .before .before .before .before .before .before .pre .0 .pin (c .before .before .before .before .before .before .loop .i) (omega arith))
@@ -56,10 +60,16 @@ loop-less : tie.Need-loop-less Inv-loop μ-loop
 loop-less c = omega arith
 
 loop-again : tie.Need-loop-again Inv-loop μ-loop
-loop-again c = let a = c .before .before .before .before .before .before .before .before .before .args in let l = c .before .before .before .before .before .before .loop in (omega arith, lift-more (now (a .pins)) (a .first) (riseAt (now (a .blocks)) (a .u) (a .own) (a .near) (a .far)) (now (a .bounds)) (l .bounds) (l .i) (c .before .before .before .wide .result) (c .before .share .result) _ (l .inv .1) (c .before .before .before .wide .ensures) (omega (arith, c .before .before .before .wide .ensures, c .before .before .before .before .before .before .before .before .before .pre .0 .pin (l .i) (omega arith))) (c .before .share .ensures) (c .raised .ensures))
+loop-again c =
+    let a = c .before .before .before .before .before .before .before .before .before .args in
+    let l = c .before .before .before .before .before .before .loop in
+    (omega arith, lift-more (now (a .pins)) (a .first) (riseAt (now (a .blocks)) (a .u) (a .own) (a .near) (a .far)) (now (a .bounds)) (l .bounds) (l .i) (c .before .before .before .wide .result) (c .before .share .result) _ (l .inv .1) (c .before .before .before .wide .ensures) (omega (arith, c .before .before .before .wide .ensures, c .before .before .before .before .before .before .before .before .before .pre .0 .pin (l .i) (omega arith))) (c .before .share .ensures) (c .raised .ensures))
 
 returns : tie.Need-returns Inv-loop μ-loop
-returns c = let a = c .before .before .before .before .args in let e : c .before .loop .i ≡ a .n = omega (arith, c .before .loop .inv .0) in subst (λ (k : ℕ). Risen (now (a .bounds)) (c .before .loop .bounds) (λ z. occ (now (a .pins)) (a .first) k z * riseAt (now (a .blocks)) (a .u) (a .own) (a .near) (a .far) z)) e (c .before .loop .inv .1)
+returns c =
+    let a = c .before .before .before .before .args in
+    let e : c .before .loop .i ≡ a .n = omega (arith, c .before .loop .inv .0) in
+    subst (λ (k : ℕ). Risen (now (a .bounds)) (c .before .loop .bounds) (λ z. occ (now (a .pins)) (a .first) k z * riseAt (now (a .blocks)) (a .u) (a .own) (a .near) (a .far) z)) e (c .before .loop .inv .1)
 
 pub lift-net-spec : {M : Type 1} → statement M
 lift-net-spec =

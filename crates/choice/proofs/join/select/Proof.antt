@@ -24,7 +24,9 @@ mul-own : tie.Need-mul-own Inv-loop μ-loop
 mul-own c = omega (arith, c .before .before .before .before .before .before .pre .1, c .before .before .before .before .before .before .pre .0 .vertices)
 
 shared-slice-read-own : tie.Need-shared-slice-read-own Inv-loop μ-loop
-shared-slice-read-own c = let p = c .before .before .before .before .before .before .before .pre in omega (arith, p .0 .in-blocks, p .1)
+shared-slice-read-own c =
+    let p = c .before .before .before .before .before .before .before .pre in
+    omega (arith, p .0 .in-blocks, p .1)
 
 sub-wide32 : tie.Need-sub-wide32 Inv-loop μ-loop
 sub-wide32 c = omega (arith, c .before .before .before .before .before .before .before .pre .1)
@@ -33,7 +35,9 @@ mul-wide32 : tie.Need-mul-wide32 Inv-loop μ-loop
 mul-wide32 c = omega (arith, c .before .before .before .before .before .before .before .pre .1, c .before .before .before .before .before .before .before .pre .0 .vertices)
 
 shared-slice-read-wide32 : tie.Need-shared-slice-read-wide32 Inv-loop μ-loop
-shared-slice-read-wide32 c = let p = c .before .before .before .before .before .before .before .before .pre in omega (arith, p .0 .in-weights, p .1)
+shared-slice-read-wide32 c =
+    let p = c .before .before .before .before .before .before .before .before .pre in
+    omega (arith, p .0 .in-weights, p .1)
 
 wide32-requires : tie.Need-wide32-requires Inv-loop μ-loop
 wide32-requires c κs = search needs
@@ -42,10 +46,15 @@ sub-next-net : tie.Need-sub-next-net Inv-loop μ-loop
 sub-next-net c = omega (arith, c .before .before .before .before .before .before .before .before .before .pre .1)
 
 next-net-requires : tie.Need-next-net-requires Inv-loop μ-loop
-next-net-requires c κs = let p = c .before .before .before .before .before .before .before .before .before .pre in (omega (arith, p .0 .rows, p .1), omega arith, p .0 .nets)
+next-net-requires c κs =
+    let p = c .before .before .before .before .before .before .before .before .before .pre in
+    (omega (arith, p .0 .rows, p .1), omega arith, p .0 .nets)
 
 loop-holds : tie.Need-loop-holds Inv-loop μ-loop
-loop-holds c = let a = c .before .before .before .before .before .before .before .before .before .before .args in let p = c .before .before .before .before .before .before .before .before .before .before .pre in (c .next-net .ensures .high, c .next-net .ensures .found, met-none (now (a .bits)) (now (a .pins)) (now (a .firsts)) (now (a .sizes)) (now (a .blocks)) (now (a .weights)) (a .u) (a .m) (a .n) (p .0) (now (a .acc)) _ (p .1 .0) (c .next-net .ensures), λ raw h. h)
+loop-holds c =
+    let a = c .before .before .before .before .before .before .before .before .before .before .args in
+    let p = c .before .before .before .before .before .before .before .before .before .before .pre in
+    (c .next-net .ensures .high, c .next-net .ensures .found, met-none (now (a .bits)) (now (a .pins)) (now (a .firsts)) (now (a .sizes)) (now (a .blocks)) (now (a .weights)) (a .u) (a .m) (a .n) (p .0) (now (a .acc)) _ (p .1 .0) (c .next-net .ensures), λ raw h. h)
 
 mul-wide : tie.Need-mul-wide Inv-loop μ-loop
 mul-wide c = omega (arith, c .before .before .before .before .before .before .before .before .before .before .before .before .before .pre .0 .nets)
@@ -66,7 +75,11 @@ wide-requires-2 : tie.Need-wide-requires-2 Inv-loop μ-loop
 wide-requires-2 c κs = search needs
 
 take-net-requires : tie.Need-take-net-requires Inv-loop μ-loop
-take-net-requires c κs = let a = c .before .before .before .before .before .before .before .before .before .before .before .before .before .before .before .before .before .args in let p = c .before .before .before .before .before .before .before .before .before .before .before .before .before .before .before .before .before .pre in let l = c .before .before .before .before .before .before .loop in met-stretch (now (a .bits)) (now (a .pins)) (now (a .firsts)) (now (a .sizes)) (now (a .blocks)) (now (a .weights)) (a .u) (a .m) (a .n) (p .0) _ (l .e) _ _ (omega arith) (l .inv .2 .len) (c .before .before .wide .ensures) (c .wide2 .ensures)
+take-net-requires c κs =
+    let a = c .before .before .before .before .before .before .before .before .before .before .before .before .before .before .before .before .before .args in
+    let p = c .before .before .before .before .before .before .before .before .before .before .before .before .before .before .before .before .before .pre in
+    let l = c .before .before .before .before .before .before .loop in
+    met-stretch (now (a .bits)) (now (a .pins)) (now (a .firsts)) (now (a .sizes)) (now (a .blocks)) (now (a .weights)) (a .u) (a .m) (a .n) (p .0) _ (l .e) _ _ (omega arith) (l .inv .2 .len) (c .before .before .wide .ensures) (c .wide2 .ensures)
 
 sub-next-net-2 : tie.Need-sub-next-net-2 Inv-loop μ-loop
 sub-next-net-2 c = omega (arith, c .before .before .before .before .before .before .before .before .before .before .before .before .before .before .before .before .before .before .pre .1)
@@ -75,16 +88,25 @@ add-next-net : tie.Need-add-next-net Inv-loop μ-loop
 add-next-net c = omega (arith, c .before .before .before .before .before .before .before .before .before .before .before .before .before .before .before .before .before .before .pre .0 .nets)
 
 next-net-requires-2 : tie.Need-next-net-requires-2 Inv-loop μ-loop
-next-net-requires-2 c κs = let p = c .before .before .before .before .before .before .before .before .before .before .before .before .before .before .before .before .before .before .pre in (omega (arith, p .0 .rows, p .1), omega arith, p .0 .nets)
+next-net-requires-2 c κs =
+    let p = c .before .before .before .before .before .before .before .before .before .before .before .before .before .before .before .before .before .before .pre in
+    (omega (arith, p .0 .rows, p .1), omega arith, p .0 .nets)
 
 loop-less : tie.Need-loop-less Inv-loop μ-loop
 loop-less c = omega (arith, c .next-net2 .ensures .low, c .next-net2 .ensures .high)
 
 loop-again : tie.Need-loop-again Inv-loop μ-loop
-loop-again c = let a = c .before .before .before .before .before .before .before .before .before .before .before .before .before .before .before .before .before .before .before .args in let p = c .before .before .before .before .before .before .before .before .before .before .before .before .before .before .before .before .before .before .before .pre in let l = c .before .before .before .before .before .before .before .before .loop in (c .next-net2 .ensures .high, c .next-net2 .ensures .found, met-more (now (a .bits)) (now (a .pins)) (now (a .firsts)) (now (a .sizes)) (now (a .blocks)) (now (a .weights)) (a .u) (a .m) (a .n) (p .0) (now (a .acc)) (l .acc) _ (l .e) _ _ _ (l .inv .2) (l .inv .1 (omega arith)) (c .before .before .before .before .wide .ensures) (c .before .before .wide2 .ensures) (c .before .take-net .ensures .0) (c .next-net2 .ensures), λ raw h. c .before .take-net .ensures .1 raw (l .inv .3 raw h))
+loop-again c =
+    let a = c .before .before .before .before .before .before .before .before .before .before .before .before .before .before .before .before .before .before .before .args in
+    let p = c .before .before .before .before .before .before .before .before .before .before .before .before .before .before .before .before .before .before .before .pre in
+    let l = c .before .before .before .before .before .before .before .before .loop in
+    (c .next-net2 .ensures .high, c .next-net2 .ensures .found, met-more (now (a .bits)) (now (a .pins)) (now (a .firsts)) (now (a .sizes)) (now (a .blocks)) (now (a .weights)) (a .u) (a .m) (a .n) (p .0) (now (a .acc)) (l .acc) _ (l .e) _ _ _ (l .inv .2) (l .inv .1 (omega arith)) (c .before .before .before .before .wide .ensures) (c .before .before .wide2 .ensures) (c .before .take-net .ensures .0) (c .next-net2 .ensures), λ raw h. c .before .take-net .ensures .1 raw (l .inv .3 raw h))
 
 returns : tie.Need-returns Inv-loop μ-loop
-returns c = let a = c .before .before .before .before .before .before .before .before .before .before .before .before .args in let e : c .before .loop .e ≡ a .m = omega (arith, c .before .loop .inv .0) in (subst (λ (k : ℕ). Swept (now (a .acc)) (c .before .loop .acc) (metOf (now (a .bits)) (now (a .pins)) (now (a .firsts)) (now (a .sizes)) (a .u) k)) e (c .before .loop .inv .2), subst (λ (k : ℕ). Weighed (fits (now (a .blocks)) (now (a .weights)) (a .u) (getD (now (a .blocks)) (a .u - 1) 0) k (a .limit)) (now (a .acc)) (c .before .loop .acc) nobody (c .before .loop .best)) (c .before .before .before .wide32 .ensures) (c .before .loop .inv .3))
+returns c =
+    let a = c .before .before .before .before .before .before .before .before .before .before .before .before .args in
+    let e : c .before .loop .e ≡ a .m = omega (arith, c .before .loop .inv .0) in
+    (subst (λ (k : ℕ). Swept (now (a .acc)) (c .before .loop .acc) (metOf (now (a .bits)) (now (a .pins)) (now (a .firsts)) (now (a .sizes)) (a .u) k)) e (c .before .loop .inv .2), subst (λ (k : ℕ). Weighed (fits (now (a .blocks)) (now (a .weights)) (a .u) (getD (now (a .blocks)) (a .u - 1) 0) k (a .limit)) (now (a .acc)) (c .before .loop .acc) nobody (c .before .loop .best)) (c .before .before .before .wide32 .ensures) (c .before .loop .inv .3))
 
 pub select-spec : {M : Type 1} → statement M
 select-spec =

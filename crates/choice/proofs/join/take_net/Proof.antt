@@ -32,7 +32,12 @@ wide-requires : tie.Need-wide-requires Inv-loop μ-loop
 wide-requires c κs = search needs
 
 take-pin-requires : tie.Need-take-pin-requires Inv-loop μ-loop
-take-pin-requires c κs = let l = c .before .before .before .before .loop in let p = c .before .before .before .before .before .before .before .before .pre in let q = p .0 .pin (l .i) (omega arith) in let w = p .1 .pin (l .i) (omega arith) in (l .inv .1 .len, omega (arith, c .wide .ensures, q), omega (arith, c .wide .ensures, q), omega (arith, c .wide .ensures, q), omega (arith, c .wide .ensures, w))
+take-pin-requires c κs =
+    let l = c .before .before .before .before .loop in
+    let p = c .before .before .before .before .before .before .before .before .pre in
+    let q = p .0 .pin (l .i) (omega arith) in
+    let w = p .1 .pin (l .i) (omega arith) in
+    (l .inv .1 .len, omega (arith, c .wide .ensures, q), omega (arith, c .wide .ensures, q), omega (arith, c .wide .ensures, q), omega (arith, c .wide .ensures, w))
 
 add-i : tie.Need-add-i Inv-loop μ-loop
 add-i c = omega arith
@@ -41,10 +46,16 @@ loop-less : tie.Need-loop-less Inv-loop μ-loop
 loop-less c = omega arith
 
 loop-again : tie.Need-loop-again Inv-loop μ-loop
-loop-again c = let a = c .before .before .before .before .before .before .before .before .before .args in let l = c .before .before .before .before .before .loop in (omega arith, sweep-more _ (l .acc) _ (now (a .pins)) (a .first) (l .i) _ (l .inv .1) (c .before .wide .ensures) (c .take-pin .ensures .0), λ raw h. c .take-pin .ensures .1 raw (l .inv .2 raw h))
+loop-again c =
+    let a = c .before .before .before .before .before .before .before .before .before .args in
+    let l = c .before .before .before .before .before .loop in
+    (omega arith, sweep-more _ (l .acc) _ (now (a .pins)) (a .first) (l .i) _ (l .inv .1) (c .before .wide .ensures) (c .take-pin .ensures .0), λ raw h. c .take-pin .ensures .1 raw (l .inv .2 raw h))
 
 returns : tie.Need-returns Inv-loop μ-loop
-returns c = let a = c .before .before .before .before .before .args in let e : c .before .loop .i ≡ a .n = omega arith in (subst (λ (k : ℕ). Swept (now (a .acc)) (c .before .loop .acc) (occ (now (a .pins)) (a .first) k)) e (c .before .loop .inv .1), c .before .loop .inv .2)
+returns c =
+    let a = c .before .before .before .before .before .args in
+    let e : c .before .loop .i ≡ a .n = omega arith in
+    (subst (λ (k : ℕ). Swept (now (a .acc)) (c .before .loop .acc) (occ (now (a .pins)) (a .first) k)) e (c .before .loop .inv .1), c .before .loop .inv .2)
 
 pub take-net-spec : {M : Type 1} → statement M
 take-net-spec =

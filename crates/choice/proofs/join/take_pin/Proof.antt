@@ -21,7 +21,10 @@ element-write-acc : tie.Need-element-write-acc
 element-write-acc c = search needs
 
 returns : tie.Need-returns
-returns c = let a = c .before .before .before .before .args in let p = c .before .before .before .before .pre in (swept-set (now (a .acc)) (a .y) (p .0) (p .2), weighed-low (fits (now (a .blocks)) (now (a .weights)) (a .u) (a .own) (a .a) (a .limit)) (now (a .acc)) (a .y) (a .best) (p .0) (p .2) (omega (arith, c .if1 .taken)))
+returns c =
+    let a = c .before .before .before .before .args in
+    let p = c .before .before .before .before .pre in
+    (swept-set (now (a .acc)) (a .y) (p .0) (p .2), weighed-low (fits (now (a .blocks)) (now (a .weights)) (a .u) (a .own) (a .a) (a .limit)) (now (a .acc)) (a .y) (a .best) (p .0) (p .2) (omega (arith, c .if1 .taken)))
 
 may-join-requires : tie.Need-may-join-requires
 may-join-requires c κs = search needs
@@ -30,10 +33,16 @@ choose-requires : tie.Need-choose-requires
 choose-requires c κs = search needs
 
 returns-2 : tie.Need-returns-2
-returns-2 c = let a = c .before .before .before .before .before .before .before .args in let p = c .before .before .before .before .before .before .before .pre in (swept-set (now (a .acc)) (a .y) (p .0) (p .2), weighed-fit (fits (now (a .blocks)) (now (a .weights)) (a .u) (a .own) (a .a) (a .limit)) (now (a .acc)) (a .y) (a .best) (p .0) (p .2) _ (sym (c .before .before .may-join .ensures) ∙ c .before .if2 .taken) (c .choose .ensures))
+returns-2 c =
+    let a = c .before .before .before .before .before .before .before .args in
+    let p = c .before .before .before .before .before .before .before .pre in
+    (swept-set (now (a .acc)) (a .y) (p .0) (p .2), weighed-fit (fits (now (a .blocks)) (now (a .weights)) (a .u) (a .own) (a .a) (a .limit)) (now (a .acc)) (a .y) (a .best) (p .0) (p .2) _ (sym (c .before .before .may-join .ensures) ∙ c .before .if2 .taken) (c .choose .ensures))
 
 returns-3 : tie.Need-returns-3
-returns-3 c = let a = c .before .before .before .before .before .before .args in let p = c .before .before .before .before .before .before .pre in (swept-set (now (a .acc)) (a .y) (p .0) (p .2), weighed-unfit (fits (now (a .blocks)) (now (a .weights)) (a .u) (a .own) (a .a) (a .limit)) (now (a .acc)) (a .y) (a .best) (p .0) (p .2) (sym (c .before .may-join .ensures) ∙ c .if2 .left))
+returns-3 c =
+    let a = c .before .before .before .before .before .before .args in
+    let p = c .before .before .before .before .before .before .pre in
+    (swept-set (now (a .acc)) (a .y) (p .0) (p .2), weighed-unfit (fits (now (a .blocks)) (now (a .weights)) (a .u) (a .own) (a .a) (a .limit)) (now (a .acc)) (a .y) (a .best) (p .0) (p .2) (sym (c .before .may-join .ensures) ∙ c .if2 .left))
 
 pub take-pin-spec : {M : Type 1} → statement M
 take-pin-spec =

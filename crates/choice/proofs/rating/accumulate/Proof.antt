@@ -20,10 +20,15 @@ sub-next-net : tie.Need-sub-next-net Inv-loop μ-loop
 sub-next-net c = omega (arith, c .before .before .before .before .before .pre .1)
 
 next-net-requires : tie.Need-next-net-requires Inv-loop μ-loop
-next-net-requires c κs = let p = c .before .before .before .before .before .pre in (omega (arith, p .0 .rows, p .1), omega arith, p .0 .nets)
+next-net-requires c κs =
+    let p = c .before .before .before .before .before .pre in
+    (omega (arith, p .0 .rows, p .1), omega arith, p .0 .nets)
 
 loop-holds : tie.Need-loop-holds Inv-loop μ-loop
-loop-holds c = let a = c .before .before .before .before .before .before .args in let p = c .before .before .before .before .before .before .pre in (c .next-net .ensures .high, c .next-net .ensures .found, row-none (now (a .bits)) (now (a .pins)) (now (a .firsts)) (now (a .sizes)) (now (a .netWeights)) (a .u) (a .m) (a .n) (p .0) (now (a .acc)) _ (p .1 .0) (c .next-net .ensures))
+loop-holds c =
+    let a = c .before .before .before .before .before .before .args in
+    let p = c .before .before .before .before .before .before .pre in
+    (c .next-net .ensures .high, c .next-net .ensures .found, row-none (now (a .bits)) (now (a .pins)) (now (a .firsts)) (now (a .sizes)) (now (a .netWeights)) (a .u) (a .m) (a .n) (p .0) (now (a .acc)) _ (p .1 .0) (c .next-net .ensures))
 
 mul-wide : tie.Need-mul-wide Inv-loop μ-loop
 mul-wide c = omega (arith, c .before .before .before .before .before .before .before .before .before .pre .0 .nets)
@@ -59,7 +64,11 @@ term-requires : tie.Need-term-requires Inv-loop μ-loop
 term-requires c κs = search needs
 
 add-net-requires : tie.Need-add-net-requires Inv-loop μ-loop
-add-net-requires c κs = let a = c .before .before .before .before .before .before .before .before .before .before .before .before .before .before .before .before .args in let p = c .before .before .before .before .before .before .before .before .before .before .before .before .before .before .before .before .pre in let l = c .before .before .before .before .before .before .before .before .before .loop in (row-stretch (now (a .bits)) (now (a .pins)) (now (a .firsts)) (now (a .sizes)) (now (a .netWeights)) (a .u) (a .m) (a .n) (p .0) (now (a .acc)) (l .acc) (l .e) _ _ (p .1 .0) (omega arith) (l .inv .2) (c .before .before .before .before .before .wide .ensures) (c .before .before .before .wide2 .ensures), c .term .ensures .1)
+add-net-requires c κs =
+    let a = c .before .before .before .before .before .before .before .before .before .before .before .before .before .before .before .before .args in
+    let p = c .before .before .before .before .before .before .before .before .before .before .before .before .before .before .before .before .pre in
+    let l = c .before .before .before .before .before .before .before .before .before .loop in
+    (row-stretch (now (a .bits)) (now (a .pins)) (now (a .firsts)) (now (a .sizes)) (now (a .netWeights)) (a .u) (a .m) (a .n) (p .0) (now (a .acc)) (l .acc) (l .e) _ _ (p .1 .0) (omega arith) (l .inv .2) (c .before .before .before .before .before .wide .ensures) (c .before .before .before .wide2 .ensures), c .term .ensures .1)
 
 sub-next-net-2 : tie.Need-sub-next-net-2 Inv-loop μ-loop
 sub-next-net-2 c = omega (arith, c .before .before .before .before .before .before .before .before .before .before .before .before .before .before .before .before .before .pre .1)
@@ -68,16 +77,25 @@ add-next-net : tie.Need-add-next-net Inv-loop μ-loop
 add-next-net c = omega (arith, c .before .before .before .before .before .before .before .before .before .before .before .before .before .before .before .before .before .pre .0 .nets)
 
 next-net-requires-2 : tie.Need-next-net-requires-2 Inv-loop μ-loop
-next-net-requires-2 c κs = let p = c .before .before .before .before .before .before .before .before .before .before .before .before .before .before .before .before .before .pre in (omega (arith, p .0 .rows, p .1), omega arith, p .0 .nets)
+next-net-requires-2 c κs =
+    let p = c .before .before .before .before .before .before .before .before .before .before .before .before .before .before .before .before .before .pre in
+    (omega (arith, p .0 .rows, p .1), omega arith, p .0 .nets)
 
 loop-less : tie.Need-loop-less Inv-loop μ-loop
 loop-less c = omega (arith, c .next-net2 .ensures .low, c .next-net2 .ensures .high)
 
 loop-again : tie.Need-loop-again Inv-loop μ-loop
-loop-again c = let a = c .before .before .before .before .before .before .before .before .before .before .before .before .before .before .before .before .before .before .args in let p = c .before .before .before .before .before .before .before .before .before .before .before .before .before .before .before .before .before .before .pre in let l = c .before .before .before .before .before .before .before .before .before .before .before .loop in (c .next-net2 .ensures .high, c .next-net2 .ensures .found, row-more (now (a .bits)) (now (a .pins)) (now (a .firsts)) (now (a .sizes)) (now (a .netWeights)) (a .u) (a .m) (a .n) (p .0) (now (a .acc)) (l .acc) _ (l .e) _ _ _ _ (l .inv .2) (l .inv .1 (omega arith)) (c .before .before .before .before .before .before .before .wide .ensures) (c .before .before .before .before .before .wide2 .ensures) (c .before .before .term .ensures .0) (c .before .add-net .ensures) (c .next-net2 .ensures))
+loop-again c =
+    let a = c .before .before .before .before .before .before .before .before .before .before .before .before .before .before .before .before .before .before .args in
+    let p = c .before .before .before .before .before .before .before .before .before .before .before .before .before .before .before .before .before .before .pre in
+    let l = c .before .before .before .before .before .before .before .before .before .before .before .loop in
+    (c .next-net2 .ensures .high, c .next-net2 .ensures .found, row-more (now (a .bits)) (now (a .pins)) (now (a .firsts)) (now (a .sizes)) (now (a .netWeights)) (a .u) (a .m) (a .n) (p .0) (now (a .acc)) (l .acc) _ (l .e) _ _ _ _ (l .inv .2) (l .inv .1 (omega arith)) (c .before .before .before .before .before .before .before .wide .ensures) (c .before .before .before .before .before .wide2 .ensures) (c .before .before .term .ensures .0) (c .before .add-net .ensures) (c .next-net2 .ensures))
 
 returns : tie.Need-returns Inv-loop μ-loop
-returns c = let a = c .before .before .before .before .before .before .before .before .args in let e : c .before .loop .e ≡ a .m = omega (arith, c .before .loop .inv .0) in subst (λ (k : ℕ). Raised (now (a .acc)) (c .before .loop .acc) (rowOf (now (a .bits)) (now (a .pins)) (now (a .firsts)) (now (a .sizes)) (now (a .netWeights)) (a .u) k)) e (c .before .loop .inv .2)
+returns c =
+    let a = c .before .before .before .before .before .before .before .before .args in
+    let e : c .before .loop .e ≡ a .m = omega (arith, c .before .loop .inv .0) in
+    subst (λ (k : ℕ). Raised (now (a .acc)) (c .before .loop .acc) (rowOf (now (a .bits)) (now (a .pins)) (now (a .firsts)) (now (a .sizes)) (now (a .netWeights)) (a .u) k)) e (c .before .loop .inv .2)
 
 pub accumulate-spec : {M : Type 1} → statement M
 accumulate-spec =

@@ -17,7 +17,10 @@ abbrev μ-loop : tie.MeasureT-loop
 μ-loop acc₀ pins first n t i₀ acc i = n - i
 
 loop-holds : tie.Need-loop-holds Inv-loop μ-loop
-loop-holds c = let a = c .before .args in let p = c .before .pre in (omega arith, net-none (now (a .acc)) (now (a .pins)) (a .first) (a .n) (a .t) (p .0) (p .1))
+loop-holds c =
+    let a = c .before .args in
+    let p = c .before .pre in
+    (omega arith, net-none (now (a .acc)) (now (a .pins)) (a .first) (a .n) (a .t) (p .0) (p .1))
 
 add-wide : tie.Need-add-wide Inv-loop μ-loop
 add-wide c = omega (arith, c .before .before .before .pre .0 .stretch)
@@ -35,16 +38,28 @@ mul-acc : tie.Need-mul-acc Inv-loop μ-loop
 mul-acc c = omega (arith, c .wide .ensures, c .before .before .before .before .before .pre .0 .pin (c .before .before .before .loop .i) (omega arith))
 
 element-copy-out-acc : tie.Need-element-copy-out-acc Inv-loop μ-loop
-element-copy-out-acc c = let a = c .before .before .before .before .before .args in let p = c .before .before .before .before .before .pre in let l = c .before .before .before .loop in net-room (now (a .acc)) (now (a .pins)) (a .first) (a .n) (a .t) (p .0) (p .1) (l .acc) (l .i) (c .wide .result) (omega arith) (l .inv .1) (c .wide .ensures) .0
+element-copy-out-acc c =
+    let a = c .before .before .before .before .before .args in
+    let p = c .before .before .before .before .before .pre in
+    let l = c .before .before .before .loop in
+    net-room (now (a .acc)) (now (a .pins)) (a .first) (a .n) (a .t) (p .0) (p .1) (l .acc) (l .i) (c .wide .result) (omega arith) (l .inv .1) (c .wide .ensures) .0
 
 add-acc : tie.Need-add-acc Inv-loop μ-loop
-add-acc c = let a = c .before .before .before .before .before .before .args in let p = c .before .before .before .before .before .before .pre in let l = c .before .before .before .before .loop in omega (arith, net-room (now (a .acc)) (now (a .pins)) (a .first) (a .n) (a .t) (p .0) (p .1) (l .acc) (l .i) (c .before .wide .result) (omega arith) (l .inv .1) (c .before .wide .ensures))
+add-acc c =
+    let a = c .before .before .before .before .before .before .args in
+    let p = c .before .before .before .before .before .before .pre in
+    let l = c .before .before .before .before .loop in
+    omega (arith, net-room (now (a .acc)) (now (a .pins)) (a .first) (a .n) (a .t) (p .0) (p .1) (l .acc) (l .i) (c .before .wide .result) (omega arith) (l .inv .1) (c .before .wide .ensures))
 
 mul-acc-2 : tie.Need-mul-acc-2 Inv-loop μ-loop
 mul-acc-2 c = omega (arith, c .before .wide .ensures, c .before .before .before .before .before .before .pre .0 .pin (c .before .before .before .before .loop .i) (omega arith))
 
 element-write-acc : tie.Need-element-write-acc Inv-loop μ-loop
-element-write-acc c = let a = c .before .before .before .before .before .before .args in let p = c .before .before .before .before .before .before .pre in let l = c .before .before .before .before .loop in net-room (now (a .acc)) (now (a .pins)) (a .first) (a .n) (a .t) (p .0) (p .1) (l .acc) (l .i) (c .before .wide .result) (omega arith) (l .inv .1) (c .before .wide .ensures) .0
+element-write-acc c =
+    let a = c .before .before .before .before .before .before .args in
+    let p = c .before .before .before .before .before .before .pre in
+    let l = c .before .before .before .before .loop in
+    net-room (now (a .acc)) (now (a .pins)) (a .first) (a .n) (a .t) (p .0) (p .1) (l .acc) (l .i) (c .before .wide .result) (omega arith) (l .inv .1) (c .before .wide .ensures) .0
 
 add-i : tie.Need-add-i Inv-loop μ-loop
 add-i c = omega arith
@@ -53,10 +68,17 @@ loop-less : tie.Need-loop-less Inv-loop μ-loop
 loop-less c = omega arith
 
 loop-again : tie.Need-loop-again Inv-loop μ-loop
-loop-again c = let a = c .before .before .before .before .before .before .args in let p = c .before .before .before .before .before .before .pre in let l = c .before .before .before .before .loop in (omega arith, net-more (now (a .acc)) (now (a .pins)) (a .first) (a .n) (a .t) (p .0) (p .1) (l .acc) (l .i) (c .before .wide .result) (omega arith) (l .inv .1) (c .before .wide .ensures))
+loop-again c =
+    let a = c .before .before .before .before .before .before .args in
+    let p = c .before .before .before .before .before .before .pre in
+    let l = c .before .before .before .before .loop in
+    (omega arith, net-more (now (a .acc)) (now (a .pins)) (a .first) (a .n) (a .t) (p .0) (p .1) (l .acc) (l .i) (c .before .wide .result) (omega arith) (l .inv .1) (c .before .wide .ensures))
 
 returns : tie.Need-returns Inv-loop μ-loop
-returns c = let a = c .before .before .before .args in let e : c .before .loop .i ≡ a .n = omega arith in subst (λ (k : ℕ). Raised (now (a .acc)) (c .before .loop .acc) (λ z. a .t * occ (now (a .pins)) (a .first) k z)) e (c .before .loop .inv .1)
+returns c =
+    let a = c .before .before .before .args in
+    let e : c .before .loop .i ≡ a .n = omega arith in
+    subst (λ (k : ℕ). Raised (now (a .acc)) (c .before .loop .acc) (λ z. a .t * occ (now (a .pins)) (a .first) k z)) e (c .before .loop .inv .1)
 
 pub add-net-spec : {M : Type 1} → statement M
 add-net-spec =

@@ -28,19 +28,26 @@ begin-requires : tie.Need-begin-requires Inv-loop μ-loop
 begin-requires c κs = (tables-ok (c .before .before .before .before .before .before .before .before .before .before .before .before .before .before .before .pre .stands .sound), length-replicate {A = ℕ} 1025 0)
 
 excess-requires : tie.Need-excess-requires Inv-loop μ-loop
-excess-requires c κs = let p = c .before .before .before .before .before .before .before .before .before .before .before .before .before .before .before .before .pre in (omega (arith, len-is (p .stands)), p .stands .sound .follows .world .frame .few)
+excess-requires c κs =
+    let p = c .before .before .before .before .before .before .before .before .before .before .before .before .before .before .before .before .pre in
+    (omega (arith, len-is (p .stands)), p .stands .sound .follows .world .frame .few)
 
 loop-holds : tie.Need-loop-holds Inv-loop μ-loop
 loop-holds c = (λ loads loaded. going-none _ _ _ _ _ _ (c .excess .ensures), blank 1025 refl, bounded-begin _ _ _ _ _ _ _ _ _ _ (tables-ok (c .before .before .before .before .before .before .before .before .before .before .before .before .before .before .before .before .before .pre .stands .sound)) _ (c .before .begin .ensures), refl, refl, refl, refl, refl, refl, refl, refl, refl)
 
 coarsen-once-requires : tie.Need-coarsen-once-requires Inv-loop μ-loop
-coarsen-once-requires c κs = let v = c .before .before .before .before .before .before .before .before .before .before .before .before .before .loop .inv in (once-asks (c .before .before .before .before .before .before .before .before .before .before .before .before .before .before .before .before .before .before .before .before .before .before .before .before .before .before .before .before .before .before .before .pre) (v .0) (omega (arith, c .before .before .before .before .before .before .before .before .before .before .before .if1 .taken)), (v .1, v .2))
+coarsen-once-requires c κs =
+    let v = c .before .before .before .before .before .before .before .before .before .before .before .before .before .loop .inv in
+    (once-asks (c .before .before .before .before .before .before .before .before .before .before .before .before .before .before .before .before .before .before .before .before .before .before .before .before .before .before .before .before .before .before .before .pre) (v .0) (omega (arith, c .before .before .before .before .before .before .before .before .before .before .before .if1 .taken)), (v .1, v .2))
 
 loop-less : tie.Need-loop-less Inv-loop μ-loop
 loop-less c = c .before .before .before .before .before .before .before .before .before .before .before .before .before .before .before .before .before .coarsen-once .ensures .0 (c .before .before .before .before .before .before .before .before .before .before .before .before .before .before .before .before .before .before .before .before .before .before .before .before .before .before .before .before .before .before .before .before .before .before .before .before .before .before .before .before .before .before .before .before .before .before .before .before .before .pre .loads) (c .before .before .before .before .before .before .before .before .before .before .before .before .before .before .before .before .before .before .before .before .before .before .before .before .before .before .before .before .before .before .before .before .before .before .before .before .before .before .before .before .before .before .before .before .before .before .before .before .before .pre .loaded) .less
 
 loop-again : tie.Need-loop-again Inv-loop μ-loop
-loop-again c = let v = c .before .before .before .before .before .before .before .before .before .before .before .before .before .before .before .before .before .before .before .before .before .before .before .before .before .before .before .before .before .before .before .loop .inv in let o = c .before .before .before .before .before .before .before .before .before .before .before .before .before .before .before .before .before .coarsen-once in (λ loads loaded. going-more refl refl refl refl refl (v .0 loads loaded) (o .ensures .0 loads loaded), o .ensures .1 .0, o .ensures .1 .1, omega (arith, v, o .kept), omega (arith, v, o .kept), omega (arith, v, o .kept), omega (arith, v, o .kept), omega (arith, v, o .kept), omega (arith, v, o .kept), omega (arith, v, o .kept), omega (arith, v, o .kept), omega (arith, v, o .kept))
+loop-again c =
+    let v = c .before .before .before .before .before .before .before .before .before .before .before .before .before .before .before .before .before .before .before .before .before .before .before .before .before .before .before .before .before .before .before .loop .inv in
+    let o = c .before .before .before .before .before .before .before .before .before .before .before .before .before .before .before .before .before .coarsen-once in
+    (λ loads loaded. going-more refl refl refl refl refl (v .0 loads loaded) (o .ensures .0 loads loaded), o .ensures .1 .0, o .ensures .1 .1, omega (arith, v, o .kept), omega (arith, v, o .kept), omega (arith, v, o .kept), omega (arith, v, o .kept), omega (arith, v, o .kept), omega (arith, v, o .kept), omega (arith, v, o .kept), omega (arith, v, o .kept), omega (arith, v, o .kept))
 
 same-length : tie.Need-same-length Inv-loop μ-loop
 same-length c = omega (arith, c .before .before .before .loop .inv)

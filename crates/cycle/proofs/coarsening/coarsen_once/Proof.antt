@@ -9,7 +9,10 @@ use Rattle.cycle.proofs.coarsening.coarsen_once.Statement.{statement}
 use Rattle.cycle.proofs.coarsening.coarsen_once.Tie as tie
 
 plan-join-requires : tie.Need-plan-join-requires
-plan-join-requires c κs = let p = c .before .before .before .before .before .before .before .before .before .before .before .before .before .before .before .before .before .pre in let s = p .0 .here .stands .sound in (tables-ok s, ((p .1 .0, omega (arith, once-room (p .0)), s .weights-fit), p .1 .1))
+plan-join-requires c κs =
+    let p = c .before .before .before .before .before .before .before .before .before .before .before .before .before .before .before .before .before .pre in
+    let s = p .0 .here .stands .sound in
+    (tables-ok s, ((p .1 .0, omega (arith, once-room (p .0)), s .weights-fit), p .1 .1))
 
 same-length : tie.Need-same-length
 same-length c = search needs
@@ -27,7 +30,9 @@ same-length-5 : tie.Need-same-length-5
 same-length-5 c = search needs
 
 returns : tie.Need-returns
-returns c = let j = c .before .before .plan-join in (λ loads loaded. once-none _ _ _ (j .result) (c .before .before .before .before .before .before .before .before .before .before .before .before .before .before .before .before .before .before .before .before .pre .0 .some) (j .ensures .0) (c .if1 .taken), (j .ensures .1 .1, j .ensures .1 .0 .none (c .if1 .taken)))
+returns c =
+    let j = c .before .before .plan-join in
+    (λ loads loaded. once-none _ _ _ (j .result) (c .before .before .before .before .before .before .before .before .before .before .before .before .before .before .before .before .before .before .before .before .pre .0 .some) (j .ensures .0) (c .if1 .taken), (j .ensures .1 .1, j .ensures .1 .0 .none (c .if1 .taken)))
 
 sub-join : tie.Need-sub-join
 sub-join c = omega (arith, c .before .before .before .before .before .before .before .before .before .before .before .plan-join .ensures .0 .within (omega (arith, c .before .before .before .before .before .before .before .before .before .if1 .left)))
@@ -36,7 +41,9 @@ sub-join-2 : tie.Need-sub-join-2
 sub-join-2 c = omega (arith, c .before .before .before .before .before .before .before .before .before .before .before .plan-join .ensures .0 .within (omega (arith, c .before .before .before .before .before .before .before .before .before .if1 .left)))
 
 join-requires : tie.Need-join-requires
-join-requires c κs = let p = c .before .before .before .before .before .before .before .before .before .before .before .before .before .before .before .before .before .before .before .before .before .before .before .before .before .before .before .before .before .pre .0 in record { loads = p .loads; loaded = p .loaded; h = p .h; cs = p .c .stack; block = p .c .block; sound = p .here .stands .sound; pair = pair-ok _ _ (p .average-is) (p .here .stands .sound) (c .before .before .before .before .before .before .before .before .before .before .before .plan-join .ensures .0) (omega (arith, c .before .before .before .before .before .before .before .before .before .if1 .left)) }
+join-requires c κs =
+    let p = c .before .before .before .before .before .before .before .before .before .before .before .before .before .before .before .before .before .before .before .before .before .before .before .before .before .before .before .before .before .pre .0 in
+    record { loads = p .loads; loaded = p .loaded; h = p .h; cs = p .c .stack; block = p .c .block; sound = p .here .stands .sound; pair = pair-ok _ _ (p .average-is) (p .here .stands .sound) (c .before .before .before .before .before .before .before .before .before .before .before .plan-join .ensures .0) (omega (arith, c .before .before .before .before .before .before .before .before .before .if1 .left)) }
 
 short-requires : tie.Need-short-requires
 short-requires c κs = omega (arith, c .before .before .before .before .before .before .before .before .before .before .before .before .before .before .before .before .before .before .before .before .before .before .before .before .before .before .before .before .before .plan-join .ensures .0 .within (omega (arith, c .before .before .before .before .before .before .before .before .before .before .before .before .before .before .before .before .before .before .before .before .before .before .before .before .before .before .before .if1 .left)), once-room (c .before .before .before .before .before .before .before .before .before .before .before .before .before .before .before .before .before .before .before .before .before .before .before .before .before .before .before .before .before .before .before .before .before .before .before .before .before .before .before .before .before .before .before .before .before .before .before .pre .0))
@@ -45,7 +52,9 @@ short-requires-2 : tie.Need-short-requires-2
 short-requires-2 c κs = omega (arith, c .before .before .before .before .before .before .before .before .before .before .before .before .before .before .before .before .before .before .before .before .before .before .before .before .before .before .before .before .before .before .plan-join .ensures .0 .within (omega (arith, c .before .before .before .before .before .before .before .before .before .before .before .before .before .before .before .before .before .before .before .before .before .before .before .before .before .before .before .before .if1 .left)), once-room (c .before .before .before .before .before .before .before .before .before .before .before .before .before .before .before .before .before .before .before .before .before .before .before .before .before .before .before .before .before .before .before .before .before .before .before .before .before .before .before .before .before .before .before .before .before .before .before .before .pre .0))
 
 push-requires : tie.Need-push-requires
-push-requires c κs = let p = c .before .before .before .before .before .before .before .before .before .before .before .before .before .before .before .before .before .before .before .before .before .before .before .before .before .before .before .before .before .before .before .before .before .before .before .before .before .before .before .before .before .before .before .before .before .before .before .before .before .pre .0 in (omega (arith, once-room p), p .here .stands .into-fit, p .here .stands .gone-fit)
+push-requires c κs =
+    let p = c .before .before .before .before .before .before .before .before .before .before .before .before .before .before .before .before .before .before .before .before .before .before .before .before .before .before .before .before .before .before .before .before .before .before .before .before .before .before .before .before .before .before .before .before .before .before .before .before .before .pre .0 in
+    (omega (arith, once-room p), p .here .stands .into-fit, p .here .stands .gone-fit)
 
 sub-t58 : tie.Need-sub-t58
 sub-t58 c = omega (arith, c .before .before .before .before .before .before .before .before .before .before .before .before .before .before .before .before .before .before .before .before .before .before .before .before .before .before .before .before .before .before .before .before .before .before .before .before .before .before .before .before .before .before .before .before .before .before .before .before .before .before .before .pre .0 .some)
@@ -78,7 +87,10 @@ same-length-14 : tie.Need-same-length-14
 same-length-14 c = search needs
 
 returns-2 : tie.Need-returns-2
-returns-2 c = let p = c .before .before .before .before .before .before .before .before .before .before .before .before .before .before .before .before .before .before .before .before .before .before .before .before .before .before .before .before .before .before .before .before .before .before .before .before .before .before .before .before .before .before .before .before .before .before .before .before .before .before .before .pre .0 in let j = c .before .before .before .before .before .before .before .before .before .before .before .before .before .before .before .before .before .before .before .before .before .before .before .before .before .before .before .before .before .before .before .before .before .plan-join in let l = c .before .before .before .before .before .before .before .before .before .before .before .before .before .before .before .before .before .before .before .before .before .before .before .before .before .before .before .before .before .before .before .if1 .left in
+returns-2 c =
+    let p = c .before .before .before .before .before .before .before .before .before .before .before .before .before .before .before .before .before .before .before .before .before .before .before .before .before .before .before .before .before .before .before .before .before .before .before .before .before .before .before .before .before .before .before .before .before .before .before .before .before .before .before .pre .0 in
+    let j = c .before .before .before .before .before .before .before .before .before .before .before .before .before .before .before .before .before .before .before .before .before .before .before .before .before .before .before .before .before .before .before .before .before .plan-join in
+    let l = c .before .before .before .before .before .before .before .before .before .before .before .before .before .before .before .before .before .before .before .before .before .before .before .before .before .before .before .before .before .before .before .if1 .left in
     let t = c .before .before .before .before .before .before .before .before .before .before .before .before .before .before .before .before .before .before .before .before .before .join .ensures in
     (λ loads loaded. once-join _ _ _ _ (j .result) _ _ _ _ _ (p .some) (omega (arith, once-room p)) (j .ensures .0) (omega (arith, l)) refl (t loads loaded) (c .before .before .before .short .ensures) (c .before .before .short2 .ensures) (c .before .push .ensures), (j .ensures .1 .1, once-bounds p _ (j .result) _ refl refl (j .ensures .0) (omega (arith, l)) (t (p .loads) (p .loaded)) (j .ensures .1 .0)))
 
