@@ -154,7 +154,7 @@ lt-left a b fa fb t = ltZ-no (subst (λ (x : Bool). T (not x)) (sym (sym (ap2 (r
 pub +ℤ-left-comm : (a b c : ℤ) → a +ℤ (b +ℤ c) ≡ b +ℤ (a +ℤ c)
 +ℤ-left-comm a b c = eq-by _ _ (omega (arith, add-is b c, add-is a c, add-is a (b +ℤ c), add-is b (a +ℤ c)))
 
-pub ruleset ℤ·ac = (+ℤ-assoc, +ℤ-comm, +ℤ-left-comm)
+pub ruleset ℤ·sums = (+ℤ-assoc, +ℤ-comm, +ℤ-left-comm)
 
 pub +ℤ-cancel-l : (a b : ℤ) → a +ℤ (negℤ a +ℤ b) ≡ b
 +ℤ-cancel-l a b = eq-by _ _ (omega (arith, neg-is a, add-is (negℤ a) b, add-is a (negℤ a +ℤ b)))

@@ -7,7 +7,7 @@ use native.Mathlib.Numerals.{add-one}
 use native.Mathlib.Omega.{arith}
 use lib.IntN.{ℤ, pos, natAbs, _+ℤ_, _-ℤ_, +ℤ-assoc, +ℤ-comm}
 use Rattle.laws.specs.Sum.{sum}
-use Rattle.laws.specs.Integer.{eq-by, add-is, sub-is, pos-is, natAbs-add, ℤ·ac}
+use Rattle.laws.specs.Integer.{eq-by, add-is, sub-is, pos-is, natAbs-add, ℤ·sums}
 
 unfoldable pub sumZ : (ℕ → ℤ) → ℕ → ℤ
 sumZ f zero = pos 0
@@ -54,7 +54,7 @@ sumZ-split f d (suc n) =
 pub sumZ-add : (f g : ℕ → ℤ) (n : ℕ) → sumZ (λ i. f i +ℤ g i) n ≡ sumZ f n +ℤ sumZ g n
 unfolding sumZ
 sumZ-add f g zero = refl
-sumZ-add f g (suc n) = rw (sumZ-add f g n) (simp ℤ·ac)
+sumZ-add f g (suc n) = rw (sumZ-add f g n) (simp ℤ·sums)
 
 -- one summand is taken out and another put in
 pub swap-term : (s a b : ℤ) → ((s +ℤ a) -ℤ a) +ℤ b ≡ s +ℤ b
