@@ -3,8 +3,8 @@ ghost use mathlib.Core.Path.{_≡_};
 ghost use Rattle.model.specs.Catalogue.{mainLimits};
 ghost use Rattle.model.specs.Memory.{longMemory};
 ghost use Rattle.loader.specs.Tables.{lists};
-ghost use Rattle.engine.specs.Sale.{lent};
-ghost use Rattle.engine.specs.Entry.{memory};
+ghost use Rattle.selling.specs.Sale.{lent};
+ghost use Rattle.working.specs.Files.{memory};
 
 // The output and all tables.
 pub fn is_long(

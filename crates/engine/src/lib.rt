@@ -1,6 +1,4 @@
-// The engine: a sale file and lent memory in, the report and lent memory out.
-pub mod closing;
+// The engine: a sale file and lent memory in, the report and lent memory out. What customers call.
 pub mod entry;
 pub mod lengths;
 pub mod listing;
-pub mod selling;

@@ -9,7 +9,8 @@ use Rattle.model.specs.Catalogue.{Limits}
 use Rattle.model.specs.Measure.{Contraction}
 use Rattle.model.specs.Grammar.{Reading, unread, reading, stopped, parse}
 use Rattle.model.specs.Memory.{Memory, longMemory, Written}
-use Rattle.engine.specs.Listing.{listRefusal, listCalls, ListServed, ListServes}
+use Rattle.working.specs.Lists.{listRefusal, listCalls}
+use Rattle.engine.specs.Listing.{ListServed, ListServes}
 
 written-in : (text old new : List ℕ) (bytes : ℕ) → Written text old new bytes → bytes ≤ length new
 written-in text old new bytes w = omega (arith, w .bytes, ap length (w .output), length-append text (drop bytes old))
@@ -18,8 +19,8 @@ pub lines-in : (limits : Limits) (file list : List ℕ) (m m′ : Memory) (stack
 lines-in limits file list m m′ stack total code bytes = go (longMemory limits m) (listRefusal list) (parse limits file)
   where
     go : (b : Bool) (q : ℕ) (r : Reading) → ListServed b q r (listCalls list) m m′ stack total code bytes → bytes ≤ length (m′ .output)
-    go false q r u = omega (arith, u .nothing)
+    go false q r u = omega (arith, u .0 .nothing)
     go true (suc q) r u = omega (arith, u .1)
     go true zero (reading k) u = written-in _ (m .output) (m′ .output) bytes (u .output)
-    go true zero (stopped q n) u = written-in _ (m .output) (m′ .output) bytes (u .output)
-    go true zero unread u = written-in _ (m .output) (m′ .output) bytes (u .output)
+    go true zero (stopped q n) u = written-in _ (m .output) (m′ .output) bytes (u .0 .output)
+    go true zero unread u = written-in _ (m .output) (m′ .output) bytes (u .0 .output)

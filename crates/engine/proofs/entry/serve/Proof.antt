@@ -46,8 +46,8 @@ same-length-12 c = search needs
 returns : tie.Need-returns
 returns c = too-short _ _ (c .before .is-long .ensures) (not-true _ (c .if1 .taken))
 
-work-requires : tie.Need-work-requires
-work-requires c κs = long-is _ _ _ _ _ (c .before .before .before .before .before .before .before .before .before .before .before .before .before .is-long .ensures) (not-false _ (c .before .before .before .before .before .before .before .before .before .before .before .before .if1 .left))
+work-file-requires : tie.Need-work-file-requires
+work-file-requires c κs = long-is _ _ _ _ _ (c .before .before .before .before .before .before .before .before .before .before .before .before .before .is-long .ensures) (not-false _ (c .before .before .before .before .before .before .before .before .before .before .before .before .if1 .left))
 
 same-length-13 : tie.Need-same-length-13
 same-length-13 c = search needs
@@ -86,7 +86,7 @@ same-length-24 : tie.Need-same-length-24
 same-length-24 c = search needs
 
 returns-2 : tie.Need-returns-2
-returns-2 c = served _ _ _ (c .before .before .before .before .before .before .before .before .before .before .before .before .before .before .before .before .before .before .before .before .before .before .before .before .before .before .before .before .before .before .before .before .before .before .before .before .before .is-long .ensures) (not-false _ (c .before .before .before .before .before .before .before .before .before .before .before .before .before .before .before .before .before .before .before .before .before .before .before .before .before .before .before .before .before .before .before .before .before .before .before .before .if1 .left)) (c .before .before .before .before .before .before .before .before .before .before .before .before .before .before .before .before .before .before .before .before .before .before .before .work .ensures)
+returns-2 c = served _ _ _ (c .before .before .before .before .before .before .before .before .before .before .before .before .before .before .before .before .before .before .before .before .before .before .before .before .before .before .before .before .before .before .before .before .before .before .before .before .before .is-long .ensures) (not-false _ (c .before .before .before .before .before .before .before .before .before .before .before .before .before .before .before .before .before .before .before .before .before .before .before .before .before .before .before .before .before .before .before .before .before .before .before .before .if1 .left)) (c .before .before .before .before .before .before .before .before .before .before .before .before .before .before .before .before .before .before .before .before .before .before .before .work-file .ensures)
 
 pub serve-spec : {M : Type 1} → statement M
 serve-spec =
@@ -106,7 +106,7 @@ serve-spec =
     same-length-11
     same-length-12
     returns
-    work-requires
+    work-file-requires
     same-length-13
     same-length-14
     same-length-15

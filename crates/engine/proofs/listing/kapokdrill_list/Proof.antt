@@ -1,6 +1,7 @@
 use borrow.Author.Needs.{needs}
 use mathlib.Core.Path.{sym, _∙_}
 use borrow.Author.Tests.{not-true, not-false}
+use Rattle.working.specs.Lists.{idle}
 use Rattle.engine.specs.Entry.{long-is}
 use Rattle.engine.specs.Listing.{untouched-8, untouched-list, list-served}
 use Rattle.engine.proofs.listing.kapokdrill_list.Statement.{statement}
@@ -8,9 +9,9 @@ use Rattle.engine.proofs.listing.kapokdrill_list.Tie as tie
 use Rattle.engine.proofs.listing.kapokdrill_list.Reads as reads
 use Rattle.engine.proofs.listing.kapokdrill_list.Lts as lts
 use Rattle.engine.proofs.lengths.is_long.Reads as is-long-reads
-use Rattle.engine.proofs.listing.list_refusal.Reads as list-refusal-reads
+use Rattle.working.proofs.lists.list_refusal.Reads as list-refusal-reads
 use Rattle.engine.proofs.listing.refused_list.Reads as refused-list-reads
-use Rattle.engine.proofs.listing.work_list.Reads as work-list-reads
+use Rattle.working.proofs.lists.work_list.Reads as work-list-reads
 
 is-long-requires : tie.Need-is-long-requires
 is-long-requires c κs = search needs
@@ -55,7 +56,7 @@ same-length-12 : tie.Need-same-length-12
 same-length-12 c = search needs
 
 returns : tie.Need-returns
-returns c = untouched-8 _ _ _ _ _ _ _ (c .before .before .is-long .ensures) (not-true _ (c .before .if1 .taken)) (c .refused-list .ensures .0) (c .refused-list .ensures .1)
+returns c = untouched-8 _ _ _ _ _ _ _ (c .before .before .is-long .ensures) (not-true _ (c .before .if1 .taken)) (c .refused-list .ensures .0) (c .refused-list .ensures .1) (idle _ _ _ _ (c .refused-list .ensures .2) (c .refused-list .ensures .3))
 
 list-refusal-requires : tie.Need-list-refusal-requires
 list-refusal-requires c κs = search needs
@@ -100,7 +101,7 @@ same-length-24 : tie.Need-same-length-24
 same-length-24 c = search needs
 
 returns-2 : tie.Need-returns-2
-returns-2 c = untouched-list _ _ _ _ _ _ _ (c .before .before .before .before .is-long .ensures) (not-false _ (c .before .before .before .if1 .left)) (c .before .before .list-refusal .ensures) (c .before .if2 .taken) (c .refused-list2 .ensures .0) (c .refused-list2 .ensures .1)
+returns-2 c = untouched-list _ _ _ _ _ _ _ (c .before .before .before .before .is-long .ensures) (not-false _ (c .before .before .before .if1 .left)) (c .before .before .list-refusal .ensures) (c .before .if2 .taken) (c .refused-list2 .ensures .0) (c .refused-list2 .ensures .1) (idle _ _ _ _ (c .refused-list2 .ensures .2) (c .refused-list2 .ensures .3))
 
 work-list-requires : tie.Need-work-list-requires
 work-list-requires c κs = (long-is _ _ _ _ _ (c .before .before .before .before .before .before .before .before .before .before .before .before .before .before .before .is-long .ensures) (not-false _ (c .before .before .before .before .before .before .before .before .before .before .before .before .before .before .if1 .left)), sym (c .before .before .before .before .before .before .before .before .before .before .before .before .before .list-refusal .ensures) ∙ c .before .before .before .before .before .before .before .before .before .before .before .before .if2 .left)

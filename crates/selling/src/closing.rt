@@ -1,14 +1,26 @@
-// The end of an accepted file's calls: the closing report behind their answers.
-ghost use Prim.Native.Nat.{ℕ};
-ghost use mathlib.Core.List.{List};
+// How a file ends: the line of its refusal, or the answers to its calls with the closing report behind them.
+ghost use Prim.Native.Nat.{ℕ, _≤_};
+ghost use mathlib.Core.List.{List, [], _∷_};
+ghost use lib.ListN.{length};
 ghost use Rattle.model.specs.Catalogue.{Limits};
+ghost use Rattle.model.specs.Report.{digits, row};
+ghost use Rattle.report.specs.Wrote.{Wrote};
 ghost use Rattle.reader.specs.Seen.{callsOf};
 ghost use Rattle.loader.specs.Tables.{Lists, lists, graph};
-ghost use Rattle.engine.specs.Sale.{lent, Catalogued, Listed, CanSell};
-ghost use Rattle.engine.specs.Entry.{Reported};
-use crate::selling::sell;
+ghost use Rattle.selling.specs.Sale.{lent, Catalogued, Listed, CanSell};
+ghost use Rattle.selling.specs.Reported.{Reported};
+use crate::sell;
 use loader::Sizes;
+use report::answers::put_refusal;
 use report::closing::put_closing;
+
+// Writes the line of a refused file; says where it ends.
+pub fn refuse(output: &mut [u8], q: u8, line: usize) -> usize
+    requires { ⌜ (line ≤ 60001) × (length (row "NO" (digits q ∷ digits line ∷ [])) ≤ length (now output)) ⌝ }
+    ensures { λ r. ⌜ Wrote (now (output .entry)) (now (output .exit)) 0 (row "NO" (digits q ∷ digits line ∷ [])) r ⌝ }
+{
+    put_refusal(output, 0, q as u32, line as u32)
+}
 
 // Runs the file's calls and writes their answers and the closing report; says where the text ends.
 pub fn report_sale(

@@ -3,11 +3,11 @@ use Prim.Native.Nat.{ℕ}
 use native.Mathlib.Omega.{arith}
 use mathlib.Core.Path.{refl}
 use lib.ListN.{length-replicate}
-use Rattle.engine.specs.Sale.{blank, can-open, begins, can-run, sold}
-use Rattle.engine.proofs.selling.sell.Statement.{statement}
-use Rattle.engine.proofs.selling.sell.Tie as tie
-use Rattle.engine.proofs.selling.sell.Reads as reads
-use Rattle.engine.proofs.selling.sell.Lts as lts
+use Rattle.selling.specs.Sale.{blank, can-open, begins, can-run, sold}
+use Rattle.selling.proofs.sell.Statement.{statement}
+use Rattle.selling.proofs.sell.Tie as tie
+use Rattle.selling.proofs.sell.Reads as reads
+use Rattle.selling.proofs.sell.Lts as lts
 use Rattle.opening.proofs.open.Reads as open-reads
 use Rattle.sequence.proofs.run_calls.Reads as run-calls-reads
 

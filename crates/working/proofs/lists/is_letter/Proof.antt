@@ -1,10 +1,10 @@
 use borrow.Author.Needs.{needs}
 use mathlib.Core.Path.{refl}
-use Rattle.engine.specs.Listing.{letter-kind, letter-rest}
-use Rattle.engine.proofs.listing.is_letter.Statement.{statement}
-use Rattle.engine.proofs.listing.is_letter.Tie as tie
-use Rattle.engine.proofs.listing.is_letter.Reads as reads
-use Rattle.engine.proofs.listing.is_letter.Lts as lts
+use Rattle.working.specs.Lists.{letter-kind, letter-rest}
+use Rattle.working.proofs.lists.is_letter.Statement.{statement}
+use Rattle.working.proofs.lists.is_letter.Tie as tie
+use Rattle.working.proofs.lists.is_letter.Reads as reads
+use Rattle.working.proofs.lists.is_letter.Lts as lts
 use Rattle.dispatch.proofs.kinds.is_contracting.Reads as is-contracting-reads
 use Rattle.dispatch.proofs.kinds.is_moving.Reads as is-moving-reads
 

@@ -4,12 +4,12 @@ use native.Mathlib.Omega.{arith}
 use mathlib.Core.Path.{_≡_}
 use mathlib.Core.Bool.{true}
 use borrow.Author.Tests.{not-true, not-false}
-use Rattle.engine.specs.Listing.{lettersTo, letters-none, letters-more, letters-all, letters-no}
-use Rattle.engine.proofs.listing.are_letters.Statement.{statement}
-use Rattle.engine.proofs.listing.are_letters.Tie as tie
-use Rattle.engine.proofs.listing.are_letters.Reads as reads
-use Rattle.engine.proofs.listing.are_letters.Lts as lts
-use Rattle.engine.proofs.listing.is_letter.Reads as is-letter-reads
+use Rattle.working.specs.Lists.{lettersTo, letters-none, letters-more, letters-all, letters-no}
+use Rattle.working.proofs.lists.are_letters.Statement.{statement}
+use Rattle.working.proofs.lists.are_letters.Tie as tie
+use Rattle.working.proofs.lists.are_letters.Reads as reads
+use Rattle.working.proofs.lists.are_letters.Lts as lts
+use Rattle.working.proofs.lists.is_letter.Reads as is-letter-reads
 
 abbrev Inv-loop : tie.InvT-loop
 Inv-loop list count i₀ i = (lettersTo i list ≡ true) × (i ≤ count)

@@ -1,4 +1,4 @@
-// A list of calls on tables as loading left them.
+// A list of calls on tables as loading left them, with demand 3 as its contract.
 ghost use Prim.Native.Nat.{ℕ, _≤_};
 ghost use mathlib.Core.List.{List};
 ghost use lib.ListN.{length};
@@ -6,11 +6,13 @@ ghost use Rattle.model.specs.Catalogue.{Limits};
 ghost use Rattle.reader.specs.Seen.{callsOf};
 ghost use Rattle.loader.specs.Tables.{Lists, lists, graph};
 ghost use Rattle.steps.specs.Steps.{two};
-ghost use Rattle.engine.specs.Sale.{lent, Catalogued, Listed, CanSell, Sold};
+ghost use Rattle.selling.specs.Sale.{lent, Catalogued, Listed, CanSell, Sold};
 use calls::pairs::Stack;
 use loader::Sizes;
 use opening::open;
 use sequence::run_calls;
+
+pub mod closing;
 
 // What a list of calls leaves beside the tables: the contraction stack, the metric of the draft and at the end, and where the output's text ends.
 pub struct Sale {

@@ -1,11 +1,11 @@
 use borrow.Author.Needs.{needs}
 use borrow.Author.Tests.{not-true, not-false}
-use Rattle.engine.specs.Listing.{list-long, list-odd, list-strange, list-good}
-use Rattle.engine.proofs.listing.list_refusal.Statement.{statement}
-use Rattle.engine.proofs.listing.list_refusal.Tie as tie
-use Rattle.engine.proofs.listing.list_refusal.Reads as reads
-use Rattle.engine.proofs.listing.list_refusal.Lts as lts
-use Rattle.engine.proofs.listing.are_letters.Reads as are-letters-reads
+use Rattle.working.specs.Lists.{list-long, list-odd, list-strange, list-good}
+use Rattle.working.proofs.lists.list_refusal.Statement.{statement}
+use Rattle.working.proofs.lists.list_refusal.Tie as tie
+use Rattle.working.proofs.lists.list_refusal.Reads as reads
+use Rattle.working.proofs.lists.list_refusal.Lts as lts
+use Rattle.working.proofs.lists.are_letters.Reads as are-letters-reads
 
 returns : tie.Need-returns
 returns c = list-long _ (c .if1 .taken)
