@@ -1,5 +1,6 @@
--- The candidates of a search as two rows of bits: row 0 has the vertices that may be chosen, row 1 those that have moved. What marking does
--- to them. Vertices count from 0. Rests on incidence's rows of bits and connectivity's pin stretches. Assumes nothing.
+-- The candidates of a search as three rows of bits: row 0 has the vertices that may be chosen, row 1 those that have moved, row 2 the nets
+-- whose pins have been marked. What marking does to them. Vertices and nets count from 0. Rests on incidence's rows of bits and
+-- connectivity's pin stretches. Assumes nothing.
 use Prim.Native.Nat.{ℕ, zero, suc, _+_, _*_, _-_, _<_, _≤_}
 use native.Mathlib.Decide.{ℕ-discrete}
 use native.Mathlib.Numerals.{add-one}
@@ -7,10 +8,10 @@ use native.Mathlib.Omega.{arith}
 use mathlib.Core.Path.{_≡_, refl, sym, ap, ap₂, _∙_, subst}
 use mathlib.Core.Bool.{Bool, true, false, not, _&&_, _||_, cond, and-false, and-true}
 use mathlib.Core.List.{List}
-use borrow.Author.Tests.{eq-eqb, ne-eqb}
+use borrow.Author.Tests.{eq-eqb, ne-eqb, eqb-true}
 use lib.Dec.{eqb}
-use lib.ListN.{length, getD}
-use Rattle.incidence.specs.On.{on, Changed, Next}
+use lib.ListN.{length, getD, replicate}
+use Rattle.incidence.specs.On.{on, on-blank, Changed, Next}
 use Rattle.connectivity.specs.Listed.{has}
 
 -- the vertex may be chosen
@@ -20,6 +21,10 @@ candidateBit l x = eqb (on l 0 x) 1
 -- the vertex has moved
 abbrev pub movedBit : List ℕ → ℕ → Bool
 movedBit l x = eqb (on l 1 x) 1
+
+-- a search begins with rows of zeros
+pub blank-bit : (r x : ℕ) → eqb (on (replicate 48 0) r x) 1 ≡ false
+blank-bit r x = ap (λ (z : ℕ). eqb z 1) (on-blank 48 r x)
 
 -- those that pass a test have become candidates, except where they have moved
 pub record Marked (l l′ : List ℕ) (p : ℕ → Bool) : Type 0 where
@@ -65,6 +70,20 @@ marked-more {l} {l′} {p = p} {q = q} a b = record {
     law false true q true = refl
     law false true true false = refl
     law false true false false = refl
+
+-- row 2 is as it was
+pub record SameNets (l l′ : List ℕ) : Type 0 where
+  pub same : (e : ℕ) → e < 1024 → on l′ 2 e ≡ on l 2 e
+
+pub nets-same : (l : List ℕ) → SameNets l l
+nets-same l = record { same = λ e k. refl }
+
+pub nets-then : {l l′ l″ : List ℕ} → SameNets l l′ → SameNets l′ l″ → SameNets l l″
+nets-then a b = record { same = λ e k. b .same e k ∙ a .same e k }
+
+-- a bit of another row is changed
+pub nets-beside : {l l′ : List ℕ} {r x v : ℕ} → r < 2 → Changed l l′ r x v → SameNets l l′
+nets-beside k c = record { same = λ e l. c .elsewhere 2 e l (λ p _. omega arith) }
 
 -- ---- one vertex
 
@@ -166,11 +185,10 @@ module _ (bits pins firsts sizes : List ℕ) (u : ℕ) where
   pub nets-none : (l : List ℕ) (m e : ℕ) → Next bits u 0 m e → Marked l l (near bits pins firsts sizes u e)
   nets-none l m e n = marked-none l (near bits pins firsts sizes u e) (λ x k. near-to 0 e x (omega arith) (n .passed) ∙ near-first x)
 
-  pub nets-more : {l l′ l″ : List ℕ} (m e e′ f s : ℕ) → on bits u e ≡ 1 → f ≡ getD firsts e 0 → s ≡ getD sizes e 0
-      → Marked l l′ (near bits pins firsts sizes u e) → Marked l′ l″ (has pins f s) → Next bits u (e + 1) m e′ → Marked l l″ (near bits pins firsts sizes u e′)
-  nets-more m e e′ f s o qf qs a b n = marked-ext (near bits pins firsts sizes u e′) (marked-more a b) (λ x k.
-      ap (λ (t : Bool). near bits pins firsts sizes u e x || t) (ap₂ (λ (i j : ℕ). has pins i j x) qf qs)
-      ∙ sym (near-to (e + 1) e′ x (n .low) (n .passed) ∙ near-step e x ∙ ap (λ (t : Bool). near bits pins firsts sizes u e x || (t && has pins (getD firsts e 0) (getD sizes e 0) x)) (eq-eqb (on bits u e) 1 o)))
+  pub nets-more : {l l′ l″ : List ℕ} (m e e′ : ℕ) → on bits u e ≡ 1 → Marked l l′ (near bits pins firsts sizes u e) → Marked l′ l″ (has pins (getD firsts e 0) (getD sizes e 0)) → Next bits u (e + 1) m e′
+      → Marked l l″ (near bits pins firsts sizes u e′)
+  nets-more m e e′ o a b n = marked-ext (near bits pins firsts sizes u e′) (marked-more a b) (λ x k.
+      sym (near-to (e + 1) e′ x (n .low) (n .passed) ∙ near-step e x ∙ ap (λ (t : Bool). near bits pins firsts sizes u e x || (t && has pins (getD firsts e 0) (getD sizes e 0) x)) (eq-eqb (on bits u e) 1 o)))
 
   pub nets-all : {l l′ : List ℕ} (m e : ℕ) → e ≤ m → m ≤ e → Marked l l′ (near bits pins firsts sizes u e) → Marked l l′ (near bits pins firsts sizes u m)
   nets-all {l} {l′} m e p q a = let r : e ≡ m = omega arith in subst (λ (i : ℕ). Marked l l′ (near bits pins firsts sizes u i)) r a
@@ -193,6 +211,57 @@ module _ (bits pins firsts sizes : List ℕ) (u : ℕ) where
   near-no zero x h = refl
   near-no (suc m) x h = ap₂ (λ (a b : Bool). a || b) (near-no m x (λ e l. h e (omega arith))) (h m (omega arith))
 
+-- ---- the nets whose pins have been marked
+
+-- the pins of each net of row 2 are candidates or have moved
+pub record Covered (l pins firsts sizes : List ℕ) : Type 0 where
+  pub covers : (e : ℕ) → e < 1024 → on l 2 e ≡ 1 → (x : ℕ) → x < 1024 → has pins (getD firsts e 0) (getD sizes e 0) x ≡ true → (candidateBit l x || movedBit l x) ≡ true
+
+module _ {pins firsts sizes : List ℕ} where
+  pub covered-none : {l : List ℕ} → SameNets (replicate 48 0) l → Covered l pins firsts sizes
+  covered-none n = record { covers = λ e k o. absurd (omega (arith, n .same e k, on-blank 48 2 e)) }
+
+  -- the pins of a net are marked already
+  pub net-again : {l : List ℕ} (e : ℕ) → e < 1024 → Covered l pins firsts sizes → eqb (on l 2 e) 1 ≡ true → Marked l l (has pins (getD firsts e 0) (getD sizes e 0))
+  net-again {l} e k c o = record { len = refl; moved = λ x kx. refl; marks = λ x kx. law (has pins (getD firsts e 0) (getD sizes e 0) x) (candidateBit l x) (movedBit l x) (c .covers e k (eqb-true (on l 2 e) 1 o) x kx) }
+    where
+      law : (p c m : Bool) → (p ≡ true → (c || m) ≡ true) → c ≡ (c || (p && not m))
+      law p true m f = refl
+      law false false m f = refl
+      law true false true f = refl
+      law true false false f = f refl
+
+-- a bit of row 2 is changed, and the other rows are as they were
+beside-nets : {l l′ : List ℕ} {e v : ℕ} → Changed l l′ 2 e v → (r x : ℕ) → r < 2 → x < 1024 → eqb (on l′ r x) 1 ≡ eqb (on l r x) 1
+beside-nets c r x kr k = ap (λ (z : ℕ). eqb z 1) (c .elsewhere r x k (λ q _. omega arith))
+
+-- the pins of a net are marked, and the net is put into row 2
+module _ (pins firsts sizes : List ℕ) {l l₁ l₂ : List ℕ} (e f s : ℕ) (qf : f ≡ getD firsts e 0) (qs : s ≡ getD sizes e 0) (a : Marked l l₁ (has pins f s)) (b : Changed l₁ l₂ 2 e 1) where
+  pub net-marked : Marked l l₂ (has pins (getD firsts e 0) (getD sizes e 0))
+  net-marked = marked-ext (has pins (getD firsts e 0) (getD sizes e 0)) (record {
+    len = b .len ∙ a .len;
+    moved = λ x k. beside-nets b 1 x (omega arith) k ∙ a .moved x k;
+    marks = λ x k. beside-nets b 0 x (omega arith) k ∙ a .marks x k;
+  }) (λ x k. ap₂ (λ (i j : ℕ). has pins i j x) qf qs)
+
+  pub net-covered : SameNets l l₁ → Covered l pins firsts sizes → Covered l₂ pins firsts sizes
+  net-covered n c = record { covers = λ e′ k o x kx q. ap₂ (λ (s t : Bool). s || t) (net-marked .marks x kx) (net-marked .moved x kx) ∙ law (has pins (getD firsts e 0) (getD sizes e 0) x) (candidateBit l x) (movedBit l x) ∙ go e′ k o x kx q (ℕ-discrete e′ e) }
+    where
+      law : (p c m : Bool) → ((c || (p && not m)) || m) ≡ ((c || m) || p)
+      law p true m = refl
+      law true false true = refl
+      law true false false = refl
+      law false false true = refl
+      law false false false = refl
+
+      go : (e′ : ℕ) → e′ < 1024 → on l₂ 2 e′ ≡ 1 → (x : ℕ) → x < 1024 → has pins (getD firsts e′ 0) (getD sizes e′ 0) x ≡ true → Dec (e′ ≡ e)
+          → ((candidateBit l x || movedBit l x) || has pins (getD firsts e 0) (getD sizes e 0) x) ≡ true
+      go e′ k o x kx q (yes d) =
+          ap (λ (p : Bool). (candidateBit l x || movedBit l x) || p) (ap (λ (i : ℕ). has pins (getD firsts i 0) (getD sizes i 0) x) (sym d) ∙ q)
+          ∙ sym (or-true (candidateBit l x || movedBit l x))
+      go e′ k o x kx q (no d) =
+          ap (λ (t : Bool). t || has pins (getD firsts e 0) (getD sizes e 0) x) (c .covers e′ k (sym (b .elsewhere 2 e′ k (λ _ r. d r) ∙ n .same e′ k) ∙ o) x kx q)
+
 -- ---- a vertex has moved
 
 -- u has moved, and is no candidate any more; those that pass a test have become candidates, except where they have moved
@@ -201,23 +270,41 @@ pub record Spread (l l′ : List ℕ) (u : ℕ) (p : ℕ → Bool) : Type 0 wher
   pub moved : (x : ℕ) → x < 1024 → movedBit l′ x ≡ (eqb u x || movedBit l x)
   pub marks : (x : ℕ) → x < 1024 → candidateBit l′ x ≡ ((candidateBit l x && not (eqb u x)) || (p x && not (eqb u x || movedBit l x)))
 
-pub spread-law : {l l₁ l₂ l₃ : List ℕ} {p : ℕ → Bool} (u : ℕ) → Changed l l₁ 0 u 0 → Changed l₁ l₂ 1 u 1 → Marked l₂ l₃ p → Spread l l₃ u p
-spread-law {l} {l₁} {l₂} {l₃} {p} u a b c = record {
-  len = c .len ∙ b .len ∙ a .len;
-  moved = λ x k. c .moved x k ∙ moved x k (ℕ-discrete u x);
-  marks = λ x k. c .marks x k ∙ ap₂ (λ (s t : Bool). s || (p x && not t)) (chosen x k (ℕ-discrete u x)) (moved x k (ℕ-discrete u x));
-}
-  where
-    moved : (x : ℕ) → x < 1024 → Dec (u ≡ x) → movedBit l₂ x ≡ (eqb u x || movedBit l x)
-    moved x k (yes q) = ap (movedBit l₂) (sym q) ∙ ap (λ (z : ℕ). eqb z 1) (b .here) ∙ sym (ap (λ (t : Bool). t || movedBit l x) (eq-eqb u x q))
-    moved x k (no q) =
-        ap (λ (z : ℕ). eqb z 1) (b .elsewhere 1 x k (λ _ r. q (sym r)) ∙ a .elsewhere 1 x k (λ r _. omega arith))
-        ∙ sym (ap (λ (t : Bool). t || movedBit l x) (ne-eqb u x q))
+-- u is taken out of the candidates, and put to those that have moved
+module _ {l l₁ l₂ : List ℕ} (u : ℕ) (a : Changed l l₁ 0 u 0) (b : Changed l₁ l₂ 1 u 1) where
+  moved-then : (x : ℕ) → x < 1024 → Dec (u ≡ x) → movedBit l₂ x ≡ (eqb u x || movedBit l x)
+  moved-then x k (yes q) = ap (movedBit l₂) (sym q) ∙ ap (λ (z : ℕ). eqb z 1) (b .here) ∙ sym (ap (λ (t : Bool). t || movedBit l x) (eq-eqb u x q))
+  moved-then x k (no q) =
+      ap (λ (z : ℕ). eqb z 1) (b .elsewhere 1 x k (λ _ r. q (sym r)) ∙ a .elsewhere 1 x k (λ r _. omega arith))
+      ∙ sym (ap (λ (t : Bool). t || movedBit l x) (ne-eqb u x q))
 
-    chosen : (x : ℕ) → x < 1024 → Dec (u ≡ x) → candidateBit l₂ x ≡ (candidateBit l x && not (eqb u x))
-    chosen x k (yes q) =
-        ap (λ (z : ℕ). eqb z 1) (b .elsewhere 0 x k (λ r _. omega arith) ∙ ap (on l₁ 0) (sym q) ∙ a .here)
-        ∙ sym (ap (λ (t : Bool). candidateBit l x && not t) (eq-eqb u x q) ∙ and-false (candidateBit l x))
-    chosen x k (no q) =
-        ap (λ (z : ℕ). eqb z 1) (b .elsewhere 0 x k (λ r _. omega arith) ∙ a .elsewhere 0 x k (λ _ r. q (sym r)))
-        ∙ sym (ap (λ (t : Bool). candidateBit l x && not t) (ne-eqb u x q) ∙ and-true (candidateBit l x))
+  chosen-then : (x : ℕ) → x < 1024 → Dec (u ≡ x) → candidateBit l₂ x ≡ (candidateBit l x && not (eqb u x))
+  chosen-then x k (yes q) =
+      ap (λ (z : ℕ). eqb z 1) (b .elsewhere 0 x k (λ r _. omega arith) ∙ ap (on l₁ 0) (sym q) ∙ a .here)
+      ∙ sym (ap (λ (t : Bool). candidateBit l x && not t) (eq-eqb u x q) ∙ and-false (candidateBit l x))
+  chosen-then x k (no q) =
+      ap (λ (z : ℕ). eqb z 1) (b .elsewhere 0 x k (λ r _. omega arith) ∙ a .elsewhere 0 x k (λ _ r. q (sym r)))
+      ∙ sym (ap (λ (t : Bool). candidateBit l x && not t) (ne-eqb u x q) ∙ and-true (candidateBit l x))
+
+  pub spread-law : {l₃ : List ℕ} {p : ℕ → Bool} → Marked l₂ l₃ p → Spread l l₃ u p
+  spread-law {p = p} c = record {
+    len = c .len ∙ b .len ∙ a .len;
+    moved = λ x k. c .moved x k ∙ moved-then x k (ℕ-discrete u x);
+    marks = λ x k. c .marks x k ∙ ap₂ (λ (s t : Bool). s || (p x && not t)) (chosen-then x k (ℕ-discrete u x)) (moved-then x k (ℕ-discrete u x));
+  }
+
+  pub covered-then : {pins firsts sizes : List ℕ} → Covered l pins firsts sizes → Covered l₂ pins firsts sizes
+  covered-then c = record {
+    covers = λ e k o x kx q.
+        ap₂ (λ (s t : Bool). s || t) (chosen-then x kx (ℕ-discrete u x)) (moved-then x kx (ℕ-discrete u x))
+        ∙ law (candidateBit l x) (movedBit l x) (eqb u x) (c .covers e k (sym (nets .same e k) ∙ o) x kx q);
+  }
+    where
+      nets : SameNets l l₂
+      nets = nets-then (nets-beside (omega arith) a) (nets-beside (omega arith) b)
+
+      law : (c m e : Bool) → (c || m) ≡ true → ((c && not e) || (e || m)) ≡ true
+      law true m true q = refl
+      law false m true q = refl
+      law true m false q = refl
+      law false m false q = q

@@ -7,7 +7,7 @@ use mathlib.Core.Path.{_≡_, refl, sym, ap, ap₂, _∙_, subst}
 use mathlib.Core.Bool.{Bool, true, false, not, _&&_, _||_, cond, and-true}
 use mathlib.Core.List.{List}
 use borrow.Author.Tests.{eq-eqb, ne-eqb, eqb-true, lt-ltb, le-ltb}
-use lib.Dec.{eqb, ltb}
+use lib.Dec.{ltb}
 use lib.IntN.{ℤ, pos}
 use lib.ListN.{length, getD, replicate, length-replicate}
 use lib.Signed.{ltZ}
@@ -15,14 +15,13 @@ use Rattle.laws.specs.Place.{place}
 use Rattle.model.specs.Catalogue.{Hypergraph, capacity}
 use Rattle.model.specs.Measure.{Contraction, above, onBoard}
 use Rattle.model.specs.Search.{Best, none, best, Polish, polishBest, polishTurn, polishOn, polish}
-use Rattle.incidence.specs.On.{on, on-blank}
 use Rattle.calls.specs.Tables.{Tables, Sound, Keeps}
 use Rattle.calls.specs.Move.{Open, CanGo, Went, on-board, own-block, in-range}
 use Rattle.choice.specs.declared.open.Pick.{Pick}
 use Rattle.choice.specs.declared.open.Pick.the-variants.{Move as Step, Nothing}
 use Rattle.choice.specs.Open.{bestOf, gainIn, openIn, Chosen}
 use Rattle.choice.specs.OpenLink.{polish-is}
-use Rattle.search.specs.Marks.{candidateBit, Marked}
+use Rattle.search.specs.Marks.{candidateBit, blank-bit, Marked}
 use Rattle.search.specs.Tabled.{holds, pair-open}
 use Rattle.search.specs.Keeping.{keeps-none, keeps-more}
 use Rattle.search.specs.Polishing.{sits, rise, riseOf, rise-open}
@@ -32,7 +31,7 @@ pub record PolishAt (h : Hypergraph) (cs : List Contraction) (q : Polish) (T : T
   pub sound : Sound h cs (q .block) T
   pub made-is : moves ≡ q .made
   pub board : (x : ℕ) → x < T .n → candidateBit marks x ≡ onBoard cs (x + 1)
-  pub marks-fit : length marks ≡ 32
+  pub marks-fit : length marks ≡ 48
 
 -- what one pass asks: a polish on its way, with `left` passes left at most. It has no use for the vertices above and for the loaded sizes
 pub record PassOk (T : List ℕ → List ℕ → Tables) (marks : List ℕ) (left moves : ℕ) : Type 0 where
@@ -181,9 +180,6 @@ pass-move {T} {T′} marks limit left moves x v b l qn c e d w = record {
 
 -- ---- the whole polish
 
-blank : (r x : ℕ) → eqb (on (replicate 32 0) r x) 1 ≡ false
-blank r x = ap (λ (z : ℕ). eqb z 1) (on-blank 32 r x)
-
 on-table : {h : Hypergraph} {cs : List Contraction} {block : ℕ → ℕ} {T : Tables} → Sound h cs block T → (x : ℕ) → x < T .n → ltb 0 (getD (T .blocks) x 0) ≡ onBoard cs (x + 1)
 on-table {cs = cs} {T = T} s x l = go (ℕ-discrete (above cs (x + 1)) 0)
   where
@@ -195,7 +191,7 @@ on-table {cs = cs} {T = T} s x l = go (ℕ-discrete (above cs (x + 1)) 0)
         off (yes z) = omega arith
         off (no z) = absurd (q (on-board s x l (omega (arith, z))))
 
-pub passing-none : (T : Tables) (limit : ℕ) {marks : List ℕ} → Marked (replicate 32 0) marks (sits (T .blocks) (T .n)) → Passing T marks limit T (T .total) 0
+pub passing-none : (T : Tables) (limit : ℕ) {marks : List ℕ} → Marked (replicate 48 0) marks (sits (T .blocks) (T .n)) → Passing T marks limit T (T .total) 0
 unfolding polish sits
 passing-none T limit {marks} m = record {
   is = λ h cs block lim s. record {
@@ -205,11 +201,11 @@ passing-none T limit {marks} m = record {
       made-is = refl;
       board = λ x l.
           m .marks x (omega (arith, s .follows .room .few-vertices))
-          ∙ ap₂ (λ (c d : Bool). c || ((ltb x (T .n) && ltb 0 (getD (T .blocks) x 0)) && not d)) (blank 0 x) (blank 1 x)
+          ∙ ap₂ (λ (c d : Bool). c || ((ltb x (T .n) && ltb 0 (getD (T .blocks) x 0)) && not d)) (blank-bit 0 x) (blank-bit 1 x)
           ∙ and-true (ltb x (T .n) && ltb 0 (getD (T .blocks) x 0))
           ∙ ap (λ (c : Bool). c && ltb 0 (getD (T .blocks) x 0)) (lt-ltb x (T .n) l)
           ∙ on-table s x l;
-      marks-fit = m .len ∙ length-replicate {A = ℕ} 32 0;
+      marks-fit = m .len ∙ length-replicate {A = ℕ} 48 0;
     };
     same = ap (λ (i : ℕ). polishOn h cs i (record { block = block; made = 0 })) (sym (s .total-is));
   };

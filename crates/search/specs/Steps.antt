@@ -16,7 +16,7 @@ use Rattle.calls.specs.Pairs.{journalOf}
 use Rattle.calls.specs.Tables.{Tables, tables, Sound, Keeps}
 use Rattle.calls.specs.Move.{Open}
 use Rattle.choice.specs.Open.{gainIn, openIn}
-use Rattle.search.specs.Marks.{candidateBit, movedBit}
+use Rattle.search.specs.Marks.{candidateBit, movedBit, Covered}
 use Rattle.search.specs.Back.{Backs}
 
 -- the tables in the order in which the functions take them; they take neither the vertices above nor the loaded sizes
@@ -40,13 +40,14 @@ pub record At (h : Hypergraph) (cs : List Contraction) (w : Walk) (T : Tables) (
   pub sound : Sound h cs (w .block) T
   pub chosen : (x : ℕ) → x < T .n → candidateBit (L .marks) x ≡ (w .candidate (x + 1) && not (moved h cs w (x + 1)) && onBoard cs (x + 1))
   pub spent : (x : ℕ) → x < T .n → movedBit (L .marks) x ≡ moved h cs w (x + 1)
+  pub covered : Covered (L .marks) (T .pins) (T .firsts) (T .sizes)
   pub journal-is : w .journal ≡ journalOf (L .vertices) (L .blocks) (L .tried)
   pub tried-is : L .tried ≡ w .tried
   pub kept-is : L .kept ≡ w .kept
   pub low-is : L .low ≡ w .lowest
   pub kept-to : L .kept ≤ L .tried
   pub backs : Backs h cs (w .block) (w .journal)
-  pub marks-fit : length (L .marks) ≡ 32
+  pub marks-fit : length (L .marks) ≡ 48
   pub vertices-fit : length (L .vertices) ≡ 1024
   pub blocks-fit : length (L .blocks) ≡ 1024
 

@@ -19,7 +19,7 @@ use Rattle.guarantees.specs.Walks.{moved}
 use Rattle.calls.specs.Pairs.{journalOf, Pushed, pairs-push}
 use Rattle.calls.specs.Tables.{Tables, Sound}
 use Rattle.calls.specs.Move.{Open, CanGo, Went, on-board, own-block, in-range}
-use Rattle.search.specs.Marks.{candidateBit, movedBit, near, NetsOk, Spread}
+use Rattle.search.specs.Marks.{candidateBit, movedBit, Covered, near, NetsOk, Spread}
 use Rattle.search.specs.Tabled.{near-is, near-on, nets-ok}
 use Rattle.search.specs.Back.{backs-more}
 use Rattle.search.specs.Steps.{Locals, locals, At, TakeOk}
@@ -72,6 +72,7 @@ module _ {h : Hypergraph} {cs : List Contraction} {w : Walk} {T T′ : Tables} {
     (qn : T′ .n ≡ T .n)
     (g : Went T T′ x b)
     (sp : Spread marks marks′ x (near (T .bits) (T .pins) (T .firsts) (T .sizes) x (T .m)))
+    (cov : Covered marks′ (T′ .pins) (T′ .firsts) (T′ .sizes))
     (p : Pushed vs bs tried v (getD (T .blocks) x 0) vs′ bs′ tried′)
     (ek : kept′ ≡ cond (ltb (T′ .total) low) tried′ kept)
     (el : low′ ≡ cond (ltb (T′ .total) low) (T′ .total) low) where
@@ -125,6 +126,7 @@ module _ {h : Hypergraph} {cs : List Contraction} {w : Walk} {T T′ : Tables} {
     sound = sound;
     chosen = λ y l. chosen y (omega arith);
     spent = λ y l. spent y (omega arith);
+    covered = cov;
     journal-is = journaled;
     tried-is = tries;
     kept-is = ek ∙ lower (sound .total-is) (A .low-is) tries (A .kept-is);

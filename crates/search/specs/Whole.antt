@@ -14,11 +14,10 @@ use Rattle.model.specs.Catalogue.{Hypergraph, vertices}
 use Rattle.model.specs.Measure.{Contraction, above, onBoard, metric}
 use Rattle.model.specs.Machine.{Move}
 use Rattle.model.specs.Search.{Walk, walkOn, walk, walked, reversed}
-use Rattle.incidence.specs.On.{on, on-blank}
 use Rattle.calls.specs.Pairs.{journalOf, pairs-none}
 use Rattle.calls.specs.Tables.{Tables, Sound}
 use Rattle.calls.specs.Move.{on-board}
-use Rattle.search.specs.Marks.{candidateBit, movedBit, Marked, marked-more}
+use Rattle.search.specs.Marks.{candidateBit, movedBit, blank-bit, Marked, marked-more, SameNets, nets-then, covered-none}
 use Rattle.search.specs.Keeping.{keeps-none, keeps-more}
 use Rattle.search.specs.Back.{Backs, backs-none, RewindOk, Rewinds}
 use Rattle.search.specs.Steps.{Locals, locals, At, TurnOk, Turned, WalkOk, Going, Ended, Walks}
@@ -46,10 +45,7 @@ eqb-up x y = go (ℕ-discrete x y)
     go (yes q) = eq-eqb x y q ∙ sym (eq-eqb (x + 1) (y + 1) (omega arith))
     go (no q) = ne-eqb x y q ∙ sym (ne-eqb (x + 1) (y + 1) (λ r. q (omega arith)))
 
-blank-bit : (r x : ℕ) → eqb (on (replicate 32 0) r x) 1 ≡ false
-blank-bit r x = ap (λ (z : ℕ). eqb z 1) (on-blank 32 r x)
-
-module _ {l l′ : List ℕ} (u v : ℕ) (a : Marked (replicate 32 0) l (λ y. eqb y u)) (b : Marked l l′ (λ y. eqb y v)) where
+module _ {l l′ : List ℕ} (u v : ℕ) (a : Marked (replicate 48 0) l (λ y. eqb y u)) (b : Marked l l′ (λ y. eqb y v)) (na : SameNets (replicate 48 0) l) (nb : SameNets l l′) where
   first-marks : (x : ℕ) → x < 1024 → candidateBit l′ x ≡ (eqb (x + 1) (u + 1) || eqb (x + 1) (v + 1))
   first-marks x k =
       marked-more a b .marks x k
@@ -71,13 +67,14 @@ module _ {l l′ : List ℕ} (u v : ℕ) (a : Marked (replicate 32 0) l (λ y. e
           ∙ two-on s u v u-in u-on v-in v-on x (eqb (x + 1) (u + 1) || eqb (x + 1) (v + 1)) refl
           ∙ ap (λ (t : Bool). t && onBoard cs (x + 1)) (sym (and-true (eqb (x + 1) (u + 1) || eqb (x + 1) (v + 1))));
       spent = λ x k. first-moved x (omega (arith, s .follows .room .few-vertices));
+      covered = covered-none (nets-then na nb);
       journal-is = sym (ap (journalOf vs bs) q ∙ pairs-none (λ v b. record { vertex = v; from = b }) vs bs);
       tried-is = q;
       kept-is = refl;
       low-is = s .total-is;
       kept-to = omega arith;
       backs = backs-none h cs block;
-      marks-fit = marked-more a b .len ∙ length-replicate {A = ℕ} 32 0;
+      marks-fit = marked-more a b .len ∙ length-replicate {A = ℕ} 48 0;
       vertices-fit = lv;
       blocks-fit = lb;
     }

@@ -37,8 +37,8 @@ fn above_zero(gain: i32) -> bool
 }
 
 // Makes `x`, of block `b`, a candidate if it is on the board.
-fn mark_placed(marks: &mut [u64; 32], x: usize, b: u16)
-    requires { ⌜ (length (now marks) ≡ 32) × (x < 1024) ⌝ }
+fn mark_placed(marks: &mut [u64; 48], x: usize, b: u16)
+    requires { ⌜ (length (now marks) ≡ 48) × (x < 1024) ⌝ }
     ensures { λ _. ⌜ Marked (now (marks .entry)) (now (marks .exit)) (placed x b) ⌝ }
 {
     if b == 0 {
@@ -48,8 +48,8 @@ fn mark_placed(marks: &mut [u64; 32], x: usize, b: u16)
 }
 
 // Makes the vertices on the board candidates.
-fn mark_board(marks: &mut [u64; 32], blocks: &[u16], n: usize)
-    requires { ⌜ (length (now marks) ≡ 32) × (n ≤ 1024) × (n ≤ length (now blocks)) ⌝ }
+fn mark_board(marks: &mut [u64; 48], blocks: &[u16], n: usize)
+    requires { ⌜ (length (now marks) ≡ 48) × (n ≤ 1024) × (n ≤ length (now blocks)) ⌝ }
     ensures { λ _. ⌜ Marked (now (marks .entry)) (now (marks .exit)) (sits (now (blocks .entry)) n) ⌝ }
 {
     let mut x: usize = 0;
@@ -102,7 +102,7 @@ fn pass(
     gains: &mut [i32],
     blocks: &mut [u16],
     loads: &mut [u64; 16],
-    marks: &[u64; 32],
+    marks: &[u64; 48],
     pins: &[u16],
     sizes: &[u16],
     bits: &[u64],
@@ -178,7 +178,7 @@ pub fn polish(
     ensures { λ r. ⌜ ((aboves loaded : List ℕ) → Polishes (lent (now (counts .entry)) (now (visited .entry)) (now (gains .entry)) (now (blocks .entry)) (now (loads .entry)) (now (pins .entry)) (now (sizes .entry)) (now (bits .entry)) (now (weights .entry)) (now (netweights .entry)) (now (firsts .entry)) n m k total aboves loaded) capacity
         (lent (now (counts .exit)) (now (visited .exit)) (now (gains .exit)) (now (blocks .exit)) (now (loads .exit)) (now (pins .exit)) (now (sizes .exit)) (now (bits .exit)) (now (weights .exit)) (now (netweights .exit)) (now (firsts .exit)) n m k (r .total) aboves loaded) (r .moves)) ⌝ }
 {
-    let mut marks = [0u64; 32];
+    let mut marks = [0u64; 48];
     mark_board(&mut marks, blocks, n);
     let mut p = Passes {
         left: total,

@@ -61,7 +61,7 @@ fn next_move(
     blocks: &[u16],
     weights: &[u32],
     loads: &[u64; 16],
-    marks: &[u64; 32],
+    marks: &[u64; 48],
     n: usize,
     k: usize,
     capacity: u64,
@@ -84,7 +84,7 @@ fn make_move(
     gains: &mut [i32],
     blocks: &mut [u16],
     loads: &mut [u64; 16],
-    marks: &mut [u64; 32],
+    marks: &mut [u64; 48],
     pins: &[u16],
     sizes: &[u16],
     bits: &[u64],
@@ -142,7 +142,7 @@ fn advance(
     gains: &mut [i32],
     blocks: &mut [u16],
     loads: &mut [u64; 16],
-    marks: &mut [u64; 32],
+    marks: &mut [u64; 48],
     pins: &[u16],
     sizes: &[u16],
     bits: &[u64],
@@ -279,7 +279,7 @@ pub fn walk(
     ensures { λ r. ⌜ ((aboves loaded : List ℕ) → Walks (lent (now (counts .entry)) (now (visited .entry)) (now (gains .entry)) (now (blocks .entry)) (now (loads .entry)) (now (pins .entry)) (now (sizes .entry)) (now (bits .entry)) (now (weights .entry)) (now (netweights .entry)) (now (firsts .entry)) n m k total aboves loaded) capacity u v
         (lent (now (counts .exit)) (now (visited .exit)) (now (gains .exit)) (now (blocks .exit)) (now (loads .exit)) (now (pins .exit)) (now (sizes .exit)) (now (bits .exit)) (now (weights .exit)) (now (netweights .exit)) (now (firsts .exit)) n m k (r .total) aboves loaded) (r .tried) (r .kept)) ⌝ }
 {
-    let mut marks = [0u64; 32];
+    let mut marks = [0u64; 48];
     mark_vertex(&mut marks, u);
     mark_vertex(&mut marks, v);
     let mut s = Steps {

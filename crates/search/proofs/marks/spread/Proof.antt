@@ -1,5 +1,5 @@
 use borrow.Author.Needs.{needs}
-use Rattle.search.specs.Marks.{spread-law}
+use Rattle.search.specs.Marks.{spread-law, covered-then}
 use Rattle.search.proofs.marks.spread.Statement.{statement}
 use Rattle.search.proofs.marks.spread.Tie as tie
 use Rattle.search.proofs.marks.spread.Reads as reads
@@ -15,10 +15,10 @@ put-requires : tie.Need-put-requires
 put-requires c κs = search needs
 
 mark-nets-requires : tie.Need-mark-nets-requires
-mark-nets-requires c κs = search needs
+mark-nets-requires c κs = search (needs, covered-then)
 
 returns : tie.Need-returns
-returns c = spread-law (c .before .before .before .before .before .before .before .before .before .before .args .u) (c .before .before .before .before .take .ensures) (c .before .before .put .ensures) (c .mark-nets .ensures)
+returns c = (spread-law (c .before .before .before .before .before .before .before .before .before .before .args .u) (c .before .before .before .before .take .ensures) (c .before .before .put .ensures) (c .mark-nets .ensures .0), c .mark-nets .ensures .1)
 
 pub spread-spec : {M : Type 1} → statement M
 spread-spec = tie.close (tie.spec take-requires put-requires mark-nets-requires returns)

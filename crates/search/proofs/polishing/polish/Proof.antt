@@ -22,7 +22,7 @@ abbrev μ-loop : tie.MeasureT-loop
 μ-loop counts₀ visited₀ gains₀ blocks₀ loads₀ pins sizes bits weights netweights firsts n m k capacity total marks p₀ counts visited gains blocks loads p = p .left
 
 mark-board-requires : tie.Need-mark-board-requires Inv-loop μ-loop
-mark-board-requires c κs = (length-replicate {A = ℕ} 32 0, c .before .before .before .before .before .before .before .before .before .before .before .pre .sound .follows .room .few-vertices, c .before .before .before .before .before .before .before .before .before .before .before .pre .sound .follows .world .lists .blocks-fit)
+mark-board-requires c κs = (length-replicate {A = ℕ} 48 0, c .before .before .before .before .before .before .before .before .before .before .before .pre .sound .follows .room .few-vertices, c .before .before .before .before .before .before .before .before .before .before .before .pre .sound .follows .world .lists .blocks-fit)
 
 loop-holds : tie.Need-loop-holds Inv-loop μ-loop
 loop-holds c = (omega arith, λ aboves loaded. passing-none _ _ (c .mark-board .ensures), refl, refl, refl, refl)

@@ -32,7 +32,7 @@ go-requires : tie.Need-go-requires
 go-requires c κs = take-goes (c .before .before .before .before .before .before .before .before .before .before .before .before .before .before .before .before .before .before .pre) (c .before .before .before .before .before .before .before .before .index .result - 1) (ap (λ (z : ℕ). z - 1) (c .before .before .before .before .before .before .before .before .index .ensures))
 
 spread-requires : tie.Need-spread-requires
-spread-requires c κs = (c .before .before .before .before .before .before .before .before .before .before .before .before .before .before .before .before .before .before .before .before .before .before .before .before .before .before .before .pre .at .marks-fit, omega (arith, c .before .before .before .before .before .before .before .before .before .before .before .before .before .before .before .before .before .before .before .before .before .before .before .before .before .before .before .pre .open-pair .u-in, c .before .before .before .before .before .before .before .before .before .before .before .before .before .before .before .before .before .before .before .before .before .before .before .before .before .before .before .pre .at .sound .follows .room .few-vertices, c .before .before .before .before .before .before .before .before .before .before .before .before .before .before .before .before .before .index .ensures), take-nets (c .before .before .before .before .before .before .before .before .before .before .before .before .before .before .before .before .before .before .before .before .before .before .before .before .before .before .before .pre) (c .before .before .before .before .before .before .before .before .before .before .before .before .before .before .before .before .before .index .result - 1) (ap (λ (z : ℕ). z - 1) (c .before .before .before .before .before .before .before .before .before .before .before .before .before .before .before .before .before .index .ensures)))
+spread-requires c κs = (c .before .before .before .before .before .before .before .before .before .before .before .before .before .before .before .before .before .before .before .before .before .before .before .before .before .before .before .pre .at .marks-fit, omega (arith, c .before .before .before .before .before .before .before .before .before .before .before .before .before .before .before .before .before .before .before .before .before .before .before .before .before .before .before .pre .open-pair .u-in, c .before .before .before .before .before .before .before .before .before .before .before .before .before .before .before .before .before .before .before .before .before .before .before .before .before .before .before .pre .at .sound .follows .room .few-vertices, c .before .before .before .before .before .before .before .before .before .before .before .before .before .before .before .before .before .index .ensures), take-nets (c .before .before .before .before .before .before .before .before .before .before .before .before .before .before .before .before .before .before .before .before .before .before .before .before .before .before .before .pre) (c .before .before .before .before .before .before .before .before .before .before .before .before .before .before .before .before .before .index .result - 1) (ap (λ (z : ℕ). z - 1) (c .before .before .before .before .before .before .before .before .before .before .before .before .before .before .before .before .before .index .ensures)), c .before .before .before .before .before .before .before .before .before .before .before .before .before .before .before .before .before .before .before .before .before .before .before .before .before .before .before .pre .at .covered)
 
 lower-requires : tie.Need-lower-requires
 lower-requires c κs = search needs
@@ -55,7 +55,7 @@ same-length-4 c = search needs
 returns : tie.Need-returns
 returns c =
     λ aboves loaded. record {
-      is = λ h cs w A. take-law (c .before .before .before .before .before .before .before .before .before .before .before .before .before .before .before .before .before .before .before .before .index .result - 1) A (take-open (c .before .before .before .before .before .before .before .before .before .before .before .before .before .before .before .before .before .before .before .before .before .before .before .before .before .before .before .before .before .before .pre) (c .before .before .before .before .before .before .before .before .before .before .before .before .before .before .before .before .before .before .before .before .index .result - 1) (ap (λ (z : ℕ). z - 1) (c .before .before .before .before .before .before .before .before .before .before .before .before .before .before .before .before .before .before .before .before .index .ensures))) (omega (arith, c .before .before .before .before .before .before .before .before .before .before .before .before .before .before .before .before .before .before .before .before .before .before .before .before .before .before .before .before .before .before .pre .v-from, c .before .before .before .before .before .before .before .before .before .before .before .before .before .before .before .before .before .before .before .before .index .ensures)) (omega (arith, c .before .before .before .before .before .before .before .before .before .before .before .before .before .before .before .before .before .before .before .before .before .before .before .before .before .before .before .before .before .before .pre .tried-to, c .before .before .before .before .before .before .before .before .before .before .before .before .before .before .before .before .before .before .before .before .before .before .before .before .before .before .before .before .before .before .pre .turn-to, c .before .before .before .before .before .before .before .before .before .before .before .before .before .before .before .before .before .before .before .before .before .before .before .before .before .before .before .before .before .before .pre .at .sound .follows .room .few-vertices)) refl (c .before .before .before .before .before .before .before .before .before .before .before .go .ensures aboves loaded) (c .before .before .spread .ensures) (c .before .before .before .before .before .before .before .before .before .before .before .before .before .before .before .before .before .push .ensures) (c .before .lower .ensures .0) (c .before .lower .ensures .1);
+      is = λ h cs w A. take-law (c .before .before .before .before .before .before .before .before .before .before .before .before .before .before .before .before .before .before .before .before .index .result - 1) A (take-open (c .before .before .before .before .before .before .before .before .before .before .before .before .before .before .before .before .before .before .before .before .before .before .before .before .before .before .before .before .before .before .pre) (c .before .before .before .before .before .before .before .before .before .before .before .before .before .before .before .before .before .before .before .before .index .result - 1) (ap (λ (z : ℕ). z - 1) (c .before .before .before .before .before .before .before .before .before .before .before .before .before .before .before .before .before .before .before .before .index .ensures))) (omega (arith, c .before .before .before .before .before .before .before .before .before .before .before .before .before .before .before .before .before .before .before .before .before .before .before .before .before .before .before .before .before .before .pre .v-from, c .before .before .before .before .before .before .before .before .before .before .before .before .before .before .before .before .before .before .before .before .index .ensures)) (omega (arith, c .before .before .before .before .before .before .before .before .before .before .before .before .before .before .before .before .before .before .before .before .before .before .before .before .before .before .before .before .before .before .pre .tried-to, c .before .before .before .before .before .before .before .before .before .before .before .before .before .before .before .before .before .before .before .before .before .before .before .before .before .before .before .before .before .before .pre .turn-to, c .before .before .before .before .before .before .before .before .before .before .before .before .before .before .before .before .before .before .before .before .before .before .before .before .before .before .before .before .before .before .pre .at .sound .follows .room .few-vertices)) refl (c .before .before .before .before .before .before .before .before .before .before .before .go .ensures aboves loaded) (c .before .before .spread .ensures .0) (c .before .before .spread .ensures .1) (c .before .before .before .before .before .before .before .before .before .before .before .before .before .before .before .before .before .push .ensures) (c .before .lower .ensures .0) (c .before .lower .ensures .1);
       turn-is = refl;
       tried-is = c .before .before .before .before .before .before .before .before .before .before .before .before .before .before .before .before .before .push .ensures .len-is;
       keeps = c .before .before .before .before .before .before .before .before .before .before .before .go .ensures aboves loaded .keeps;

@@ -25,16 +25,16 @@ abbrev μ-loop : tie.MeasureT-loop
 μ-loop counts₀ visited₀ gains₀ blocks₀ loads₀ pins sizes bits weights netweights firsts n m k capacity total u v marks₀ s₀ counts visited gains blocks loads marks s = n - s .turn
 
 mark-vertex-requires : tie.Need-mark-vertex-requires Inv-loop μ-loop
-mark-vertex-requires c κs = (length-replicate {A = ℕ} 32 0, omega (arith, c .before .before .before .before .before .before .before .before .before .before .pre .u-in, c .before .before .before .before .before .before .before .before .before .before .pre .sound .follows .room .few-vertices))
+mark-vertex-requires c κs = (length-replicate {A = ℕ} 48 0, omega (arith, c .before .before .before .before .before .before .before .before .before .before .pre .u-in, c .before .before .before .before .before .before .before .before .before .before .pre .sound .follows .room .few-vertices))
 
 mark-vertex-requires-2 : tie.Need-mark-vertex-requires-2 Inv-loop μ-loop
-mark-vertex-requires-2 c κs = (c .before .mark-vertex .ensures .len ∙ length-replicate {A = ℕ} 32 0, omega (arith, c .before .before .before .before .before .before .before .before .before .before .before .before .pre .v-in, c .before .before .before .before .before .before .before .before .before .before .before .before .pre .sound .follows .room .few-vertices))
+mark-vertex-requires-2 c κs = (c .before .mark-vertex .ensures .0 .len ∙ length-replicate {A = ℕ} 48 0, omega (arith, c .before .before .before .before .before .before .before .before .before .before .before .before .pre .v-in, c .before .before .before .before .before .before .before .before .before .before .before .before .pre .sound .follows .room .few-vertices))
 
 new-requires : tie.Need-new-requires Inv-loop μ-loop
 new-requires c κs = search needs
 
 loop-holds : tie.Need-loop-holds Inv-loop μ-loop
-loop-holds c = (omega arith, omega (arith, c .new .ensures .2), λ aboves loaded. going-none (c .before .before .before .before .before .before .before .before .before .before .before .before .before .before .args .u) (c .before .before .before .before .before .before .before .before .before .before .before .before .before .before .args .v) (c .before .before .before .mark-vertex .ensures) (c .before .mark-vertex2 .ensures) _ _ (c .before .before .before .before .before .before .before .before .before .before .before .before .before .before .pre .u-in) (c .before .before .before .before .before .before .before .before .before .before .before .before .before .before .pre .u-on) (c .before .before .before .before .before .before .before .before .before .before .before .before .before .before .pre .v-in) (c .before .before .before .before .before .before .before .before .before .before .before .before .before .before .pre .v-on) (c .new .ensures .0) (c .new .ensures .1) (c .new .ensures .2), refl, refl, refl, refl)
+loop-holds c = (omega arith, omega (arith, c .new .ensures .2), λ aboves loaded. going-none (c .before .before .before .before .before .before .before .before .before .before .before .before .before .before .args .u) (c .before .before .before .before .before .before .before .before .before .before .before .before .before .before .args .v) (c .before .before .before .mark-vertex .ensures .0) (c .before .mark-vertex2 .ensures .0) (c .before .before .before .mark-vertex .ensures .1) (c .before .mark-vertex2 .ensures .1) _ _ (c .before .before .before .before .before .before .before .before .before .before .before .before .before .before .pre .u-in) (c .before .before .before .before .before .before .before .before .before .before .before .before .before .before .pre .u-on) (c .before .before .before .before .before .before .before .before .before .before .before .before .before .before .pre .v-in) (c .before .before .before .before .before .before .before .before .before .before .before .before .before .before .pre .v-on) (c .new .ensures .0) (c .new .ensures .1) (c .new .ensures .2), refl, refl, refl, refl)
 
 advance-requires : tie.Need-advance-requires Inv-loop μ-loop
 advance-requires c κs = turn-asks (c .before .before .before .before .before .before .before .before .before .before .before .before .before .before .before .before .before .before .before .before .before .before .before .pre) (c .before .before .before .before .before .before .before .before .loop .inv .2) (c .before .before .before .before .before .before .if1 .taken) (c .before .before .before .before .before .before .before .before .loop .inv .1)
