@@ -1,6 +1,7 @@
 /* The proved splitter as C functions: a sale file in, its report and its tables out.
- * Link target/staticlib/libengine.a (`rt staticlib engine` writes it) for kapokdrill_run, and
- * target/staticlib/librecords.a (`rt staticlib records`) for kapokdrill_run_lots.
+ * Link target/staticlib/libengine.a (`rt staticlib engine` writes it) for kapokdrill_run and
+ * kapokdrill_list, and target/staticlib/librecords.a (`rt staticlib records`) for
+ * kapokdrill_run_lots.
  *
  * The functions keep nothing between calls, so calls on different memory may run at the same time.
  * Beside what they are lent they need some hundreds of kilobytes of stack and no heap. Lent memory
@@ -67,6 +68,44 @@ kapokdrill_result kapokdrill_run(
     /* By how much the total falls if the lot goes to the session; 0 at its own and off the board. */
     int32_t *gains, size_t gains_length,
     /* The sessions that a buyer visits: session s is bit s - 1 from the lowest. */
+    uint16_t *visited, size_t visited_length);
+
+/* The joins that stand: lot gone[i] was joined into lot into[i], the earliest first. */
+typedef struct {
+    uint16_t into[KAPOKDRILL_LOTS];
+    uint16_t gone[KAPOKDRILL_LOTS];
+    size_t depth;
+} kapokdrill_stack;
+
+typedef struct {
+    /* As in kapokdrill_result. The list is refused too, after 8 and before the file: 7 for more
+     * than 512 calls, 2 where it is not three numbers for each call with a call's letter first.
+     * Then nothing is touched. */
+    uint32_t code;
+    /* The bytes of `output` that hold the lines of the answers, or the line of a refused file. */
+    size_t written;
+    /* The total after the calls, and the joins that stand; 0 and none after a refusal. */
+    uint32_t total;
+    kapokdrill_stack stack;
+} kapokdrill_list_result;
+
+/* Reads a sale file and runs a list of calls on its catalogue: three numbers for each call, the
+ * letter's byte and two numbers, which are not looked at where the call has none. Calls that the
+ * file holds are read and do not run. The list need not fit into a file with the catalogue. */
+kapokdrill_list_result kapokdrill_list(
+    const uint8_t *file, size_t file_length,
+    const uint32_t *list, size_t list_length,
+    uint8_t *output, size_t output_length,
+    uint32_t *bales, size_t bales_length,
+    uint16_t *sessions, size_t sessions_length,
+    uint16_t *above, size_t above_length,
+    uint16_t *loaded_marks, size_t loaded_marks_length,
+    uint16_t *present_marks, size_t present_marks_length,
+    uint16_t *first_places, size_t first_places_length,
+    uint16_t *loaded_counts, size_t loaded_counts_length,
+    uint16_t *present_counts, size_t present_counts_length,
+    uint16_t *counts, size_t counts_length,
+    int32_t *gains, size_t gains_length,
     uint16_t *visited, size_t visited_length);
 
 /* A lot's record: what kapokdrill_run's tables of bales, sessions and lots above hold of a lot. */

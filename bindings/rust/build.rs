@@ -1,7 +1,7 @@
 use std::path::Path;
 
 // Links the archives that `rt staticlib engine` and `rt staticlib records` wrote to
-// target/staticlib: each exports one function.
+// target/staticlib.
 fn main() {
     let folder = Path::new(env!("CARGO_MANIFEST_DIR")).join("../../target/staticlib");
     println!("cargo:rustc-link-search=native={}", folder.display());

@@ -1,11 +1,13 @@
-//! The proved engine against the independent reference: report, return and every entry of every
-//! lent table, those that must keep what they held included. Rests on the bindings for the engine
-//! and on the reference, which works every entry out afresh.
+//! The proved engine against the independent reference: report or answers, return and every entry
+//! of every lent table, those that must keep what they held included. Rests on the bindings for the
+//! engine and on the reference, which works every entry out afresh.
 
-use kapokdrill::lent::{self, Lent, LentLots, Lot, Outcome, LOTS, MARKS, OUTPUT, ROWS};
+use kapokdrill::lent::{
+    self, Lent, LentLots, ListOutcome, Lot, Outcome, LOTS, MARKS, OUTPUT, ROWS,
+};
 use reference::generator::Random;
-use reference::tables::entry;
-use reference::{parse, report, run_calls, Sale};
+use reference::tables::{entry, Tables};
+use reference::{parse, report, run_calls, Call};
 
 /// Lent memory of lengths that the caller settles.
 #[derive(Clone, Debug, PartialEq, Eq)]
@@ -60,29 +62,31 @@ impl Memory {
     /// Runs the engine on this memory.
     pub fn run(&mut self, through: Entry, file: &[u8]) -> Outcome {
         match through {
-            Entry::Tables => self.run_tables(file),
+            Entry::Tables => lent::run(file, self.lent()),
             Entry::Records => self.run_records(file),
         }
     }
 
-    fn run_tables(&mut self, file: &[u8]) -> Outcome {
-        lent::run(
-            file,
-            Lent {
-                output: &mut self.output,
-                bales: &mut self.bales,
-                sessions: &mut self.sessions,
-                above: &mut self.above,
-                loaded_marks: &mut self.loaded_marks,
-                present_marks: &mut self.present_marks,
-                first_places: &mut self.first_places,
-                loaded_counts: &mut self.loaded_counts,
-                present_counts: &mut self.present_counts,
-                counts: &mut self.counts,
-                gains: &mut self.gains,
-                visited: &mut self.visited,
-            },
-        )
+    fn lent(&mut self) -> Lent<'_> {
+        Lent {
+            output: &mut self.output,
+            bales: &mut self.bales,
+            sessions: &mut self.sessions,
+            above: &mut self.above,
+            loaded_marks: &mut self.loaded_marks,
+            present_marks: &mut self.present_marks,
+            first_places: &mut self.first_places,
+            loaded_counts: &mut self.loaded_counts,
+            present_counts: &mut self.present_counts,
+            counts: &mut self.counts,
+            gains: &mut self.gains,
+            visited: &mut self.visited,
+        }
+    }
+
+    /// Runs a list of calls on the catalogue of a file, on this memory.
+    pub fn run_list(&mut self, file: &[u8], list: &[u32]) -> ListOutcome {
+        lent::run_list(file, list, self.lent())
     }
 
     /// As many records as the shortest of the lots' three tables has entries; they hold what the
@@ -119,12 +123,10 @@ impl Memory {
         outcome
     }
 
-    /// Puts in what the reference says that an accepted sale leaves; all else stays. What is free
-    /// in the present marks is taken from `found`, the marks of each set apart: nothing comes back
-    /// if these are not the reference's.
-    fn finish(&mut self, sale: &Sale, found: &Memory) -> Option<Vec<u8>> {
-        let end = run_calls(&sale.catalogue, &sale.calls);
-        let tables = &end.tables;
+    /// Puts in what the reference says that the tables hold; all else stays. What is free in the
+    /// present marks is taken from `found`, the marks of each set apart, and an error says that
+    /// these are not the reference's.
+    fn finish(&mut self, tables: &Tables, found: &Memory) -> Result<(), String> {
         for (i, lot) in tables.lots.iter().enumerate() {
             self.bales[i] = lot.bales as u32;
             self.sessions[i] = lot.session as u16;
@@ -150,15 +152,22 @@ impl Memory {
             present.sort_unstable();
             let wanted = tables.present_marks[i].iter().map(|&mark| mark as u16);
             if !wanted.eq(present) {
-                return None;
+                return Err("the sets of present marks".into());
             }
             self.present_marks[stretch].copy_from_slice(free);
         }
-        Some(end.report)
+        Ok(())
     }
 
-    /// The first table that differs.
-    fn difference(&self, other: &Memory) -> Option<&'static str> {
+    /// After a refused file the tables are free, so they are taken from `found`; the output is not.
+    fn free_tables(&mut self, found: &Memory) {
+        let output = std::mem::take(&mut self.output);
+        *self = found.clone();
+        self.output = output;
+    }
+
+    /// An error names the first table that differs.
+    fn same_as(&self, other: &Memory) -> Result<(), String> {
         let tables = [
             ("output", self.output == other.output),
             ("bales", self.bales == other.bales),
@@ -176,12 +185,15 @@ impl Memory {
             ("gains", self.gains == other.gains),
             ("visited", self.visited == other.visited),
         ];
-        tables.iter().find(|(_, same)| !same).map(|&(name, _)| name)
+        match tables.iter().find(|(_, same)| !same) {
+            Some(&(name, _)) => Err(name.into()),
+            None => Ok(()),
+        }
     }
 }
 
-/// Runs a file on memory of random bytes through an entry and compares all with the reference: the return, or what
-/// differs.
+/// Runs a file on memory of random bytes through an entry and compares all with the reference:
+/// the return, or what differs.
 pub fn compare(through: Entry, file: &[u8], random: &mut Random) -> Result<u32, String> {
     let before = Memory::noise(random);
     let mut found = before.clone();
@@ -190,14 +202,12 @@ pub fn compare(through: Entry, file: &[u8], random: &mut Random) -> Result<u32, 
     let mut wanted = before;
     let (code, text) = match parse(file) {
         Ok(sale) => {
-            let text = wanted.finish(&sale, &found);
-            (0, text.ok_or("the sets of present marks")?)
+            let end = run_calls(&sale.catalogue, &sale.calls);
+            wanted.finish(&end.tables, &found)?;
+            (0, end.report)
         }
         Err(refusal) => {
-            // The tables are free then; the output is not.
-            let output = wanted.output;
-            wanted = found.clone();
-            wanted.output = output;
+            wanted.free_tables(&found);
             (refusal.number, report::refused_file(&refusal).into_bytes())
         }
     };
@@ -206,10 +216,84 @@ pub fn compare(through: Entry, file: &[u8], random: &mut Random) -> Result<u32, 
         return Err(format!("{outcome:?}, not {code} and {written}"));
     }
     wanted.output[..written].copy_from_slice(&text);
-    match found.difference(&wanted) {
-        Some(table) => Err(table.into()),
-        None => Ok(code),
+    found.same_as(&wanted)?;
+    Ok(code)
+}
+
+/// The calls of a list, three numbers each; the refusal's number where they are none.
+fn calls_of(list: &[u32]) -> Result<Vec<Call>, u32> {
+    if list.len() > 3 * 512 {
+        return Err(7);
     }
+    let call = |numbers: &[u32]| {
+        let &[letter, x, y] = numbers else {
+            return Err(2);
+        };
+        let (x, y) = (x.into(), y.into());
+        match u8::try_from(letter) {
+            Ok(b'J') => Ok(Call::J { u: x, v: y }),
+            Ok(b'S') => Ok(Call::S),
+            Ok(b'M') => Ok(Call::M { u: x, t: y }),
+            Ok(b'B') => Ok(Call::B),
+            Ok(b'W') => Ok(Call::W { u: x, v: y }),
+            Ok(b'P') => Ok(Call::P),
+            Ok(b'A') => Ok(Call::A),
+            _ => Err(2),
+        }
+    };
+    list.chunks(3).map(call).collect()
+}
+
+/// What a list of calls should give: the code, the text, the total and the joins.
+type Answered = (u32, Vec<u8>, u64, Vec<(usize, usize)>);
+
+/// Runs a list of calls on the catalogue of a file, on memory of random bytes, and compares all
+/// with the reference: the return, or what differs.
+pub fn compare_list(file: &[u8], list: &[u32], random: &mut Random) -> Result<u32, String> {
+    let before = Memory::noise(random);
+    let mut found = before.clone();
+    let outcome = found.run_list(file, list);
+
+    let mut wanted = before;
+    let (code, text, total, joins): Answered = match (calls_of(list), parse(file)) {
+        (Err(code), _) => (code, Vec::new(), 0, Vec::new()),
+        (Ok(calls), Ok(sale)) => {
+            let end = run_calls(&sale.catalogue, &calls);
+            wanted.finish(&end.tables, &found)?;
+            let mut lines = end.report.split_inclusive(|&byte| byte == b'\n');
+            let answers = lines
+                .by_ref()
+                .take(calls.len())
+                .flatten()
+                .copied()
+                .collect();
+            let closing = lines.next().expect("the line of the totals");
+            (0, answers, last_number(closing), end.joins)
+        }
+        (Ok(_), Err(refusal)) => {
+            wanted.free_tables(&found);
+            let line = report::refused_file(&refusal).into_bytes();
+            (refusal.number, line, 0, Vec::new())
+        }
+    };
+    let returned = (outcome.code, outcome.written, u64::from(outcome.total));
+    if returned != (code, text.len(), total) {
+        return Err(format!("{returned:?}, not {code}, {}, {total}", text.len()));
+    }
+    let stack = outcome.stack.joins();
+    if !stack.eq(joins.iter().map(|&(u, v)| (u as u16, v as u16))) {
+        return Err("the stack".into());
+    }
+    wanted.output[..text.len()].copy_from_slice(&text);
+    found.same_as(&wanted)?;
+    Ok(code)
+}
+
+/// The last field of a line.
+fn last_number(line: &[u8]) -> u64 {
+    let text = std::str::from_utf8(line).expect("a line is text");
+    let field = text.trim_end().rsplit(',').next().expect("a field");
+    field.parse().expect("a number")
 }
 
 /// The sale files of the folder `sales`, with their names.

@@ -1,13 +1,13 @@
 //! The proved engine against the reference on sales on file, generated ones, damaged ones and
-//! random bytes; then on short memory. The lots are lent as tables, and as records with every sale
-//! on file and every fourth of the others. The environment's SEED, a number, gives other sales
-//! than the usual ones.
+//! random bytes; on lists of calls apart from their catalogue; then on short memory. The lots are
+//! lent as tables, and as records with every sale on file and every fourth of the others. The
+//! environment's SEED, a number, gives other sales than the usual ones.
 
-use compare::{compare, sales_on_file, Entry, Memory};
+use compare::{compare, compare_list, sales_on_file, Entry, Memory};
 use kapokdrill::lent::{Outcome, LOTS, MARKS, OUTPUT, ROWS};
 use reference::catalogue::{Buyer, Lot};
 use reference::generator::{calls, damaged, sale, sale_of_kind, write_sale, Kind, Random};
-use reference::{Catalogue, Sale};
+use reference::{parse, Call, Catalogue, Sale};
 
 fn seed() -> u64 {
     match std::env::var("SEED") {
@@ -131,6 +131,61 @@ fn full_tables_agree() {
     assert_eq!(returns[0], 2);
 }
 
+/// A list of calls for the catalogue of a file, now and then one that is refused.
+fn list(seed: u64, file: &[u8]) -> Vec<u32> {
+    let mut random = Random::new(seed);
+    let count = if random.in_hundred(2) {
+        512
+    } else {
+        random.between(0, 24) as usize
+    };
+    let calls = match parse(file) {
+        Ok(sale) => calls(seed, &sale.catalogue, count),
+        Err(_) => vec![Call::A; count],
+    };
+    let mut numbers = Vec::new();
+    for call in calls {
+        let (letter, x, y) = match call {
+            Call::J { u, v } => (b'J', u, v),
+            Call::S => (b'S', random.bits(), random.bits()),
+            Call::M { u, t } => (b'M', u, t),
+            Call::B => (b'B', random.bits(), random.bits()),
+            Call::W { u, v } => (b'W', u, v),
+            Call::P => (b'P', random.bits(), random.bits()),
+            Call::A => (b'A', random.bits(), random.bits()),
+        };
+        numbers.extend([letter.into(), x as u32, y as u32]);
+    }
+    match random.between(0, 19) {
+        0 => numbers.push(b'A'.into()),
+        1 => numbers.extend([random.bits() as u32, 1, 2]),
+        2 => numbers.resize(3 * 513, b'A'.into()),
+        _ => {}
+    }
+    numbers
+}
+
+#[test]
+fn lists_apart_from_their_catalogue_agree() {
+    let mut returns = [0; 8];
+    let first = seed() * 1_000_000;
+    for seed in first..first + 4_000 {
+        let file = if seed % 8 == 0 {
+            damaged(seed)
+        } else {
+            sale(seed)
+        };
+        match compare_list(&file, &list(seed, &file), &mut Random::new(seed)) {
+            Ok(code) => returns[code as usize] += 1,
+            Err(what) => panic!("list, seed {seed}: {what}"),
+        }
+    }
+    assert!(returns[0] > 2_000);
+    for code in [2, 3, 7] {
+        assert!(returns[code] > 0, "no list gave {code}");
+    }
+}
+
 /// The entries that a piece of lent memory must have, and how it is cut to fewer.
 type Cut = (usize, fn(&mut Memory, usize));
 
@@ -171,6 +226,10 @@ fn short_memory_is_told_first_and_nothing_is_touched() {
                     assert_eq!(memory.run(through, file), told);
                     assert!(memory == before, "8 touched something");
                 }
+                let list = memory.run_list(file, &[b'X'.into()]);
+                assert_eq!((list.code, list.written, list.total), (8, 0, 0));
+                assert_eq!(list.stack.joins().count(), 0);
+                assert!(memory == before, "8 touched something");
             }
         }
     }

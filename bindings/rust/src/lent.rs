@@ -1,6 +1,7 @@
 //! The engine over memory of the caller's, the lots as three tables (`run`) or as records
-//! (`run_lots`). Every slice crosses with its own length, and the engine tests the lengths, so no
-//! call of these functions can be wrong.
+//! (`run_lots`), and with a list of calls apart from the catalogue (`run_list`). Every slice
+//! crosses with its own length, and the engine tests the lengths, so no call of these functions
+//! can be wrong.
 
 /// Bytes that the output must have.
 pub const OUTPUT: usize = 60_000;
@@ -59,6 +60,34 @@ pub struct Outcome {
     pub written: usize,
 }
 
+/// The joins that stand after a list of calls.
+#[repr(C)]
+#[derive(Clone, Debug)]
+pub struct Stack {
+    into: [u16; LOTS],
+    gone: [u16; LOTS],
+    depth: usize,
+}
+
+impl Stack {
+    /// Each join as the lot on the board and the lot that went into it, the earliest first.
+    pub fn joins(&self) -> impl Iterator<Item = (u16, u16)> + '_ {
+        let pairs = self.into.iter().zip(&self.gone);
+        pairs.take(self.depth).map(|(&into, &gone)| (into, gone))
+    }
+}
+
+/// What a list of calls gives: 0 or the refusal's number, how many bytes of the output hold the
+/// lines of its answers, and the total and the joins at its end; 0 and none after a refusal.
+#[repr(C)]
+#[derive(Clone, Debug)]
+pub struct ListOutcome {
+    pub code: u32,
+    pub written: usize,
+    pub total: u32,
+    pub stack: Stack,
+}
+
 // A slice is passed as its pointer and its number of entries; `bindings/kapokdrill.h` says the
 // same for C.
 extern "C" {
@@ -115,6 +144,37 @@ extern "C" {
         visited: *mut u16,
         visited_length: usize,
     ) -> Outcome;
+
+    fn kapokdrill_list(
+        file: *const u8,
+        file_length: usize,
+        list: *const u32,
+        list_length: usize,
+        output: *mut u8,
+        output_length: usize,
+        bales: *mut u32,
+        bales_length: usize,
+        sessions: *mut u16,
+        sessions_length: usize,
+        above: *mut u16,
+        above_length: usize,
+        loaded_marks: *mut u16,
+        loaded_marks_length: usize,
+        present_marks: *mut u16,
+        present_marks_length: usize,
+        first_places: *mut u16,
+        first_places_length: usize,
+        loaded_counts: *mut u16,
+        loaded_counts_length: usize,
+        present_counts: *mut u16,
+        present_counts_length: usize,
+        counts: *mut u16,
+        counts_length: usize,
+        gains: *mut i32,
+        gains_length: usize,
+        visited: *mut u16,
+        visited_length: usize,
+    ) -> ListOutcome;
 }
 
 /// Reads a sale file, runs its calls and writes the report, on slices of any length.
@@ -164,6 +224,45 @@ pub fn run_lots(file: &[u8], lent: LentLots<'_>) -> Outcome {
             lent.lots.len(),
             lent.output.as_mut_ptr(),
             lent.output.len(),
+            lent.loaded_marks.as_mut_ptr(),
+            lent.loaded_marks.len(),
+            lent.present_marks.as_mut_ptr(),
+            lent.present_marks.len(),
+            lent.first_places.as_mut_ptr(),
+            lent.first_places.len(),
+            lent.loaded_counts.as_mut_ptr(),
+            lent.loaded_counts.len(),
+            lent.present_counts.as_mut_ptr(),
+            lent.present_counts.len(),
+            lent.counts.as_mut_ptr(),
+            lent.counts.len(),
+            lent.gains.as_mut_ptr(),
+            lent.gains.len(),
+            lent.visited.as_mut_ptr(),
+            lent.visited.len(),
+        )
+    }
+}
+
+/// Runs a list of calls on the catalogue of a sale file, whose own calls are read and do not run:
+/// three numbers for each call, the letter's byte and two numbers. A list of more than 512 calls is
+/// refused as 7, one that is not made of such threes as 2.
+pub fn run_list(file: &[u8], list: &[u32], lent: Lent<'_>) -> ListOutcome {
+    // SAFETY: as in `run`; `ListOutcome` has the fields and the layout of the engine's own.
+    unsafe {
+        kapokdrill_list(
+            file.as_ptr(),
+            file.len(),
+            list.as_ptr(),
+            list.len(),
+            lent.output.as_mut_ptr(),
+            lent.output.len(),
+            lent.bales.as_mut_ptr(),
+            lent.bales.len(),
+            lent.sessions.as_mut_ptr(),
+            lent.sessions.len(),
+            lent.above.as_mut_ptr(),
+            lent.above.len(),
             lent.loaded_marks.as_mut_ptr(),
             lent.loaded_marks.len(),
             lent.present_marks.as_mut_ptr(),

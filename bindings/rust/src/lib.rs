@@ -3,7 +3,7 @@
 
 pub mod lent;
 
-use lent::{Lent, LOTS, MARKS, OUTPUT, ROWS};
+use lent::{Lent, ListOutcome, LOTS, MARKS, OUTPUT, ROWS};
 
 /// The lent output and tables of document 01, used again by every run and never cleared. Lots,
 /// buyers and sessions count from 1. After a run with code 0 the entries of the sale's own lots
@@ -46,24 +46,33 @@ impl Memory {
     /// Reads a sale file, runs its calls and writes the report. The code is 0, or 1 to 7 for a
     /// file turned down, whose report is one line.
     pub fn run(&mut self, file: &[u8]) -> (u32, &[u8]) {
-        let outcome = lent::run(
-            file,
-            Lent {
-                output: &mut self.output,
-                bales: &mut self.bales,
-                sessions: &mut self.sessions,
-                above: &mut self.above,
-                loaded_marks: &mut self.loaded_marks,
-                present_marks: &mut self.present_marks,
-                first_places: &mut self.first_places,
-                loaded_counts: &mut self.loaded_counts,
-                present_counts: &mut self.present_counts,
-                counts: &mut self.counts,
-                gains: &mut self.gains,
-                visited: &mut self.visited,
-            },
-        );
+        let outcome = lent::run(file, self.lent());
         (outcome.code, &self.output[..outcome.written])
+    }
+
+    /// Runs a list of calls, as `lent::run_list` takes it, on the catalogue of a sale file, and
+    /// writes the lines of their answers.
+    pub fn run_list(&mut self, file: &[u8], list: &[u32]) -> (ListOutcome, &[u8]) {
+        let outcome = lent::run_list(file, list, self.lent());
+        let written = outcome.written;
+        (outcome, &self.output[..written])
+    }
+
+    fn lent(&mut self) -> Lent<'_> {
+        Lent {
+            output: &mut self.output,
+            bales: &mut self.bales,
+            sessions: &mut self.sessions,
+            above: &mut self.above,
+            loaded_marks: &mut self.loaded_marks,
+            present_marks: &mut self.present_marks,
+            first_places: &mut self.first_places,
+            loaded_counts: &mut self.loaded_counts,
+            present_counts: &mut self.present_counts,
+            counts: &mut self.counts,
+            gains: &mut self.gains,
+            visited: &mut self.visited,
+        }
     }
 
     /// The bales of each lot: off the board, those it had when it was joined.

@@ -65,6 +65,38 @@ fn tables_of_the_worked_sale_with_one_join() {
 }
 
 #[test]
+fn the_worked_sale_with_its_calls_apart() {
+    let sale = on_file("worked-sale.sale");
+    let report = on_file("worked-sale.report");
+    let mut memory = Memory::default();
+    let list = [
+        (b'J', 2, 5),
+        (b'M', 2, 2),
+        (b'S', 0, 0),
+        (b'B', 0, 0),
+        (b'A', 0, 0),
+    ];
+    let list: Vec<u32> = list
+        .iter()
+        .flat_map(|&(c, x, y)| [c.into(), x, y])
+        .collect();
+    let (outcome, answers) = memory.run_list(&sale, &list);
+    assert_eq!(outcome.code, 0);
+    assert_eq!(outcome.stack.joins().count(), 0);
+    assert!(report.starts_with(answers));
+    let rest = &report[answers.len()..];
+    assert!(rest.starts_with(b"TOTAL,"));
+
+    let (outcome, answers) = memory.run_list(&sale, &list[..3]);
+    assert_eq!(outcome.stack.joins().collect::<Vec<_>>(), [(2, 5)]);
+    assert_eq!(answers, b"J,20\n");
+    assert_eq!(outcome.total, 3);
+
+    let (outcome, answers) = memory.run_list(&sale, &[b'X'.into(), 0, 0]);
+    assert_eq!((outcome.code, answers), (2, &b""[..]));
+}
+
+#[test]
 fn records_of_the_worked_sale_with_one_join() {
     let lot = |bales, session, above| Lot {
         bales,

@@ -5,6 +5,7 @@ ghost use lib.ListN.{length};
 ghost use Rattle.calls.specs.Pairs.{Pushed};
 
 // The joins that stand, the latest last: `gone[i]` was contracted into `into[i]`.
+#[repr(C)]
 pub struct Stack {
     pub into: [u16; 1024],
     pub gone: [u16; 1024],

@@ -26,7 +26,8 @@ fn refused_list(code: u32) -> ListRan
 }
 
 // A catalogue and a list of at most 512 calls, on lent memory.
-pub fn kapokdrill_list(
+#[no_mangle]
+pub extern "C" fn kapokdrill_list(
     file: &[u8],
     list: &[u32],
     output: &mut [u8],

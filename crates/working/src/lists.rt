@@ -18,6 +18,7 @@ use selling::closing::refuse;
 use selling::sell;
 
 // 0 or the number of the refusal, the bytes written, the metric at the end, and the contractions that stand.
+#[repr(C)]
 pub struct ListRan {
     pub code: u32,
     pub written: usize,
