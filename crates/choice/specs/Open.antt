@@ -1,16 +1,17 @@
--- The best open pair as the tables have it: what is open, what it is worth, and the answer read as model's. Rests on model's Search and on
--- incidence's rows of bits. Assumes nothing.
+-- The best open pair as the tables have it: what is open, what it is worth, the best of the pairs seen and the answer read as model's. Rests
+-- on model's Search and on incidence's rows of bits. Assumes nothing.
 use mathlib.Core.Path.{_≡_}
 use mathlib.Core.List.{List}
 use mathlib.Core.Bool.{Bool, true, not, _&&_, cond}
-use Prim.Native.Nat.{ℕ, _+_, _-_, _*_, _≤_, _<_}
+use Prim.Native.Nat.{ℕ, zero, suc, _+_, _-_, _*_, _/_, _%_, _^_, _≤_, _<_}
 use lib.Dec.{leb, eqb}
 use lib.ListN.{getD}
 use lib.IntN.{ℤ, pos}
-use lib.Signed.{ltZ}
+use lib.Signed.{mag, ltZ}
 use Rattle.incidence.specs.On.{on}
 use Rattle.laws.specs.Sum.{foldTo}
 use Rattle.model.specs.Search.{Best, none, best, better}
+use Rattle.choice.specs.declared.open.Lead.{Lead}
 use Rattle.choice.specs.declared.open.Pick.{Pick}
 use Rattle.choice.specs.declared.open.Pick.the-variants.{Move, Nothing}
 
@@ -45,22 +46,38 @@ abbrev pub openIn : (candidates blocks weights loads : List ℕ) (capacity : ℕ
 openIn candidates blocks weights loads capacity v b =
     isCandidate candidates v && mayGo (getD loads (b - 1) 0) (getD blocks (v - 1) 0) (getD weights (v - 1) 0) capacity b
 
--- a pair is worth more than the best of those before it, or there is none
-abbrev pub exceeds : (ℕ → ℕ → ℤ) → ℕ → ℕ → Pick → Bool
-exceeds worth v b Nothing = true
-exceeds worth v b (Move x y) = ltZ (worth x y) (worth v b)
-
 -- one more pair, where it may be taken
-unfoldable pub considered : (ℕ → ℕ → ℤ) → Bool → ℕ → ℕ → Best → Best
-considered worth may v b before = cond may (better before v b (worth v b)) before
+unfoldable pub considered : Bool → ℕ → ℕ → ℤ → Best → Best
+considered may v b gain before = cond may (better before v b gain) before
 
 -- the best of `before` and the pairs of vertex v with the blocks 1..k, of which it may go to some
 unfoldable pub bestInRow : (ℕ → ℕ → ℤ) → (ℕ → Bool) → ℕ → ℕ → Best → Best
-bestInRow worth may v k before = foldTo k (λ c b. considered worth (may b) v b c) before
+bestInRow worth may v k before = foldTo k (λ c b. considered (may b) v b (worth v b) c) before
 
 -- the best of the pairs of the vertices 1..i with the blocks 1..k
 unfoldable pub bestTo : (ℕ → ℕ → Bool) → (ℕ → ℕ → ℤ) → ℕ → ℕ → Best
 bestTo may worth k i = foldTo i (λ c v. bestInRow worth (may v) v k c) none
+
+-- the pair at a place of the table of gains, counted from 1; none at 0
+abbrev pub vertexAt : ℕ → ℕ
+vertexAt at = (at - 1) / 16 + 1
+
+abbrev pub blockAt : ℕ → ℕ
+blockAt at = (at - 1) % 16 + 1
+
+abbrev pub pairAt : ℕ → Pick
+pairAt zero = Nothing
+pairAt (suc x) = Move (vertexAt (suc x)) (blockAt (suc x))
+
+-- the best pair so far, by its place and its gain, as model has it
+abbrev pub leadOf : ℕ → ℤ → Best
+leadOf zero top = none
+leadOf (suc x) top = best (vertexAt (suc x)) (blockAt (suc x)) top
+
+-- the lead is that best pair; where there is none, its gain is below every gain that a table holds
+pub record Leads (lead : Lead) (is : Best) : Type 0 where
+  pub same : leadOf (lead .at) (lead .top) ≡ is
+  pub below : lead .at ≡ 0 → (gain : ℤ) → mag gain < 2 ^ 31 → ltZ (lead .top) gain ≡ true
 
 -- the answer is worth what it should be, and is in range
 pub record Chosen (worth : ℕ → ℕ → ℤ) (n k : ℕ) (r : Pick) (is : Best) : Type 0 where
@@ -69,28 +86,15 @@ pub record Chosen (worth : ℕ → ℕ → ℤ) (n k : ℕ) (r : Pick) (is : Bes
 
 -- ---- what the functions ask of the tables' lengths and of the numbers
 
-pub record PairOk (gains v b : ℕ) (before : Pick) : Type 0 where
-  pub v-from : 1 ≤ v
-  pub v-to : v ≤ 1024
-  pub b-from : 1 ≤ b
-  pub b-to : b ≤ 16
-  pub in-gains : 16 * v ≤ gains
-  pub before-in : PickIn v 16 before
-
-pub record RowOk (gains v k : ℕ) (before : Pick) : Type 0 where
-  pub v-from : 1 ≤ v
-  pub v-to : v ≤ 1024
-  pub k-to : k ≤ 16
-  pub in-gains : 16 * v ≤ gains
-  pub before-in : PickIn v 16 before
-
-pub record VertexOk (gains blocks weights i k : ℕ) (before : Pick) : Type 0 where
+pub record RowOk (gains i k : ℕ) : Type 0 where
   pub i-to : i < 1024
   pub k-to : k ≤ 16
   pub in-gains : 16 * (i + 1) ≤ gains
+
+pub record VertexOk (gains blocks weights i k : ℕ) : Type 0 where
+  pub row : RowOk gains i k
   pub in-blocks : i < blocks
   pub in-weights : i < weights
-  pub before-in : PickIn i 16 before
 
 pub record SearchOk (gains blocks weights candidates n k : ℕ) : Type 0 where
   pub n-to : n ≤ 1024

@@ -2,27 +2,25 @@
 -- Assumes nothing.
 use mathlib.Core.Path.{_≡_, refl, sym, ap, _∙_, subst}
 use mathlib.Core.List.{List}
-use mathlib.Core.Bool.{Bool, true, false, _&&_, true≢false}
-use Prim.Native.Nat.{ℕ, _+_, _-_, _≤_, _<_, _^_}
+use mathlib.Core.Bool.{Bool, true, false, not, _&&_, cond, and-false, true≢false}
+use Prim.Native.Nat.{ℕ, zero, suc, _+_, _-_, _*_, _^_, _≤_, _<_}
 use native.Mathlib.Omega.{arith}
 use lib.Dec.{leb, eqb}
 use lib.ListN.{getD}
-use lib.IntN.{ℤ}
-use lib.Signed.{ltZ, mag}
-use mir.Syntax.{w32}
-use mir.Val.{ofZ, toZ}
-use borrow.Author.Tests.{le-leb, lt-leb, leb-true, leb-false, eq-eqb, ne-eqb}
-use Rattle.laws.specs.Integer.{read32}
+use lib.IntN.{ℤ, pos, negsuc}
+use lib.Signed.{mag, ltZ}
+use mir.Syntax.{w32, w64}
+use mir.Val.{SFits, ofZ, toZ}
+use mir.Facts.{toZ-ofZ}
+use borrow.Author.Tests.{lt-ltb, le-leb, lt-leb, leb-true, leb-false, eq-eqb, ne-eqb}
 use Rattle.laws.specs.Sum.{foldTo-zero, foldTo-step, foldTo-skip}
 use Rattle.model.specs.Search.{Best, none, best, better, consider, bestPair}
 use Rattle.guarantees.specs.Tops.{Top, best-top}
 use Rattle.incidence.specs.On.{on, Next}
+use Rattle.choice.specs.declared.open.Lead.{Lead}
 use Rattle.choice.specs.declared.open.Pick.{Pick}
-use Rattle.choice.specs.declared.open.Pick.the-variants.{Move, Nothing}
-use Rattle.choice.specs.Open.{bestOf, PickIn, gainIn, roomFor, mayGo, openIn, exceeds, considered, bestInRow, bestTo, Chosen}
-
-pub room-none : (load weight capacity : ℕ) → capacity < weight → false ≡ roomFor load weight capacity
-room-none load weight capacity h = sym (lt-leb (load + weight) capacity (omega arith))
+use Rattle.choice.specs.declared.open.Pick.the-variants.{Move}
+use Rattle.choice.specs.Open.{bestOf, PickIn, roomFor, mayGo, openIn, considered, bestInRow, bestTo, vertexAt, blockAt, pairAt, leadOf, Leads, Chosen}
 
 pub room-some : (load weight capacity : ℕ) → weight ≤ capacity → leb load (capacity - weight) ≡ roomFor load weight capacity
 room-some load weight capacity h = by (leb (load + weight) capacity) refl
@@ -31,72 +29,88 @@ room-some load weight capacity h = by (leb (load + weight) capacity) refl
     by true e = let l : load + weight ≤ capacity = leb-true _ _ e in le-leb load (capacity - weight) (omega arith) ∙ sym e
     by false e = let l : capacity < load + weight = leb-false _ _ e in lt-leb load (capacity - weight) (omega arith) ∙ sym e
 
--- a pair's bounds, where it is known to be one
-pub pick-in : (n k : ℕ) (p : Pick) (x y : ℕ) → p ≡ Move x y → PickIn n k p → (1 ≤ x) × (x ≤ n) × (1 ≤ y) × (y ≤ k)
-pick-in n k p x y e h = subst (PickIn n k) e h
+-- a place that holds a pair, and a pair that is in range
+pub pair-some : (at : ℕ) → (at ≡ 0 → ⊥) → Move (vertexAt at) (blockAt at) ≡ pairAt at
+pair-some zero h = absurd (h refl)
+pair-some (suc x) h = refl
 
-pub more-in : (n m k : ℕ) (p : Pick) → n ≤ m → PickIn n k p → PickIn m k p
-more-in n m k Nothing h i = tt
-more-in n m k (Move x y) h i = (i .0, omega (arith, i .1), i .2, i .3)
-
--- the two gains are read back from their bits
-pub exceeds-read : (g : List ℤ) (v b : ℕ) (before : Pick) (x y x′ y′ : ℕ) {r : Bool} → before ≡ Move x y → x′ ≡ x → y′ ≡ y
-    → mag (gainIn g x′ y′) < 2 ^ 31 → mag (gainIn g v b) < 2 ^ 31
-    → r ≡ ltZ (toZ w32 (ofZ w32 (gainIn g x′ y′))) (toZ w32 (ofZ w32 (gainIn g v b))) → r ≡ exceeds (gainIn g) v b before
-exceeds-read g v b before x y x′ y′ e ex ey fo fn is =
-    is ∙ two (read32 _ fo ∙ same ex ey) (read32 _ fn) ∙ ap (exceeds (gainIn g) v b) (sym e)
-  where
-    two : {p q p′ q′ : ℤ} → p ≡ p′ → q ≡ q′ → ltZ p q ≡ ltZ p′ q′
-    two s t = cc
-
-    same : {p q p′ q′ : ℕ} → p ≡ p′ → q ≡ q′ → gainIn g p q ≡ gainIn g p′ q′
-    same s t = rw (s, t)
+pair-in : (n k at : ℕ) → PickIn n k (pairAt at) → at ≤ 16 * n
+pair-in n k zero h = omega arith
+pair-in n k (suc x) h = omega (arith, h .1)
 
 -- ---- one pair
 
-module _ (worth : ℕ → ℕ → ℤ) (load own weight capacity v b : ℕ) (before : Pick) where
-  abbrev is : Best
-  is = considered worth (mayGo load own weight capacity b) v b (bestOf worth before)
+-- a gain as wide as the lead's, and one of that width read back from its bits
+pub wide-fits : (gain : ℤ) → SFits w32 gain → SFits w64 (toZ w32 (ofZ w32 gain))
+wide-fits gain f = subst (SFits w64) (sym (toZ-ofZ f)) (record { sfits = omega (arith, f .sfits) })
 
-  pub weighed-own : own ≡ b → PickIn v 16 before → Chosen worth v 16 before is
+pub read64 : (z : ℤ) → mag z < 2 ^ 63 → toZ w64 (ofZ w64 z) ≡ z
+read64 z f = toZ-ofZ (record { sfits = f })
+
+-- the lead that the search begins with
+pub no-lead : Leads (record { at = 0; top = negsuc 4294967295 }) none
+no-lead = record { same = refl; below = λ z. under }
+  where
+    under : (gain : ℤ) → mag gain < 2 ^ 31 → ltZ (negsuc 4294967295) gain ≡ true
+    under (pos a) f = refl
+    under (negsuc a) f = lt-ltb a 4294967295 (omega (arith, f))
+
+-- the pair at `here` is the first, or worth more than the best before it
+rises : (at here : ℕ) (top gain : ℤ) → 1 ≤ here → ltZ top gain ≡ true → leadOf here gain ≡ better (leadOf at top) (vertexAt here) (blockAt here) gain
+unfolding better
+rises at zero top gain l t = absurd (omega arith)
+rises zero (suc x) top gain l t = refl
+rises (suc y) (suc x) top gain l t = rw t
+
+-- it is not the first, and not worth more
+stays : (at v b : ℕ) (top gain : ℤ) → (at ≡ 0 → ltZ top gain ≡ true) → ltZ top gain ≡ false → leadOf at top ≡ better (leadOf at top) v b gain
+unfolding better
+stays zero v b top gain low t = absurd (true≢false (sym (low refl) ∙ t))
+stays (suc y) v b top gain low t = rw t
+
+module _ (may : Bool) (here : ℕ) (gain : ℤ) (old : Lead) (before : Best) (from : 1 ≤ here) (fits : SFits w32 gain) (h : Leads old before) where
+  weighed-by : (m l : Bool) → ltZ (old .top) gain ≡ l
+      → Leads (record { at = cond (m && l) here (old .at); top = cond (m && l) gain (old .top) }) (considered m (vertexAt here) (blockAt here) gain before)
   unfolding considered
-  weighed-own h i = record { same = rw (eq-eqb own b h); within = i }
+  weighed-by false l e = h
+  weighed-by true true e = record {
+    same = rises (old .at) here (old .top) gain from e ∙ ap (λ c. better c (vertexAt here) (blockAt here) gain) (h .same);
+    below = λ z. absurd (omega arith);
+  }
+  weighed-by true false e = record {
+    same = stays (old .at) (vertexAt here) (blockAt here) (old .top) gain (λ z. h .below z gain (fits .sfits)) e ∙ ap (λ c. better c (vertexAt here) (blockAt here) gain) (h .same);
+    below = h .below;
+  }
 
-  pub weighed-full : (own ≡ b → ⊥) → roomFor load weight capacity ≡ false → PickIn v 16 before → Chosen worth v 16 before is
-  unfolding considered
-  weighed-full h f i = record { same = rw (ne-eqb own b h, f); within = i }
-
-  pub weighed-new : (own ≡ b → ⊥) → roomFor load weight capacity ≡ true → exceeds worth v b before ≡ true → 1 ≤ v → 1 ≤ b → b ≤ 16 → Chosen worth v 16 (Move v b) is
-  unfolding considered better
-  weighed-new h f t lv lb ub = record { same = rw (ne-eqb own b h, f) (by before t); within = (lv, omega arith, lb, ub) }
-    where
-      by : (p : Pick) → exceeds worth v b p ≡ true → best v b (worth v b) ≡ better (bestOf worth p) v b (worth v b)
-      by Nothing t = refl
-      by (Move x y) t = rw t
-
-  pub weighed-old : (own ≡ b → ⊥) → roomFor load weight capacity ≡ true → exceeds worth v b before ≡ false → PickIn v 16 before → Chosen worth v 16 before is
-  unfolding considered better
-  weighed-old h f t i = record { same = rw (ne-eqb own b h, f) (by before t); within = i }
-    where
-      by : (p : Pick) → exceeds worth v b p ≡ false → bestOf worth p ≡ better (bestOf worth p) v b (worth v b)
-      by Nothing t = absurd (true≢false t)
-      by (Move x y) t = rw t
+  -- `gain′` and `top′` are the two gains read back from their bits
+  pub weighed : {less t : Bool} {at : ℕ} {top gain′ top′ : ℤ} → gain′ ≡ gain → top′ ≡ old .top → less ≡ ltZ top′ gain′ → t ≡ (may && less)
+      → at ≡ cond t here (old .at) → top ≡ cond t gain′ top′ → Leads (record { at = at; top = top }) (considered may (vertexAt here) (blockAt here) gain before)
+  weighed eg et el eb ea ep = rw (ea, ep, eb, el, eg, et) (weighed-by may (ltZ (old .top) gain) refl)
 
 -- ---- one row
 
 module _ (worth : ℕ → ℕ → ℤ) (may : ℕ → Bool) (v : ℕ) where
   pub row-none : (b : Best) → b ≡ bestInRow worth may v 0 b
   unfolding bestInRow
-  row-none b = sym (foldTo-zero (λ c b. considered worth (may b) v b c) b)
+  row-none b = sym (foldTo-zero (λ c b. considered (may b) v b (worth v b) c) b)
 
-  pub row-more : (j : ℕ) (before c d : Best) → c ≡ bestInRow worth may v j before → d ≡ considered worth (may (j + 1)) v (j + 1) c → d ≡ bestInRow worth may v (j + 1) before
+  -- the pair with block j + 1, by its place
+  pub row-more : (j here : ℕ) (may′ : Bool) (gain : ℤ) (before : Best) → vertexAt here ≡ v → blockAt here ≡ j + 1 → may′ ≡ may (j + 1) → gain ≡ worth v (j + 1)
+      → considered may′ (vertexAt here) (blockAt here) gain (bestInRow worth may v j before) ≡ bestInRow worth may v (j + 1) before
   unfolding bestInRow
-  row-more j before c d e q = q ∙ ap (considered worth (may (j + 1)) v (j + 1)) e ∙ sym (foldTo-step j (λ c b. considered worth (may b) v b c) before)
+  row-more j here may′ gain before ev eb em eg = rw (ev, eb, em, eg) (sym (foldTo-step j (λ c b. considered (may b) v b (worth v b) c) before))
 
   -- where nothing may be taken, nothing is
   pub row-shut : (k : ℕ) (before : Best) → ((b : ℕ) → may b ≡ false) → bestInRow worth may v k before ≡ before
   unfolding bestInRow considered
-  row-shut k before h = foldTo-skip 0 k (λ c b. considered worth (may b) v b c) before (omega arith) (λ c b l u. rw (h b)) ∙ foldTo-zero (λ c b. considered worth (may b) v b c) before
+  row-shut k before h = foldTo-skip 0 k (λ c b. considered (may b) v b (worth v b) c) before (omega arith) (λ c b l u. rw (h b)) ∙ foldTo-zero (λ c b. considered (may b) v b (worth v b) c) before
+
+-- a vertex that is heavier than the capacity has nowhere to go
+pub row-heavy : (worth : ℕ → ℕ → ℤ) (loads : List ℕ) (own weight capacity v k : ℕ) (before : Best) → capacity < weight
+    → bestInRow worth (λ b. mayGo (getD loads (b - 1) 0) own weight capacity b) v k before ≡ before
+row-heavy worth loads own weight capacity v k before h =
+    row-shut worth (λ b. mayGo (getD loads (b - 1) 0) own weight capacity b) v k before (λ b.
+    ap (λ (t : Bool). not (eqb own b) && t) (lt-leb (getD loads (b - 1) 0 + weight) capacity (omega (arith, h))) ∙ and-false (not (eqb own b)))
 
 -- ---- all candidates
 
@@ -136,25 +150,29 @@ module _ (candidates blocks weights loads : List ℕ) (capacity : ℕ) (worth : 
       sym (ap (λ (x : ℕ). bestInRow worth (λ b. eqb (on candidates 0 x) 1 && mayGo (getD loads (b - 1) 0) (getD blocks x 0) (getD weights x 0) capacity b) (i + 1) k before) e
       ∙ ap (λ (t : Bool). bestInRow worth (λ b. t && mayGo (getD loads (b - 1) 0) (getD blocks i 0) (getD weights i 0) capacity b) (i + 1) k before) (eq-eqb (on candidates 0 i) 1 o))
 
-  pub next-candidate : (i j : ℕ) (c d : Best) → on candidates 0 i ≡ 1 → c ≡ bestTo may worth k i
-      → d ≡ bestInRow worth (λ b. mayGo (getD loads (b - 1) 0) (getD blocks i 0) (getD weights i 0) capacity b) (i + 1) k c → Next candidates 0 (i + 1) n j → d ≡ bestTo may worth k j
+  pub next-candidate : (i j : ℕ) → on candidates 0 i ≡ 1 → Next candidates 0 (i + 1) n j
+      → bestInRow worth (λ b. mayGo (getD loads (b - 1) 0) (getD blocks i 0) (getD weights i 0) capacity b) (i + 1) k (bestTo may worth k i) ≡ bestTo may worth k j
   unfolding bestTo
-  next-candidate i j c d o e q h =
-      q ∙ candidate-row i o c ∙ ap (bestInRow worth (may (i + 1)) (i + 1) k) e ∙ sym (foldTo-step i (λ b v. bestInRow worth (may v) v k b) none) ∙ sym (skip (i + 1) j (h .low) (h .passed))
+  next-candidate i j o h =
+      candidate-row i o (bestTo may worth k i) ∙ sym (foldTo-step i (λ b v. bestInRow worth (may v) v k b) none) ∙ sym (skip (i + 1) j (h .low) (h .passed))
+
+  abbrev In : ℕ → ℕ → Type 0
+  In a c = (1 ≤ a) × (a ≤ n) × (1 ≤ c) × (c ≤ k)
+
+  chosen-at : (at : ℕ) (top : ℤ) → leadOf at top ≡ bestPair n k may worth → Top may worth In (leadOf at top) → Chosen worth n k (pairAt at) (bestPair n k may worth)
+  chosen-at zero top e t = record { same = e; within = tt }
+  chosen-at (suc x) top e t = record { same = ap (best (vertexAt (suc x)) (blockAt (suc x))) (sym (t .value)) ∙ e; within = t .there }
 
   -- all of them: the pair is model's, and so it is in range
-  pub all-candidates : (i : ℕ) (r : Pick) → n ≤ i → i ≤ n → bestOf worth r ≡ bestTo may worth k i → Chosen worth n k r (bestPair n k may worth)
-  all-candidates i r l u e =
-      let q : i ≡ n = omega arith in
-      let is : bestOf worth r ≡ bestPair n k may worth = e ∙ ap (bestTo may worth k) q ∙ to-pair may worth k n in
-      record { same = is; within = range r (subst (Top may worth In) (sym is) (best-top may worth k n)) }
-    where
-      In : ℕ → ℕ → Type 0
-      In a c = (1 ≤ a) × (a ≤ n) × (1 ≤ c) × (c ≤ k)
+  module _ (i : ℕ) (lead : Lead) (l : n ≤ i) (u : i ≤ n) (h : Leads lead (bestTo may worth k i)) where
+    pub all-candidates : Chosen worth n k (pairAt (lead .at)) (bestPair n k may worth)
+    all-candidates =
+        let q : i ≡ n = omega arith in
+        let is : leadOf (lead .at) (lead .top) ≡ bestPair n k may worth = h .same ∙ ap (bestTo may worth k) q ∙ to-pair may worth k n in
+        chosen-at (lead .at) (lead .top) is (subst (Top may worth In) (sym is) (best-top may worth k n))
 
-      range : (r : Pick) → Top may worth In (bestOf worth r) → PickIn n k r
-      range Nothing t = tt
-      range (Move v b) t = t .there
+    pub lead-in : lead .at ≤ 16 * n
+    lead-in = pair-in n k (lead .at) (all-candidates .within)
 
 -- the pair that is answered is open
 pub pick-open : (may : ℕ → ℕ → Bool) (worth : ℕ → ℕ → ℤ) (n k v b : ℕ) (r : Pick) → r ≡ Move v b → Chosen worth n k r (bestPair n k may worth) → may v b ≡ true

@@ -4,12 +4,13 @@ use crate::numbers::wide;
 use crate::numbers::wide32;
 use incidence::next_net;
 ghost use mathlib.Core.Path.{_≡_};
-ghost use Prim.Native.Nat.{_+_, _-_, _*_, _<_, _≤_};
+ghost use mathlib.Core.Bool.{_&&_, cond};
+ghost use Prim.Native.Nat.{_+_, _-_, _≤_};
 ghost use lib.ListN.{length, getD};
 ghost use lib.Signed.{ltZ};
 ghost use Rattle.incidence.specs.On.{Next};
-ghost use Rattle.model.specs.Search.{bestPair};
-ghost use Rattle.choice.specs.Open.{bestOf, gainIn, roomFor, mayGo, openIn, exceeds, considered, bestInRow, Chosen, PairOk, RowOk, VertexOk, SearchOk};
+ghost use Rattle.model.specs.Search.{Best, bestPair};
+ghost use Rattle.choice.specs.Open.{gainIn, mayGo, openIn, considered, bestInRow, vertexAt, blockAt, pairAt, Leads, Chosen, RowOk, VertexOk, SearchOk};
 
 // The open pair to take, or that no pair is open.
 pub enum Pick {
@@ -17,91 +18,92 @@ pub enum Pick {
     Nothing,
 }
 
+// The best of the pairs seen: its place in the table of gains, counted from 1, and its gain. Where there is none, the place is 0 and the gain
+// below every gain that a table holds, so that no test for that is needed.
+struct Lead {
+    at: usize,
+    top: i64,
+}
+
+// Whether both hold, with no branch.
+fn both(a: bool, b: bool) -> bool
+    ensures { λ r. ⌜ r ≡ (a && b) ⌝ }
+{
+    a & b
+}
+
+// One of two places, by a test.
+fn either_place(first: bool, a: usize, b: usize) -> usize
+    ensures { λ r. ⌜ r ≡ cond first a b ⌝ }
+{
+    if first { a } else { b }
+}
+
+// One of two gains, by a test.
+fn either_gain(first: bool, a: i64, b: i64) -> i64
+    ensures { λ r. ⌜ r ≡ cond first a b ⌝ }
+{
+    if first { a } else { b }
+}
+
 // Whether one gain is below another.
-fn less(a: i32, b: i32) -> bool
+fn less(a: i64, b: i64) -> bool
     ensures { λ r. ⌜ r ≡ ltZ a b ⌝ }
 {
     a < b
 }
 
-// Whether a block of weight `load` has room for one weight more. The sum of the two may pass 64 bits.
-fn has_room(load: u64, weight: u64, capacity: u64) -> bool
-    ensures { λ r. ⌜ r ≡ roomFor load weight capacity ⌝ }
+// The better of the pair at place `here`, if it may be taken, and the best of those before it. Both fields are chosen without a branch, since
+// a processor can't predict which pairs are better.
+fn weigh(gain: i32, may: bool, here: usize, lead: Lead) -> Lead
+    requires { ⌜ 1 ≤ here ⌝ }
+    ensures { λ r. ⌜ ((before : Best) → Leads lead before → Leads r (considered may (vertexAt here) (blockAt here) gain before)) ⌝ }
 {
-    if capacity < weight {
-        return false;
-    }
-    load <= capacity - weight
-}
-
-// Whether the pair is worth more than the best of those before it.
-fn beats(gains: &[i32], v: usize, b: usize, best: Pick) -> bool
-    requires { ⌜ PairOk (length (now gains)) v b best ⌝ }
-    ensures { λ r. ⌜ r ≡ exceeds (gainIn (now (gains .entry))) v b best ⌝ }
-{
-    match best {
-        Pick::Nothing => true,
-        Pick::Move { vertex, block } => {
-            let x = 16 * (wide(vertex) - 1) + (wide(block) - 1);
-            let y = 16 * (v - 1) + (b - 1);
-            less(gains[x], gains[y])
-        }
+    let worth = gain as i64;
+    let top = lead.top;
+    let better = both(may, less(top, worth));
+    Lead {
+        at: either_place(better, here, lead.at),
+        top: either_gain(better, worth, top),
     }
 }
 
-// The better of one pair, if it may be taken, and the best of those before it.
-fn weigh(
-    gains: &[i32],
-    load: u64,
-    own: u16,
-    weight: u64,
-    capacity: u64,
-    v: usize,
-    b: usize,
-    best: Pick,
-) -> Pick
-    requires { ⌜ PairOk (length (now gains)) v b best ⌝ }
-    ensures { λ r. ⌜ Chosen (gainIn (now (gains .entry))) v 16 r (considered (gainIn (now (gains .entry))) (mayGo load own weight capacity b) v b (bestOf (gainIn (now (gains .entry))) best)) ⌝ }
+// Whether a vertex of block `own` may go to block `b`, of weight `load`. The vertex is not heavier than the capacity; the sum of the two
+// weights may pass 64 bits.
+fn may_go(load: u64, own: usize, weight: u64, capacity: u64, b: usize) -> bool
+    requires { ⌜ weight ≤ capacity ⌝ }
+    ensures { λ r. ⌜ r ≡ mayGo load own weight capacity b ⌝ }
 {
-    if wide(own) == b {
-        return best;
-    }
-    if !has_room(load, weight, capacity) {
-        return best;
-    }
-    if beats(gains, v, b, best) {
-        return Pick::Move {
-            vertex: v as u16,
-            block: b as u16,
-        };
-    }
-    best
+    let space = capacity - weight;
+    both(own != b, load <= space)
 }
 
-// The best of `before` and the pairs of vertex `v`, of block `own`, that may be taken.
+// The best of `before` and the pairs of the vertex at place `i`, of block `own`, that may be taken.
 fn best_in_row(
     gains: &[i32],
     loads: &[u64; 16],
-    own: u16,
+    own: usize,
     weight: u64,
     capacity: u64,
-    v: usize,
+    i: usize,
     k: usize,
-    before: Pick,
-) -> Pick
-    requires { ⌜ RowOk (length (now gains)) v k before ⌝ }
-    ensures { λ r. ⌜ Chosen (gainIn (now (gains .entry))) v 16 r (bestInRow (gainIn (now (gains .entry))) (λ b. mayGo (getD (now (loads .entry)) (b - 1) 0) own weight capacity b) v k (bestOf (gainIn (now (gains .entry))) before)) ⌝ }
+    before: Lead,
+) -> Lead
+    requires { ⌜ RowOk (length (now gains)) i k × (weight ≤ capacity) ⌝ }
+    ensures { λ r. ⌜ ((c : Best) → Leads before c → Leads r (bestInRow (gainIn (now (gains .entry))) (λ b. mayGo (getD (now (loads .entry)) (b - 1) 0) own weight capacity b) (i + 1) k c)) ⌝ }
 {
-    let mut best = before;
+    let row = 16 * i;
+    let mut lead = before;
     let mut j: usize = 0;
     while j < k {
-        best = weigh(gains, loads[j], own, weight, capacity, v, j + 1, best);
+        let may = may_go(loads[j], own, weight, capacity, j + 1);
+        lead = weigh(gains[row + j], may, row + j + 1, lead);
         j += 1;
     }
-    best
+    lead
 }
 
-// The best of `before` and the open pairs of the candidate at place `i`.
+// The best of `before` and the open pairs of the candidate at place `i`. One that is heavier than the capacity has none.
 fn best_with(
     gains: &[i32],
     blocks: &[u16],
@@ -110,21 +112,40 @@ fn best_with(
     i: usize,
     k: usize,
     capacity: u64,
-    before: Pick,
-) -> Pick
-    requires { ⌜ VertexOk (length (now gains)) (length (now blocks)) (length (now weights)) i k before ⌝ }
-    ensures { λ r. ⌜ Chosen (gainIn (now (gains .entry))) (i + 1) 16 r (bestInRow (gainIn (now (gains .entry))) (λ b. mayGo (getD (now (loads .entry)) (b - 1) 0) (getD (now (blocks .entry)) i 0) (getD (now (weights .entry)) i 0) capacity b) (i + 1) k (bestOf (gainIn (now (gains .entry))) before)) ⌝ }
+    before: Lead,
+) -> Lead
+    requires { ⌜ VertexOk (length (now gains)) (length (now blocks)) (length (now weights)) i k ⌝ }
+    ensures { λ r. ⌜ ((c : Best) → Leads before c → Leads r (bestInRow (gainIn (now (gains .entry))) (λ b. mayGo (getD (now (loads .entry)) (b - 1) 0) (getD (now (blocks .entry)) i 0) (getD (now (weights .entry)) i 0) capacity b) (i + 1) k c)) ⌝ }
 {
+    let weight = wide32(weights[i]);
+    if capacity < weight {
+        return before;
+    }
     best_in_row(
         gains,
         loads,
-        blocks[i],
-        wide32(weights[i]),
+        wide(blocks[i]),
+        weight,
         capacity,
-        i + 1,
+        i,
         k,
         before,
     )
+}
+
+// The pair at a place of the table of gains, counted from 1; none at 0.
+fn pair_at(at: usize) -> Pick
+    requires { ⌜ at ≤ 16384 ⌝ }
+    ensures { λ r. ⌜ r ≡ pairAt at ⌝ }
+{
+    if at == 0 {
+        return Pick::Nothing;
+    }
+    let x = at - 1;
+    Pick::Move {
+        vertex: (x / 16 + 1) as u16,
+        block: (x % 16 + 1) as u16,
+    }
 }
 
 // The first candidate from `from` on, of the `n` vertices; `n` where there is none. Places count from 0.
@@ -150,11 +171,14 @@ pub fn best_open(
     requires { ⌜ SearchOk (length (now gains)) (length (now blocks)) (length (now weights)) (length (now candidates)) n k ⌝ }
     ensures { λ r. ⌜ Chosen (gainIn (now (gains .entry))) n k r (bestPair n k (openIn (now (candidates .entry)) (now (blocks .entry)) (now (weights .entry)) (now (loads .entry)) capacity) (gainIn (now (gains .entry)))) ⌝ }
 {
-    let mut best = Pick::Nothing;
+    let mut best = Lead {
+        at: 0,
+        top: -4294967296,
+    };
     let mut i = next_candidate(candidates, 0, n);
     while i < n {
         best = best_with(gains, blocks, weights, loads, i, k, capacity, best);
         i = next_candidate(candidates, i + 1, n);
     }
-    best
+    pair_at(best.at)
 }

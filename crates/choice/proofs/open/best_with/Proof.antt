@@ -1,23 +1,18 @@
 use native.Mathlib.Omega.{arith}
-use mathlib.Core.Path.{subst}
+use mathlib.Core.Path.{sym, subst}
 use denote.Ref.{now}
 use borrow.Author.Needs.{needs}
 use Prim.Native.Nat.{ℕ, _-_, _+_}
 use lib.ListN.{getD}
-use Rattle.choice.specs.Open.{Chosen, bestOf, bestInRow, gainIn, mayGo}
-use Rattle.choice.specs.OpenLaw.{more-in}
+use Rattle.choice.specs.Open.{Leads, bestInRow, gainIn, mayGo}
+use Rattle.choice.specs.OpenLaw.{row-heavy}
 use Rattle.choice.proofs.open.best_with.Statement.{statement}
 use Rattle.choice.proofs.open.best_with.Tie as tie
 use Rattle.choice.proofs.open.best_with.Reads as reads
 use Rattle.choice.proofs.open.best_with.Lts as lts
-use Rattle.choice.proofs.open.best_in_row.Reads as best-in-row-reads
+use Rattle.choice.proofs.numbers.wide.Reads as wide-reads
 use Rattle.choice.proofs.numbers.wide32.Reads as wide32-reads
-
-mul-best-in-row : tie.Need-mul-best-in-row
-mul-best-in-row c = search needs
-
-shared-slice-read-best-in-row : tie.Need-shared-slice-read-best-in-row
-shared-slice-read-best-in-row c = search needs
+use Rattle.choice.proofs.open.best_in_row.Reads as best-in-row-reads
 
 mul-wide32 : tie.Need-mul-wide32
 mul-wide32 c = search needs
@@ -28,35 +23,43 @@ shared-slice-read-wide32 c = search needs
 wide32-requires : tie.Need-wide32-requires
 wide32-requires c κs = search needs
 
-add-best-in-row : tie.Need-add-best-in-row
-add-best-in-row c = search needs
+returns : tie.Need-returns
+returns c = λ b h.
+    let a = c .before .before .before .before .before .args in
+    subst (Leads (a .before))
+    (sym (row-heavy (gainIn (now (a .gains))) (now (a .loads)) (getD (now (a .blocks)) (a .i) 0) (getD (now (a .weights)) (a .i) 0) (a .capacity) (a .i + 1) (a .k) b
+    (omega (arith, c .if1 .taken, c .before .wide32 .ensures)))) h
+
+mul-wide : tie.Need-mul-wide
+mul-wide c = search needs
+
+shared-slice-read-wide : tie.Need-shared-slice-read-wide
+shared-slice-read-wide c = search needs
+
+wide-requires : tie.Need-wide-requires
+wide-requires c κs = search needs
 
 best-in-row-requires : tie.Need-best-in-row-requires
-best-in-row-requires c κs =
-    let s = c .before .before .before .before .before in
-    record {
-      v-from = omega arith;
-      v-to = omega (arith, s .pre);
-      k-to = s .pre .k-to;
-      in-gains = s .pre .in-gains;
-      before-in = more-in (s .args .i) (s .args .i + 1) 16 (s .args .before) (omega arith) (s .pre .before-in);
-    }
+best-in-row-requires c κs = search needs
 
-returns : tie.Need-returns
-returns c =
-    let a = c .before .before .before .before .before .before .args in
-    subst (λ (w : ℕ). Chosen (gainIn (now (a .gains))) (a .i + 1) 16 (c .best-in-row .result)
-    (bestInRow (gainIn (now (a .gains))) (λ b. mayGo (getD (now (a .loads)) (b - 1) 0) (getD (now (a .blocks)) (a .i) 0) w (a .capacity) b) (a .i + 1) (a .k) (bestOf (gainIn (now (a .gains))) (a .before)))) (c .before .wide32 .ensures) (c .best-in-row .ensures)
+returns-2 : tie.Need-returns-2
+returns-2 c = λ b h.
+    let a = c .before .before .before .before .before .before .before .before .args in
+    subst (λ (x : ℕ). Leads (c .best-in-row .result) (bestInRow (gainIn (now (a .gains))) (λ b. mayGo (getD (now (a .loads)) (b - 1) 0) (getD (now (a .blocks)) (a .i) 0) x (a .capacity) b) (a .i + 1) (a .k) b))
+    (c .before .before .before .before .wide32 .ensures)
+    (subst (λ (x : ℕ). Leads (c .best-in-row .result) (bestInRow (gainIn (now (a .gains))) (λ b. mayGo (getD (now (a .loads)) (b - 1) 0) x (c .before .before .before .before .wide32 .result) (a .capacity) b) (a .i + 1) (a .k) b))
+    (c .before .wide .ensures) (c .best-in-row .ensures b h))
 
 pub best-with-spec : {M : Type 1} → statement M
 best-with-spec =
     tie.close
     (tie.spec
-    mul-best-in-row
-    shared-slice-read-best-in-row
     mul-wide32
     shared-slice-read-wide32
     wide32-requires
-    add-best-in-row
+    returns
+    mul-wide
+    shared-slice-read-wide
+    wide-requires
     best-in-row-requires
-    returns)
+    returns-2)

@@ -1,63 +1,39 @@
-use mathlib.Core.Path.{sym, _∙_}
-use denote.Ref.{now}
+use mathlib.Core.Path.{_∙_}
 use borrow.Author.Needs.{needs}
-use Rattle.choice.specs.Open.{gainIn}
-use Rattle.choice.specs.OpenLaw.{weighed-own, weighed-full, weighed-new, weighed-old}
-use borrow.Author.Tests.{not-true, not-false}
+use Rattle.laws.specs.Integer.{read32}
+use Rattle.choice.specs.OpenLaw.{wide-fits, read64, weighed}
 use Rattle.choice.proofs.open.weigh.Statement.{statement}
 use Rattle.choice.proofs.open.weigh.Tie as tie
 use Rattle.choice.proofs.open.weigh.Reads as reads
 use Rattle.choice.proofs.open.weigh.Lts as lts
-use Rattle.choice.proofs.open.beats.Reads as beats-reads
-use Rattle.choice.proofs.open.has_room.Reads as has-room-reads
-use Rattle.choice.proofs.numbers.wide.Reads as wide-reads
+use Rattle.choice.proofs.open.less.Reads as less-reads
+use Rattle.choice.proofs.open.both.Reads as both-reads
+use Rattle.choice.proofs.open.either_place.Reads as either-place-reads
+use Rattle.choice.proofs.open.either_gain.Reads as either-gain-reads
 
-wide-requires : tie.Need-wide-requires
-wide-requires c κs = search needs
+cast-worth : tie.Need-cast-worth
+cast-worth c = wide-fits (c .args .gain) (c .fits .gain)
+
+less-requires : tie.Need-less-requires
+less-requires c κs = search needs
+
+both-requires : tie.Need-both-requires
+both-requires c κs = search needs
+
+either-place-requires : tie.Need-either-place-requires
+either-place-requires c κs = search needs
+
+either-gain-requires : tie.Need-either-gain-requires
+either-gain-requires c κs = search needs
 
 returns : tie.Need-returns
-returns c =
-    let a = c .before .before .args in
-    weighed-own (gainIn (now (a .gains))) (a .load) (a .own) (a .weight) (a .capacity) (a .v) (a .b) (a .best) (sym (c .before .wide .ensures) ∙ c .if1 .taken) (c .before .before .pre .before-in)
-
-has-room-requires : tie.Need-has-room-requires
-has-room-requires c κs = search needs
-
-returns-2 : tie.Need-returns-2
-returns-2 c =
-    let a = c .before .before .before .before .args in
-    weighed-full (gainIn (now (a .gains))) (a .load) (a .own) (a .weight) (a .capacity) (a .v) (a .b) (a .best) (λ e. c .before .before .if1 .left (c .before .before .before .wide .ensures ∙ e)) (sym (c .before .has-room .ensures) ∙ not-true _ (c .if2 .taken)) (c .before .before .before .before .pre .before-in)
-
-beats-requires : tie.Need-beats-requires
-beats-requires c κs = search needs
-
-cast-t13 : tie.Need-cast-t13
-cast-t13 c = search needs
-
-cast-t14 : tie.Need-cast-t14
-cast-t14 c = search needs
-
-returns-3 : tie.Need-returns-3
-returns-3 c =
-    let p = c .before .before .before .before .before .before .pre in
-    let a = c .before .before .before .before .before .before .args in
-    weighed-new (gainIn (now (a .gains))) (a .load) (a .own) (a .weight) (a .capacity) (a .v) (a .b) (a .best) (λ e. c .before .before .before .before .if1 .left (c .before .before .before .before .before .wide .ensures ∙ e)) (sym (c .before .before .before .has-room .ensures) ∙ not-false _ (c .before .before .if2 .left)) (sym (c .before .beats .ensures) ∙ c .if3 .taken) (p .v-from) (p .b-from) (p .b-to)
-
-returns-4 : tie.Need-returns-4
-returns-4 c =
-    let a = c .before .before .before .before .before .before .args in
-    weighed-old (gainIn (now (a .gains))) (a .load) (a .own) (a .weight) (a .capacity) (a .v) (a .b) (a .best) (λ e. c .before .before .before .before .if1 .left (c .before .before .before .before .before .wide .ensures ∙ e)) (sym (c .before .before .before .has-room .ensures) ∙ not-false _ (c .before .before .if2 .left)) (sym (c .before .beats .ensures) ∙ c .if3 .left) (c .before .before .before .before .before .before .pre .before-in)
+returns c = λ before h.
+    let s = c .before .before .before .before .before in
+    weighed (s .args .may) (s .args .here) (s .args .gain) (s .args .lead) before (s .pre) (s .fits .gain) h
+    (read64 _ (cast-worth s .sfits) ∙ read32 _ (s .fits .gain .sfits)) (read64 (s .args .lead .top) (c .before .before .before .before .struct-told .given .1 .0 .1))
+    (c .before .before .before .less .ensures) (c .before .before .both .ensures) (c .before .either-place .ensures) (read64 _ (c .either-gain .ok) ∙ c .either-gain .ensures)
 
 pub weigh-spec : {M : Type 1} → statement M
 weigh-spec =
     tie.close
-    (tie.spec
-    wide-requires
-    returns
-    has-room-requires
-    returns-2
-    beats-requires
-    cast-t13
-    cast-t14
-    returns-3
-    returns-4)
+    (tie.spec cast-worth less-requires both-requires either-place-requires either-gain-requires returns)
