@@ -1,12 +1,11 @@
 -- A vertex contracted into another of its block, and the undo: what `join` and `split` need and promise, and the proof that sound tables
 -- stay sound. Rests on Tables. Assumes nothing.
-use Prim.Native.Nat.{ℕ, zero, suc, _+_, _*_, _-_, _<_, _≤_, _^_}
+use Prim.Native.Nat.{ℕ, _+_, _-_, _<_, _≤_, _^_}
 use native.Mathlib.Decide.{ℕ-discrete}
 use native.Mathlib.Omega.{arith}
-use mathlib.Core.Path.{_≡_, refl, sym, ap, ap₂, _∙_, subst}
-use mathlib.Core.Bool.{Bool, true, false, cond}
-use mathlib.Core.List.{List, [], _∷_}
-use borrow.Author.Tests.{eq-eqb, ne-eqb}
+use mathlib.Core.Path.{_≡_, refl, sym, ap, ap₂, _∙_}
+use mathlib.Core.Bool.{cond}
+use mathlib.Core.List.{List, _∷_}
 use lib.Dec.{eqb}
 use lib.ListN.{length, getD, set, length-set}
 use lib.Seq.{getD-set-same, getD-set-other}
@@ -14,20 +13,19 @@ use lib.IntN.{ℤ}
 use Rattle.laws.specs.Choice.{cond-yes, cond-no}
 use Rattle.laws.specs.Place.{place}
 use Rattle.model.specs.Catalogue.{Hypergraph, vertices}
-use Rattle.model.specs.Measure.{Contraction, above, weight, blockWeight, metric}
+use Rattle.model.specs.Measure.{Contraction, above, weight}
 use Rattle.model.specs.Machine.{uncontract}
 use Rattle.model.specs.Memory.{weightWhenGone, weightEntry}
 use Rattle.guarantees.specs.Climbs.{Joins, Sound as SoundStack, above-gone, above-other}
-use Rattle.guarantees.specs.Ends.{Placed}
 use Rattle.guarantees.specs.Weights.{weight-into, weight-other, blockWeight-join}
 use Rattle.guarantees.specs.Joins.{metric-join}
-use Rattle.guarantees.specs.Splits.{AllInside, placed-join, placed-split, metric-split, blockWeight-split, into-on}
+use Rattle.guarantees.specs.Splits.{placed-join, placed-split, metric-split, blockWeight-split, into-on}
 use Rattle.guarantees.specs.WeightBounds.{weight-le, total-le}
 use Rattle.pins.specs.Board.{join}
 use Rattle.levels.specs.Running.{running}
 use Rattle.levels.specs.Operations.{ContractNeeds, ContractDoes, UncontractNeeds, UncontractDoes}
-use Rattle.calls.specs.Tables.{Tables, tables, runningOf, Sound, Past, Keeps}
-use Rattle.calls.specs.Move.{past-same, past-set, on-board, own-block, own-weight}
+use Rattle.calls.specs.Tables.{Tables, tables, runningOf, Sound, Keeps}
+use Rattle.calls.specs.Move.{past-set, on-board, own-block, own-weight}
 
 -- ---- a vertex's weight entry before and after
 module _ (h : Hypergraph) (cs : List Contraction) (c : Contraction) (s : SoundStack (c ∷ cs)) (p q : ℕ → ℕ) where

@@ -1,11 +1,11 @@
 -- A vertex goes to another block: what `go` needs and promises, and the proof that sound tables stay sound. Rests on Tables. Assumes nothing.
-use Prim.Native.Nat.{ℕ, zero, suc, _+_, _*_, _-_, _<_, _≤_, _^_}
+use Prim.Native.Nat.{ℕ, _+_, _*_, _-_, _<_, _≤_, _^_}
 use native.Mathlib.Decide.{ℕ-discrete}
 use native.Mathlib.Omega.{arith}
-use mathlib.Core.Path.{_≡_, refl, sym, ap, _∙_, subst}
-use mathlib.Core.Bool.{Bool, true, false, cond, _&&_}
+use mathlib.Core.Path.{_≡_, refl, sym, ap, _∙_}
+use mathlib.Core.Bool.{Bool, cond, _&&_}
 use mathlib.Core.List.{List}
-use borrow.Author.Tests.{eq-eqb, ne-eqb, eqb-true}
+use borrow.Author.Tests.{eq-eqb}
 use lib.Dec.{eqb}
 use lib.ListN.{length, getD, set, length-set}
 use lib.Seq.{getD-set-same, getD-set-other}
@@ -15,8 +15,8 @@ use mir.Val.{ofZ, toZ}
 use lib.Signed.{mag}
 use Rattle.laws.specs.Integer.{abs-is, read32}
 use Rattle.laws.specs.Choice.{cond-yes, cond-no}
-use Rattle.laws.specs.Sum.{sumTo, sumTo-term}
-use Rattle.laws.specs.Place.{place, place-at, place-off}
+use Rattle.laws.specs.Sum.{sumTo-term}
+use Rattle.laws.specs.Place.{place}
 use Rattle.model.specs.Catalogue.{Hypergraph, vertices}
 use Rattle.model.specs.Measure.{Contraction, above, onBoard, weight, blockWeight, metric, gain}
 use Rattle.model.specs.Memory.{weightEntry}

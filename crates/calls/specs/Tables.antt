@@ -1,6 +1,6 @@
 -- The tables of a running sale as one record; Sound, what they are for a catalogue, a stack and a partition of the machine; and Keeps,
 -- that entries which the catalogue has no use for are untouched. Rests on levels. Assumes nothing.
-use Prim.Native.Nat.{ℕ, zero, suc, _+_, _*_, _-_, _<_, _≤_}
+use Prim.Native.Nat.{ℕ, _+_, _-_, _<_, _≤_}
 use mathlib.Core.Path.{_≡_}
 use mathlib.Core.List.{List}
 use lib.ListN.{length, getD}
@@ -9,7 +9,6 @@ use Rattle.laws.specs.Bit.{bit}
 use Rattle.model.specs.Catalogue.{Limits, Hypergraph}
 use Rattle.model.specs.Measure.{Contraction, above, blockWeight, metric}
 use Rattle.model.specs.Memory.{weightEntry}
-use Rattle.guarantees.specs.Climbs.{Sound as SoundStack}
 use Rattle.guarantees.specs.Splits.{AllInside}
 use Rattle.guarantees.specs.Ends.{Placed}
 use Rattle.guarantees.specs.Ranges.{Ranges}

@@ -1,11 +1,11 @@
 -- The metric less a gain, which may be negative: what the code needs and finds. Rests on text and on ℤ by its two parts. Assumes nothing.
-use mathlib.Core.Path.{_≡_, refl, sym, ap, _∙_, subst}
+use mathlib.Core.Path.{_≡_, refl, sym, ap, _∙_}
 use Prim.Native.Nat.{ℕ, _+_, _-_, _≤_, _<_, _^_}
 use native.Mathlib.Omega.{arith}
-use lib.IntN.{ℤ, pos, negsuc, negℤ, _-ℤ_}
+use lib.IntN.{ℤ, pos, negsuc, _-ℤ_}
 use mir.Syntax.{w32}
 use mir.Val.{SFits, ofZ, toZ}
-use Rattle.laws.specs.Integer.{up, dn, eq-by, sub-is, pos-is, neg-is, read32}
+use Rattle.laws.specs.Integer.{up, dn, eq-by, sub-is, pos-is, read32}
 use Rattle.text.specs.Output.{signOf}
 use Rattle.text.specs.declared.Sign.{Sign}
 use Rattle.text.specs.declared.Sign.the-variants.{Plus, Minus}

@@ -1,8 +1,7 @@
 // A vertex moved to another block in all tables, with the blocks' weights and the metric.
-ghost use Prim.Native.Nat.{ℕ, _+_, _-_, _*_, _<_, _≤_};
+ghost use Prim.Native.Nat.{ℕ, _+_, _-_, _*_};
 ghost use mathlib.Core.Path.{_≡_};
 ghost use mathlib.Core.List.{List};
-ghost use lib.ListN.{length, getD};
 ghost use lib.IntN.{pos, _-ℤ_};
 ghost use Rattle.calls.specs.Tables.{tables};
 ghost use Rattle.calls.specs.Total.{Lowers};

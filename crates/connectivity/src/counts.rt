@@ -1,6 +1,5 @@
 // A net's pin counts, and its connectivity set as a 16-bit mask kept in step with them.
-ghost use Prim.Native.Nat.{ℕ, _+_, _*_, _-_, _<_, _≤_};
-ghost use mathlib.Core.Path.{_≡_};
+ghost use Prim.Native.Nat.{_+_, _*_, _-_, _<_, _≤_};
 ghost use lib.ListN.{length, getD};
 ghost use Rattle.laws.specs.Bit.{Masked};
 ghost use Rattle.connectivity.specs.Law.{Step};

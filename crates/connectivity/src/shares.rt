@@ -1,5 +1,5 @@
 // The share of a net in the gains of a vertex, put to the vertex's row of the gain table or taken from it.
-ghost use Prim.Native.Nat.{ℕ, _+_, _*_, _^_, _<_, _≤_};
+ghost use Prim.Native.Nat.{_+_, _*_, _^_, _<_};
 ghost use mathlib.Core.Path.{_≡_};
 ghost use lib.ListN.{length, getD, set};
 ghost use lib.IntN.{ℤ, pos, _+ℤ_, _-ℤ_, negℤ};

@@ -13,7 +13,7 @@ use Rattle.laws.specs.Choice.{cond-yes, cond-no}
 use Rattle.laws.specs.Integer.{read32}
 use Rattle.model.specs.Catalogue.{Hypergraph}
 use Rattle.model.specs.Machine.{Call, callJ, callS, callM, callB, callW, callP, callA, Answer, saysM, saysNO}
-use Rattle.model.specs.Grammar.{Asked, asks, nothing, callOf}
+use Rattle.model.specs.Grammar.{asks, nothing, callOf}
 use Rattle.calls.specs.Tables.{Tables}
 use Rattle.steps.specs.Steps.{Two, told}
 use Rattle.steps.specs.Called.{Called}

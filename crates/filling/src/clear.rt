@@ -1,8 +1,7 @@
 // Entries in use made 0, before the tables are filled.
-ghost use Prim.Native.Nat.{ℕ, _+_, _*_, _≤_};
-ghost use mathlib.Core.Path.{_≡_};
+ghost use Prim.Native.Nat.{_+_, _*_, _≤_};
 ghost use lib.ListN.{length};
-ghost use lib.IntN.{ℤ, pos};
+ghost use lib.IntN.{pos};
 ghost use Rattle.filling.specs.Clear.{Wiped, WipedRows};
 
 // Makes the `k` entries from `row` on 0.

@@ -3,7 +3,7 @@
 pub mod afresh;
 mod clear;
 
-ghost use Prim.Native.Nat.{ℕ, _+_, _<_};
+ghost use Prim.Native.Nat.{_+_, _<_};
 ghost use mathlib.Core.Path.{_≡_};
 ghost use Rattle.filling.specs.Fill.{FillsNet, FilledNet, Fills, Filled};
 ghost use Rattle.filling.specs.Prepare.{Prepares, Prepared};

@@ -1,6 +1,6 @@
 -- The latest move on the journal can be reversed: its vertex is in another block than the one it left, and so on down the journal
 -- (apart-call). Rests on Reading's tests. Assumes nothing.
-use Prim.Native.Nat.{ℕ, zero, suc, _≤_}
+use Prim.Native.Nat.{ℕ, zero, suc}
 use native.Mathlib.Omega.{arith}
 use mathlib.Core.Path.{_≡_, refl, sym, _∙_, subst}
 use mathlib.Core.Bool.{not, _&&_}

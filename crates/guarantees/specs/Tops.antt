@@ -1,6 +1,6 @@
 -- The best pair is open, of the highest worth, and the first of those: lowest first number, then lowest second one; there is none exactly where
 -- no pair is open (best-top). It rests on tests and worths in range alone (bestPair-ext). Rests on laws' integers. Assumes nothing.
-use Prim.Native.Nat.{ℕ, zero, suc, _+_, _≤_, _<_}
+use Prim.Native.Nat.{ℕ, zero, suc, _≤_, _<_}
 use native.Mathlib.Decide.{ℕ-discrete}
 use native.Mathlib.Omega.{arith}
 use mathlib.Core.Path.{_≡_, refl, sym, ap, _∙_, subst}

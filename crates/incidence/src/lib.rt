@@ -1,7 +1,7 @@
 // Which vertex is a pin of which net: a row of 1,024 bits, 16 words, for each vertex. Vertices and nets count from 0.
 // Callers know the contracts only, so that the representation can change.
 ghost use mathlib.Core.Path.{_≡_};
-ghost use Prim.Native.Nat.{ℕ, _+_, _*_, _<_, _≤_};
+ghost use Prim.Native.Nat.{_+_, _*_, _<_, _≤_};
 ghost use lib.Dec.{eqb};
 ghost use lib.ListN.{length};
 ghost use Rattle.incidence.specs.Word.{Lowest};

@@ -1,11 +1,11 @@
 -- Bit j of a mask, and what it says of masks made by `|`, `&`, `^` and shifts. Assumes nothing.
-use mathlib.Core.Path.{_≡_, refl, sym, ap, ap₂, _∙_, subst}
-use Prim.Native.Nat.{ℕ, zero, suc, _+_, _-_, _*_, _/_, _%_, _^_, _≤_, _<_}
-use native.Mathlib.Nat.{lt-of-lt-of-le, mod-eq-of-lt, mod-one, mod-lt, div-self, div-eq-of-lt, mul-one, one-mul, mul-mod-left}
+use mathlib.Core.Path.{_≡_, refl, sym, ap, _∙_}
+use Prim.Native.Nat.{ℕ, zero, suc, _+_, _-_, _*_, _/_, _%_, _^_, _<_}
+use native.Mathlib.Nat.{lt-of-lt-of-le, mod-eq-of-lt, mod-one, mod-lt, div-self, div-eq-of-lt, one-mul, mul-mod-left}
 use native.Mathlib.Decide.{decLt, ℕ-discrete}
 use native.Mathlib.Numerals.{one-add, add-one}
 use native.Mathlib.Omega.{arith}
-use lib.Count.{ones, ones-cat, ones-step}
+use lib.Count.{ones, ones-cat}
 use mathlib.Core.List.{List}
 use lib.Dec.{ltb}
 use lib.ListN.{length, getD, set}

@@ -1,6 +1,6 @@
 -- A choice by a test (the library's cond), 1 for true, and the laws of both and of &&. Assumes nothing.
 -- one: one-le, one-full, one-none, one-eqb · cond: cond-yes, cond-no, cond-zero, cond-or, cond-le · &&: and-left, and-right · eqb-sym
-use Prim.Native.Nat.{ℕ, zero, suc, _+_, _≤_}
+use Prim.Native.Nat.{ℕ, _+_, _≤_}
 use native.Mathlib.Decide.{ℕ-discrete}
 use native.Mathlib.Omega.{arith}
 use mathlib.Core.Path.{_≡_, refl, sym, ap, _∙_}

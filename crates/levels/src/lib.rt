@@ -2,8 +2,7 @@
 mod nets;
 mod numbers;
 
-ghost use Prim.Native.Nat.{ℕ, _+_, _<_, _≤_};
-ghost use mathlib.Core.Path.{_≡_};
+ghost use Prim.Native.Nat.{_+_, _<_};
 ghost use Rattle.levels.specs.Running.{running};
 ghost use Rattle.levels.specs.Contract.{ContractsAll, ContractedAll};
 ghost use Rattle.levels.specs.Uncontract.{UncontractsAll, UncontractedAll};

@@ -1,6 +1,5 @@
 // ContractNetDoes and uncontraction in one net: its pin list, its counts and its shares in the gains.
-ghost use Prim.Native.Nat.{ℕ, _+_, _<_, _≤_};
-ghost use mathlib.Core.Path.{_≡_};
+ghost use Prim.Native.Nat.{_<_};
 ghost use Rattle.levels.specs.ContractNet.{ContractNetNeeds, ContractNetDoes};
 ghost use Rattle.levels.specs.SplitNet.{SplitNetNeeds, SplitNetDoes};
 use crate::numbers::index;

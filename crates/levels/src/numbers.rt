@@ -1,5 +1,5 @@
 // Numbers as the tables hold them and as code indexes with them.
-ghost use Prim.Native.Nat.{ℕ, _+_, _<_};
+ghost use Prim.Native.Nat.{_+_, _<_};
 ghost use mathlib.Core.Path.{_≡_};
 
 // A table's number as an index.

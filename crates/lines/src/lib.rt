@@ -1,7 +1,7 @@
 // One line of a sale file: the first line, a lot's, a buyer's, a call's. Each function is proved against a definition of model.
 ghost use mathlib.Core.Path.{_≡_};
 ghost use mathlib.Core.Bool.{true};
-ghost use Prim.Native.Nat.{ℕ, _≤_};
+ghost use Prim.Native.Nat.{_≤_};
 ghost use lib.ListN.{length};
 ghost use lib.Seq.{slice};
 ghost use Rattle.laws.specs.Fold.{all};

@@ -1,13 +1,12 @@
 -- Demand 3: one statement about an accepted catalogue, a list of calls and what they leave. Rests on Memory. Assumes nothing.
-use Prim.Native.Nat.{ℕ, zero, suc, _≤_}
+use Prim.Native.Nat.{ℕ, _≤_}
 use mathlib.Core.Path.{_≡_}
 use mathlib.Core.Bool.{Bool, true, false}
-use mathlib.Core.List.{List, [], _∷_, _++_}
-use lib.ListN.{length}
+use mathlib.Core.List.{List, _∷_, _++_}
 use Rattle.laws.specs.Place.{place}
 use Rattle.model.specs.Catalogue.{Limits, Hypergraph, vertices, capacity}
 use Rattle.model.specs.Measure.{Contraction, onBoard, blockWeight, metric, hasRoom}
-use Rattle.model.specs.Machine.{Call, callJ, callS, callM, callB, callW, callP, callA, State, Step, fresh}
+use Rattle.model.specs.Machine.{Call, callJ, callS, callM, callB, callW, callP, callA, State, fresh}
 use Rattle.model.specs.Search.{call}
 use Rattle.model.specs.Grammar.{Book, reading, parse}
 use Rattle.model.specs.Report.{refusal}

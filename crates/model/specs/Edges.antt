@@ -1,12 +1,11 @@
 -- The files that document 01 turns down, with the refusal's number and line, and files just inside its ranges: one table proved by
 -- computing, by refusal. Rests on Grammar and Report. Assumes nothing.
 use Prim.Native.Nat.{ℕ, zero, suc}
-use Prim.Native.String.{String}
 use mathlib.Core.Path.{_≡_, refl}
 use mathlib.Core.List.{List, [], _∷_, _++_}
 use Rattle.laws.specs.Sum.{sum, sumTo, foldTo}
 use Rattle.laws.specs.Fold.{sumOver, any, all}
-use Rattle.model.specs.Catalogue.{Hypergraph, Net, mainLimits, totalWeight, averageWeight, capacity}
+use Rattle.model.specs.Catalogue.{Hypergraph, mainLimits, totalWeight, averageWeight, capacity}
 use Rattle.model.specs.Measure.{above, climb, representative, weight, blockWeight}
 use Rattle.model.specs.Machine.{callM, callW}
 use Rattle.model.specs.Report.{digitsOf, digits}

@@ -1,10 +1,10 @@
 -- A list of calls on the machine, and the engine: a sale file's bytes to a code and the report's bytes. Rests on Grammar, Search and Report. Assumes nothing.
-use Prim.Native.Nat.{ℕ, zero, suc}
+use Prim.Native.Nat.{ℕ}
 use mathlib.Core.List.{List, [], _∷_, _++_}
 use Rattle.model.specs.Catalogue.{Limits, Hypergraph}
 use Rattle.model.specs.Machine.{Call, State, Step, fresh}
 use Rattle.model.specs.Search.{call}
-use Rattle.model.specs.Grammar.{Reading, unread, reading, stopped, Book, parse}
+use Rattle.model.specs.Grammar.{Reading, unread, reading, stopped, parse}
 use Rattle.model.specs.Report.{digits, row, answerRow, closing}
 
 -- the state after a list of calls, each on the state that the one before it left

@@ -9,7 +9,7 @@ use lib.Dec.{eqb, leb, ltb}
 use lib.ListN.{length, getD, drop}
 use Rattle.laws.specs.Fold.{all, any}
 use Rattle.laws.specs.Sum.{foldTo}
-use Rattle.model.specs.Catalogue.{Limits, Net, Hypergraph, vertices, isVertex, isBlock, capacity, drafted}
+use Rattle.model.specs.Catalogue.{Limits, Hypergraph, vertices, isVertex, isBlock, capacity, drafted}
 use Rattle.model.specs.Measure.{blockWeight}
 use Rattle.model.specs.Machine.{Call, callJ, callS, callM, callB, callW, callP, callA}
 

@@ -1,6 +1,6 @@
 -- Document 01, "Lent memory": what each table holds for a state of the machine, what is free and what keeps what it held; the
 -- stretch that hands out a buyer's marks; what the engine leaves. Rests on Engine and on laws' occurrences. Assumes nothing.
-use Prim.Native.Nat.{ℕ, zero, suc, _+_, _-_, _*_, _/_, _%_, _^_, _≤_, _<_}
+use Prim.Native.Nat.{ℕ, suc, _+_, _-_, _*_, _/_, _%_, _^_, _≤_, _<_}
 use mathlib.Core.Path.{_≡_}
 use mathlib.Core.Bool.{Bool, true, false, cond, _&&_}
 use mathlib.Core.List.{List, [], _∷_, _++_}
@@ -13,9 +13,8 @@ use Rattle.laws.specs.Occurrence.{occ}
 use Rattle.model.specs.Catalogue.{Limits, Net, Hypergraph, vertices}
 use Rattle.model.specs.Measure.{Contraction, above, onBoard, pin, size, weight, pinCount, gain}
 use Rattle.model.specs.Machine.{State, fresh}
-use Rattle.model.specs.Grammar.{Reading, unread, reading, stopped, Book, parse}
-use Rattle.model.specs.Report.{digits, row}
-use Rattle.model.specs.Engine.{Outcome, after, outcome}
+use Rattle.model.specs.Grammar.{Reading, unread, reading, stopped, parse}
+use Rattle.model.specs.Engine.{after, outcome}
 
 -- the lent tables, each as the list of its entries. Lots: bales, session and the lot above. Marks: as loaded, and as they stand.
 -- Buyers: first place (from 0), loaded marks and present marks

@@ -1,19 +1,19 @@
 -- Document 01, "The plain machine behind the calls": the best open pair, walks, polish, ratings, the calls W, P and A; and what
 -- every call does. Rests on Machine. Assumes nothing.
 use Prim.Native.Nat.{ℕ, zero, suc, _+_, _-_, _*_, _/_}
-use mathlib.Core.Bool.{Bool, true, false, not, _&&_, _||_, cond}
+use mathlib.Core.Bool.{Bool, not, _&&_, _||_, cond}
 use mathlib.Core.List.{List, [], _∷_}
 use lib.Dec.{eqb, leb, ltb}
 use lib.IntN.{ℤ, pos}
 use lib.ListN.{length}
 use lib.Signed.{ltZ}
 use Rattle.laws.specs.Choice.{one}
-use Rattle.laws.specs.Sum.{sumTo, countTo, foldTo}
+use Rattle.laws.specs.Sum.{countTo, foldTo}
 use Rattle.laws.specs.Fold.{sumOver, any}
 use Rattle.laws.specs.Place.{place}
-use Rattle.model.specs.Catalogue.{Net, Hypergraph, vertices, isVertex, averageWeight}
+use Rattle.model.specs.Catalogue.{Hypergraph, vertices, isVertex, averageWeight}
 use Rattle.model.specs.Measure.{Contraction, onBoard, pin, size, weight, metric, gain, hasRoom, adjacent}
-use Rattle.model.specs.Machine.{Call, callJ, callS, callM, callB, callW, callP, callA, Answer, saysW, saysP, saysA, saysNO, Move, State, Step, settle, refusesJ, doesJ, refusesM, doesM, uncontract, doesS, doesB}
+use Rattle.model.specs.Machine.{Call, callJ, callS, callM, callB, callW, callP, callA, saysW, saysP, saysA, Move, State, Step, settle, refusesJ, doesJ, refusesM, doesM, uncontract, doesS, doesB}
 
 -- the best pair so far: two numbers and what they are valued at
 pub data Best : Type 0 where

@@ -1,12 +1,12 @@
 -- The starred cases of document 01, one table proved by computing. Rests on Search. Assumes nothing.
-use Prim.Native.Nat.{ℕ, zero, suc}
+use Prim.Native.Nat.{ℕ}
 use mathlib.Core.Path.{_≡_, refl}
 use mathlib.Core.List.{List, [], _∷_}
-use lib.IntN.{ℤ, pos, negsuc}
+use lib.IntN.{pos, negsuc}
 use Rattle.laws.specs.Sum.{sum, sumTo}
 use Rattle.laws.specs.Fold.{sumOver, any}
 use Rattle.laws.specs.Place.{place}
-use Rattle.model.specs.Catalogue.{Net, Hypergraph, totalWeight, averageWeight, capacity, drafted}
+use Rattle.model.specs.Catalogue.{Hypergraph, totalWeight, averageWeight, capacity, drafted}
 use Rattle.model.specs.Measure.{Contraction, above, climb, representative, pin, size, pinCount, connectivity, metric, freed, drawn, gain}
 use Rattle.model.specs.Search.{rating}
 

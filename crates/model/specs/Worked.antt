@@ -1,9 +1,7 @@
 -- Whole sales from bytes to bytes, proved by computing: the worked sale of document 01, every refusal of a call with their order, and
 -- sales whose walks keep some moves and reverse others. Rests on Engine. Assumes nothing.
-use Prim.Native.Nat.{ℕ, zero, suc}
 use Prim.Native.String.{String}
 use mathlib.Core.Path.{_≡_, refl}
-use mathlib.Core.List.{List, [], _∷_}
 use Rattle.laws.specs.Sum.{sum, sumTo, foldTo}
 use Rattle.laws.specs.Fold.{sumOver, any, all}
 use Rattle.laws.specs.Place.{place}
@@ -13,7 +11,7 @@ use Rattle.model.specs.Machine.{fresh, settle, refusesJ, contract, doesJ
 use Rattle.model.specs.Search.{better, consider, bestPair, reversed, canGo, isOpen, walkBest, walkMove, walkTurn, walkOn, walk, walked, polishBest, polishTurn, polishOn, polish, rating, canJoin, joinBest, boardSize, joinTurn, coarsen, refine, refusesW, doesW, doesP, refusesA, doesA, call}
 use Rattle.model.specs.Grammar.{bytes, same, parts, isNumber, onward, value, fields, isLine, saleLine, overfull, grown, withLot, lotLine, mark, marking, withNet, bought, buyLine, asked, withCall, callLine, line, ending, lines, parse}
 use Rattle.model.specs.Report.{digitsOf, digits, signed, tail, row, answerRow, lotRows, buyRows, closing}
-use Rattle.model.specs.Engine.{Outcome, after, answers, run, outcome, engine}
+use Rattle.model.specs.Engine.{after, answers, run, outcome, engine}
 
 -- an accepted sale and its report
 abbrev pub Gives : String → String → Type 0

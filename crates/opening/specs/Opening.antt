@@ -1,6 +1,6 @@
 -- The tables as loading leaves them become a running sale: blocks' weights, the draft's metric, and the tables filled are sound for a
 -- fresh machine. Rests on filling and on calls' Tables. Assumes nothing.
-use Prim.Native.Nat.{ℕ, zero, suc, _+_, _*_, _-_, _<_, _≤_, _^_}
+use Prim.Native.Nat.{ℕ, _+_, _*_, _-_, _<_, _≤_}
 use native.Mathlib.Decide.{ℕ-discrete}
 use native.Mathlib.Nat.{mul-le-mul-left, mul-zero}
 use native.Mathlib.Numerals.{add-one}
@@ -15,10 +15,10 @@ use lib.Seq.{getD-set-same, getD-set-other}
 use lib.IntN.{ℤ}
 use Rattle.laws.specs.Choice.{one, one-full, cond-yes}
 use Rattle.laws.specs.Sum.{sum, sumTo, sum-ext, sum-step, sum-mono, sum-const, sum-sumTo, sum-list}
-use Rattle.laws.specs.Fold.{any, any-at, sumOver, All, all-get}
+use Rattle.laws.specs.Fold.{any, any-at, all-get}
 use Rattle.laws.specs.Occurrence.{occ, occ-at, occ-distinct}
 use Rattle.laws.specs.Bit.{bit, bit-lt}
-use Rattle.model.specs.Catalogue.{Net, Hypergraph, vertices, loaded, drafted}
+use Rattle.model.specs.Catalogue.{Hypergraph, loaded, drafted}
 use Rattle.model.specs.Measure.{above, weight, blockWeight, connectivity, metric}
 use Rattle.model.specs.Memory.{noNet, weightEntry}
 use Rattle.guarantees.specs.Ends.{Placed}
@@ -30,7 +30,6 @@ use Rattle.pins.specs.Stretch.{Stretch}
 use Rattle.connectivity.specs.Laid.{Net as NetList}
 use Rattle.connectivity.specs.Listed.{vertexAt}
 use Rattle.connectivity.specs.Set.{Frame}
-use Rattle.levels.specs.World.{Lists}
 use Rattle.levels.specs.Running.{Running, running, Follows, netAt}
 use Rattle.report.proofs.Climb.{connected}
 use Rattle.filling.specs.Prepare.{Prepares, Prepared}

@@ -1,8 +1,7 @@
 // The tables as loading leaves them made into a running sale: counts, connectivity sets and gains filled, the blocks' weights, the metric.
-ghost use Prim.Native.Nat.{ℕ, _+_, _-_, _*_, _<_, _≤_};
+ghost use Prim.Native.Nat.{_+_, _-_, _*_, _<_, _≤_};
 ghost use mathlib.Core.Path.{_≡_};
-ghost use mathlib.Core.List.{List};
-ghost use lib.ListN.{length, getD};
+ghost use lib.ListN.{length};
 ghost use Rattle.laws.specs.Sum.{sum};
 ghost use Rattle.laws.specs.Bit.{bit};
 ghost use Rattle.opening.specs.Opening.{Borne, metricBy, Measurable, CanOpen, Opened};

@@ -3,7 +3,7 @@
 use Prim.Native.Nat.{ℕ, _+_, _*_, _<_, _≤_}
 use native.Mathlib.Decide.{decLt}
 use native.Mathlib.Omega.{arith}
-use mathlib.Core.Path.{_≡_, refl, sym, ap, _∙_}
+use mathlib.Core.Path.{_≡_, refl, _∙_}
 use mathlib.Core.List.{List}
 use lib.ListN.{length, getD, replicate, length-replicate, getD-replicate, List·getD-eq-default}
 use lib.IntN.{ℤ}
@@ -20,7 +20,7 @@ use Rattle.loader.specs.declared.Loaded.the-variants.{Accepted}
 use Rattle.loader.specs.Tables.{Lists, LongLists, graph, Loads}
 use Rattle.opening.specs.Opening.{Opens, CanOpen, Opened}
 use Rattle.report.specs.Wrote.{Wrote}
-use Rattle.report.specs.Closing.{Ended, ClosingFits}
+use Rattle.report.specs.Closing.{Ended}
 use Rattle.calls.specs.Pairs.{stackOf}
 use Rattle.calls.specs.Tables.{Tables, tables}
 use Rattle.steps.specs.Steps.{Two}

@@ -1,7 +1,6 @@
 // A list of calls on tables as loading left them, with demand 3 as its contract.
-ghost use Prim.Native.Nat.{ℕ, _≤_};
+ghost use Prim.Native.Nat.{ℕ};
 ghost use mathlib.Core.List.{List};
-ghost use lib.ListN.{length};
 ghost use Rattle.model.specs.Catalogue.{Limits};
 ghost use Rattle.reader.specs.Seen.{callsOf};
 ghost use Rattle.loader.specs.Tables.{Lists, lists, graph};

@@ -16,7 +16,7 @@ use Rattle.report.specs.Wrote.{Wrote}
 use Rattle.report.proofs.Laws.{wrote-none, wrote-length, wrote-append}
 use Rattle.calls.specs.Tables.{Tables, Sound, Keeps}
 use Rattle.search.specs.Keeping.{keeps-more}
-use Rattle.steps.specs.Steps.{Two, Runs, Ready, Stepped}
+use Rattle.steps.specs.Steps.{Two, Runs, Stepped}
 use Rattle.steps.specs.Start.{Empty, runs-fresh}
 use Rattle.steps.specs.Called.{Called, keeps-same}
 use Rattle.turns.specs.Cycling.{ReadyA}

@@ -1,8 +1,8 @@
 // The refusals of J, M and W, in their order.
-ghost use Prim.Native.Nat.{ℕ, _+_, _-_, _<_, _≤_};
+ghost use Prim.Native.Nat.{_-_, _<_, _≤_};
 ghost use mathlib.Core.Path.{_≡_};
 ghost use mathlib.Core.Bool.{_&&_};
-ghost use lib.ListN.{length, getD};
+ghost use lib.ListN.{length};
 ghost use Rattle.steps.specs.Refusal.{known, here, roomIn, refusalJ, refusalM, refusalW};
 
 // Is `x` a number from 1 to `n`.

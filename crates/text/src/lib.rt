@@ -1,6 +1,6 @@
 // Fields, lines and numbers of a sale file, and numbers written into a buffer. Each function is proved against a definition of model.
 ghost use mathlib.Core.Path.{_≡_};
-ghost use Prim.Native.Nat.{ℕ, _+_, _-_, _≤_, _<_};
+ghost use Prim.Native.Nat.{_+_, _-_, _≤_, _<_};
 ghost use lib.ListN.{length};
 ghost use lib.Seq.{slice};
 ghost use Rattle.model.specs.Grammar.{same, parts, fields, at as fieldAt};

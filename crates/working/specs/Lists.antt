@@ -6,7 +6,7 @@ use native.Mathlib.Numerals.{add-one}
 use native.Mathlib.Omega.{arith}
 use mathlib.Core.Path.{_≡_, refl, sym, ap, _∙_, subst}
 use mathlib.Core.Bool.{Bool, true, false, cond, _&&_, _||_, true≢false}
-use mathlib.Core.List.{List, [], _∷_, _++_}
+use mathlib.Core.List.{List, [], _∷_}
 use borrow.Author.Tests.{eq-eqb, ne-eqb, lt-ltb, le-ltb, ltb-false}
 use lib.Dec.{eqb, ltb}
 use lib.ListN.{length, getD, length-append}
@@ -15,7 +15,7 @@ use Rattle.laws.specs.Choice.{and-left, and-right}
 use Rattle.model.specs.Catalogue.{Limits, Hypergraph}
 use Rattle.model.specs.Measure.{Contraction}
 use Rattle.model.specs.Machine.{Call, callJ, callS, callM, callB, callW, callP, callA}
-use Rattle.model.specs.Grammar.{Reading, unread, reading, stopped, Asked, asks, nothing, callOf, parse}
+use Rattle.model.specs.Grammar.{Reading, unread, reading, stopped, asks, nothing, callOf, parse}
 use Rattle.model.specs.Demand.{Demand3}
 use Rattle.model.specs.Report.{digits, row}
 use Rattle.model.specs.Engine.{outcome}

@@ -1,6 +1,6 @@
 // A catalogue's bytes and a list of calls apart from each other, three numbers for each call: the letter's byte and two numbers. The list
 // need not fit into a file with the catalogue.
-ghost use Prim.Native.Nat.{ℕ, _*_, _/_, _≤_};
+ghost use Prim.Native.Nat.{_*_, _/_, _≤_};
 ghost use mathlib.Core.Path.{_≡_};
 ghost use lib.ListN.{length};
 ghost use Rattle.model.specs.Catalogue.{mainLimits};

@@ -2,18 +2,13 @@
 use Prim.Native.Nat.{ℕ, _≤_, _-_, _*_}
 use lib.IntN.{pos}
 use native.Mathlib.Omega.{arith}
-use mathlib.Core.Path.{_≡_, refl, sym, _∙_, ap}
+use mathlib.Core.Path.{ap}
 use denote.Ref.{now}
-use borrow.Author.Needs.{needs}
 use Rattle.connectivity.specs.Raised.{Raised, raised-none, raised-next, raised-set, raised-done}
 use Rattle.connectivity.specs.Laid.{signed}
 use Rattle.connectivity.specs.Touch.{But, but-idle, but-other, amount-is}
 use Rattle.connectivity.proofs.but_row.Statement.{statement}
 use Rattle.connectivity.proofs.but_row.Tie as tie
-use Rattle.connectivity.proofs.but_row.Reads as reads
-use Rattle.connectivity.proofs.but_row.Lts as lts
-use Rattle.connectivity.proofs.amount.Reads as amount-reads
-use Rattle.connectivity.proofs.shift_at.Reads as shift-at-reads
 
 abbrev Inv-loop : tie.InvT-loop
 Inv-loop gains₀ q o a f want k w take j₀ gains j = (j ≤ k) × Raised (But take f want o a w) (16 * q) j gains₀ gains

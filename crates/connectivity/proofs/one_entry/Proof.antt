@@ -1,15 +1,11 @@
 -- `one_entry`: one store, or nothing where the count is not critical.
 use Prim.Native.Nat.{_≤_, _-_}
 use native.Mathlib.Omega.{arith}
-use mathlib.Core.Path.{_≡_, refl, sym, _∙_, ap}
 use denote.Ref.{now}
 use borrow.Author.Needs.{needs}
 use Rattle.connectivity.specs.Touch.{one-idle, one-set}
 use Rattle.connectivity.proofs.one_entry.Statement.{statement}
 use Rattle.connectivity.proofs.one_entry.Tie as tie
-use Rattle.connectivity.proofs.one_entry.Reads as reads
-use Rattle.connectivity.proofs.one_entry.Lts as lts
-use Rattle.connectivity.proofs.shift_at.Reads as shift-at-reads
 
 returns : tie.Need-returns
 returns c = let a = c .before .args in one-idle (a .take) (a .f) (a .want) (a .a) (a .w) (now (a .gains)) (c .if1 .taken)

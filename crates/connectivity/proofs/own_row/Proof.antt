@@ -1,14 +1,9 @@
 -- `own_row`: nothing for no pin, else the row of shares.
 use native.Mathlib.Omega.{arith}
-use mathlib.Core.Path.{_≡_, refl, sym, _∙_, ap}
-use denote.Ref.{now}
 use borrow.Author.Needs.{needs}
 use Rattle.connectivity.specs.Steps.{own-none, own-ready, own-some}
 use Rattle.connectivity.proofs.own_row.Statement.{statement}
 use Rattle.connectivity.proofs.own_row.Tie as tie
-use Rattle.connectivity.proofs.own_row.Reads as reads
-use Rattle.connectivity.proofs.own_row.Lts as lts
-use Rattle.connectivity.proofs.shares.share_row.Reads as share-row-reads
 
 returns : tie.Need-returns
 returns c = let S = c .before .before in own-none (S .args .take) (S .pre) (c .if1 .taken)

@@ -1,19 +1,11 @@
 -- `set_pin` by the steps of Steps: the row of x, the counts, the other pins, the row of x again.
 use native.Mathlib.Omega.{arith}
-use mathlib.Core.Path.{_≡_, refl, sym, _∙_, ap}
-use denote.Ref.{now}
+use mathlib.Core.Path.{refl}
 use borrow.Author.Needs.{needs}
 use Rattle.connectivity.specs.Set.{set-depart, set-arrive}
 use Rattle.connectivity.specs.Steps.{set-same, set-own, set-others, set-own-2, set-done}
 use Rattle.connectivity.proofs.set_pin.Statement.{statement}
 use Rattle.connectivity.proofs.set_pin.Tie as tie
-use Rattle.connectivity.proofs.set_pin.Reads as reads
-use Rattle.connectivity.proofs.set_pin.Lts as lts
-use Rattle.connectivity.proofs.count_at.Reads as count-at-reads
-use Rattle.connectivity.proofs.own_row.Reads as own-row-reads
-use Rattle.connectivity.proofs.touch_others.Reads as touch-others-reads
-use Rattle.connectivity.proofs.counts.arrive.Reads as arrive-reads
-use Rattle.connectivity.proofs.counts.depart.Reads as depart-reads
 
 returns : tie.Need-returns
 returns c = set-same (c .before .before .before .before .before .before .pre) (c .if1 .taken)

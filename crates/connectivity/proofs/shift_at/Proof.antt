@@ -1,7 +1,7 @@
 -- `shift_at`: the sign chooses between adding and taking.
 use lib.IntN.{pos}
 use native.Mathlib.Omega.{arith}
-use mathlib.Core.Path.{_≡_, refl, sym, _∙_, ap}
+use mathlib.Core.Path.{refl}
 use denote.Ref.{now}
 use borrow.Author.Needs.{needs}
 use Rattle.laws.specs.Integer.{add-at-fits, sub-at-fits}
@@ -9,11 +9,6 @@ use Rattle.connectivity.specs.Raised.{at}
 use Rattle.connectivity.specs.Touch.{pos-abs, shift-taken, shift-put}
 use Rattle.connectivity.proofs.shift_at.Statement.{statement}
 use Rattle.connectivity.proofs.shift_at.Tie as tie
-use Rattle.connectivity.proofs.shift_at.Reads as reads
-use Rattle.connectivity.proofs.shift_at.Lts as lts
-use Rattle.connectivity.proofs.shares.add_at.Reads as add-at-reads
-use Rattle.connectivity.proofs.shares.sub_at.Reads as sub-at-reads
-use Rattle.connectivity.proofs.shares.wide.Reads as wide-reads
 
 wide-requires : tie.Need-wide-requires
 wide-requires c κs = search needs

@@ -1,15 +1,8 @@
 -- `touch`: the four rules add up to Change's `delta`.
-use native.Mathlib.Omega.{arith}
-use mathlib.Core.Path.{_≡_, refl, sym, _∙_, ap}
-use denote.Ref.{now}
 use borrow.Author.Needs.{needs}
 use Rattle.connectivity.specs.Touch.{room-0, room-1, room-2, room-3, touched}
 use Rattle.connectivity.proofs.touch.Statement.{statement}
 use Rattle.connectivity.proofs.touch.Tie as tie
-use Rattle.connectivity.proofs.touch.Reads as reads
-use Rattle.connectivity.proofs.touch.Lts as lts
-use Rattle.connectivity.proofs.but_row.Reads as but-row-reads
-use Rattle.connectivity.proofs.one_entry.Reads as one-entry-reads
 
 but-row-requires : tie.Need-but-row-requires
 but-row-requires c κs = room-0 (c .before .pre)

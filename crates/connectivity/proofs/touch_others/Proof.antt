@@ -2,8 +2,6 @@
 use Prim.Native.Nat.{_≤_, _-_}
 use mathlib.Core.Logic.{⊎-elim}
 use native.Mathlib.Omega.{arith}
-use mathlib.Core.Path.{_≡_, refl, sym, _∙_, ap}
-use denote.Ref.{now}
 use borrow.Author.Needs.{needs}
 use Rattle.laws.specs.Place.{place}
 use Rattle.connectivity.specs.Row.{row}
@@ -11,10 +9,6 @@ use Rattle.connectivity.specs.Laid.{Laid}
 use Rattle.connectivity.specs.Touch.{Delta, others-idle, others-start, others-done, others-skip, others-touch, others-more, pin-in}
 use Rattle.connectivity.proofs.touch_others.Statement.{statement}
 use Rattle.connectivity.proofs.touch_others.Tie as tie
-use Rattle.connectivity.proofs.touch_others.Reads as reads
-use Rattle.connectivity.proofs.touch_others.Lts as lts
-use Rattle.connectivity.proofs.index.Reads as index-reads
-use Rattle.connectivity.proofs.touch.Reads as touch-reads
 
 abbrev Inv-loop : tie.InvT-loop
 Inv-loop gains₀ pins blocks n k first p x a b fa fb w i₀ gains i = (i ≤ p) × Laid (Delta a b fa fb w) (place (row pins blocks first i) x 0) k gains₀ gains

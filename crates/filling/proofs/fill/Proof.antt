@@ -1,16 +1,10 @@
 -- `fill`: the nets below e are filled.
 use Prim.Native.Nat.{_≤_, _-_}
 use native.Mathlib.Omega.{arith}
-use mathlib.Core.Path.{_≡_, sym, _∙_, ap}
-use denote.Ref.{now}
 use borrow.Author.Needs.{needs}
 use Rattle.filling.specs.Fill.{Filling, filling-none, filling-net, filling-more, filling-done}
 use Rattle.filling.proofs.fill.Statement.{statement}
 use Rattle.filling.proofs.fill.Tie as tie
-use Rattle.filling.proofs.fill.Reads as reads
-use Rattle.filling.proofs.fill.Lts as lts
-use Rattle.filling.proofs.fill_net.Reads as fill-net-reads
-use Rattle.filling.proofs.index.Reads as index-reads
 
 abbrev Inv-loop : tie.InvT-loop
 Inv-loop counts₀ visited₀ gains₀ bits₀ weights pins blocks firsts sizes n m k e₀ counts visited gains bits e =

@@ -1,17 +1,11 @@
 -- `fill_net`: the first i pins are counted.
 use Prim.Native.Nat.{_≤_, _-_}
 use native.Mathlib.Omega.{arith}
-use mathlib.Core.Path.{_≡_, refl, sym, _∙_, ap}
-use denote.Ref.{now}
+use mathlib.Core.Path.{refl}
 use borrow.Author.Needs.{needs}
 use Rattle.filling.specs.Fill.{FilledNet, filled-none, filled-more, filled-all, fill-sets, pin-in}
 use Rattle.filling.proofs.fill_net.Statement.{statement}
 use Rattle.filling.proofs.fill_net.Tie as tie
-use Rattle.filling.proofs.fill_net.Reads as reads
-use Rattle.filling.proofs.fill_net.Lts as lts
-use Rattle.connectivity.proofs.set_pin.Reads as set-pin-reads
-use Rattle.filling.proofs.index.Reads as index-reads
-use Rattle.incidence.proofs.put.Reads as put-reads
 
 abbrev Inv-loop : tie.InvT-loop
 Inv-loop counts₀ visited₀ gains₀ bits₀ weights pins blocks n m k first p e i₀ counts visited gains bits i =

@@ -1,17 +1,8 @@
 -- `prepare`: blank tables, filled.
-use native.Mathlib.Omega.{arith}
-use mathlib.Core.Path.{_≡_, sym, _∙_, ap}
-use denote.Ref.{now}
 use borrow.Author.Needs.{needs}
 use Rattle.filling.specs.Prepare.{prepare-fills, prepared}
 use Rattle.filling.proofs.prepare.Statement.{statement}
 use Rattle.filling.proofs.prepare.Tie as tie
-use Rattle.filling.proofs.prepare.Reads as reads
-use Rattle.filling.proofs.prepare.Lts as lts
-use Rattle.filling.proofs.clear.clear_counts.Reads as clear-counts-reads
-use Rattle.filling.proofs.clear.clear_gains.Reads as clear-gains-reads
-use Rattle.filling.proofs.clear.clear_row.Reads as clear-row-reads
-use Rattle.filling.proofs.fill.Reads as fill-reads
 
 clear-counts-requires : tie.Need-clear-counts-requires
 clear-counts-requires c κs = search needs

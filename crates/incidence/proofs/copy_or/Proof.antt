@@ -1,15 +1,11 @@
 -- `copy_or`: the first k words of the row are joined.
-use Prim.Native.Nat.{_+_, _*_, _-_, _≤_}
-use lib.ListN.{length}
+use Prim.Native.Nat.{_-_, _≤_}
 use native.Mathlib.Omega.{arith}
-use mathlib.Core.Path.{_≡_, sym, _∙_, ap}
+use mathlib.Core.Path.{_≡_}
 use denote.Ref.{now}
-use borrow.Author.Needs.{needs}
 use Rattle.incidence.specs.On.{JoinedTo, joined-none, joined-more, joined}
 use Rattle.incidence.proofs.copy_or.Statement.{statement}
 use Rattle.incidence.proofs.copy_or.Tie as tie
-use Rattle.incidence.proofs.copy_or.Reads as reads
-use Rattle.incidence.proofs.copy_or.Lts as lts
 
 abbrev Inv-loop : tie.InvT-loop
 Inv-loop bits₀ u v to from k₀ bits k = (k ≤ 16) × JoinedTo bits₀ bits u v k

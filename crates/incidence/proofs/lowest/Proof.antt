@@ -1,13 +1,8 @@
 -- `lowest` is what `trailing_zeros` counts.
 use native.Mathlib.Omega.{arith}
-use mathlib.Core.Path.{_≡_, sym, _∙_, ap}
-use denote.Ref.{now}
-use borrow.Author.Needs.{needs}
 use Rattle.incidence.specs.Word.{tz-small, lowest-law}
 use Rattle.incidence.proofs.lowest.Statement.{statement}
 use Rattle.incidence.proofs.lowest.Tie as tie
-use Rattle.incidence.proofs.lowest.Reads as reads
-use Rattle.incidence.proofs.lowest.Lts as lts
 
 cast-result : tie.Need-cast-result
 cast-result c = omega (arith, tz-small (c .args .word) (c .pre) (c .fits .word .fits))

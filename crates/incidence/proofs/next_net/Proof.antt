@@ -1,17 +1,11 @@
 -- `next_net`: no net of x lies between `from` and the words passed so far.
 use Prim.Native.Nat.{_+_, _*_, _/_, _-_, _≤_}
-use lib.ListN.{length}
 use native.Mathlib.Omega.{arith}
-use mathlib.Core.Path.{_≡_, sym, _∙_, ap}
 use denote.Ref.{now}
 use borrow.Author.Needs.{needs}
 use Rattle.incidence.specs.On.{Clear, next-rest, next-word, next-none, clear-rest, clear-word}
 use Rattle.incidence.proofs.next_net.Statement.{statement}
 use Rattle.incidence.proofs.next_net.Tie as tie
-use Rattle.incidence.proofs.next_net.Reads as reads
-use Rattle.incidence.proofs.next_net.Lts as lts
-use Rattle.incidence.proofs.least.Reads as least-reads
-use Rattle.incidence.proofs.lowest.Reads as lowest-reads
 
 abbrev Inv-loop : tie.InvT-loop
 Inv-loop bits x from m row w₀ rest w = (from ≤ w * 64) × (w ≤ 16) × Clear bits x from (w * 64)

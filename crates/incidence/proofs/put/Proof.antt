@@ -1,15 +1,12 @@
 -- `put` sets one bit: Word's `set-law`, carried to the whole bitset by `changed`.
 use Prim.Native.Nat.{_%_}
 use native.Mathlib.Omega.{arith}
-use mathlib.Core.Path.{_≡_, sym, _∙_, ap}
 use denote.Ref.{now}
 use borrow.Author.Needs.{needs}
 use Rattle.incidence.specs.Word.{set-law}
 use Rattle.incidence.specs.On.{changed}
 use Rattle.incidence.proofs.put.Statement.{statement}
 use Rattle.incidence.proofs.put.Tie as tie
-use Rattle.incidence.proofs.put.Reads as reads
-use Rattle.incidence.proofs.put.Lts as lts
 
 mul-i : tie.Need-mul-i
 mul-i c = search needs

@@ -1,14 +1,9 @@
 -- `contract`: v's block is stored once v is a pin of no net.
 use native.Mathlib.Omega.{arith}
-use mathlib.Core.Path.{_≡_, sym, _∙_, ap}
-use denote.Ref.{now}
 use borrow.Author.Needs.{needs}
 use Rattle.levels.specs.Operations.{contract-needs, contract-does}
 use Rattle.levels.proofs.contract.Statement.{statement}
 use Rattle.levels.proofs.contract.Tie as tie
-use Rattle.levels.proofs.contract.Reads as reads
-use Rattle.levels.proofs.contract.Lts as lts
-use Rattle.levels.proofs.contract_nets.Reads as contract-nets-reads
 
 contract-nets-requires : tie.Need-contract-nets-requires
 contract-nets-requires c κs = contract-needs (c .before .before .before .before .before .before .before .before .before .before .before .before .before .before .before .pre)

@@ -1,20 +1,12 @@
 -- `contract_nets`: the nets below e are contracted, and the incidence follows at the end.
 use Prim.Native.Nat.{_≤_, _<_, _-_}
 use native.Mathlib.Omega.{arith}
-use mathlib.Core.Path.{_≡_, sym, _∙_, ap}
-use denote.Ref.{now}
+use mathlib.Core.Path.{_≡_}
 use borrow.Author.Needs.{needs}
 use Rattle.incidence.specs.On.{on}
 use Rattle.levels.specs.Contract.{Contracting, contracting-none, contracting-contracts, contracting-more, contracting-done}
 use Rattle.levels.proofs.contract_nets.Statement.{statement}
 use Rattle.levels.proofs.contract_nets.Tie as tie
-use Rattle.levels.proofs.contract_nets.Reads as reads
-use Rattle.levels.proofs.contract_nets.Lts as lts
-use Rattle.levels.proofs.nets.contract_net.Reads as contract-net-reads
-use Rattle.levels.proofs.numbers.index.Reads as index-reads
-use Rattle.levels.proofs.numbers.narrow.Reads as narrow-reads
-use Rattle.incidence.proofs.copy_or.Reads as copy-or-reads
-use Rattle.incidence.proofs.next_net.Reads as next-net-reads
 
 abbrev Inv-loop : tie.InvT-loop
 Inv-loop counts₀ visited₀ gains₀ pins₀ sizes₀ bits weights blocks firsts n m k u v e₀ counts visited gains pins sizes e =

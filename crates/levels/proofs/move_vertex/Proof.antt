@@ -1,19 +1,13 @@
 -- `move_vertex`: the nets below e have seen the move.
 use Prim.Native.Nat.{_≤_, _<_, _-_}
 use native.Mathlib.Omega.{arith}
-use mathlib.Core.Path.{_≡_, sym, _∙_, ap}
-use denote.Ref.{now}
+use mathlib.Core.Path.{_≡_}
 use borrow.Author.Needs.{needs}
 use Rattle.incidence.specs.On.{on}
 use Rattle.levels.specs.Move.{Moving, moving-none, moving-sets, moving-more, moving-done}
 use Rattle.levels.specs.Operations.{move-needs, move-does}
 use Rattle.levels.proofs.move_vertex.Statement.{statement}
 use Rattle.levels.proofs.move_vertex.Tie as tie
-use Rattle.levels.proofs.move_vertex.Reads as reads
-use Rattle.levels.proofs.move_vertex.Lts as lts
-use Rattle.connectivity.proofs.set_pin.Reads as set-pin-reads
-use Rattle.incidence.proofs.next_net.Reads as next-net-reads
-use Rattle.levels.proofs.numbers.index.Reads as index-reads
 
 abbrev Inv-loop : tie.InvT-loop
 Inv-loop counts₀ visited₀ gains₀ blocks weights pins firsts sizes bits n m k u t s b e₀ counts visited gains e =

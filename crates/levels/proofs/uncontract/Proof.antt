@@ -1,14 +1,9 @@
 -- `uncontract`: v's block is stored while v is a pin of no net.
-use mathlib.Core.Path.{refl, _≡_, sym, _∙_, ap}
-use native.Mathlib.Omega.{arith}
-use denote.Ref.{now}
+use mathlib.Core.Path.{refl}
 use borrow.Author.Needs.{needs}
 use Rattle.levels.specs.Operations.{uncontract-needs, uncontract-does}
 use Rattle.levels.proofs.uncontract.Statement.{statement}
 use Rattle.levels.proofs.uncontract.Tie as tie
-use Rattle.levels.proofs.uncontract.Reads as reads
-use Rattle.levels.proofs.uncontract.Lts as lts
-use Rattle.levels.proofs.uncontract_nets.Reads as uncontract-nets-reads
 
 mul-blocks : tie.Need-mul-blocks
 mul-blocks c = search needs

@@ -1,19 +1,12 @@
 -- `uncontract_nets`: the nets below e are split.
 use Prim.Native.Nat.{_≤_, _<_, _-_}
 use native.Mathlib.Omega.{arith}
-use mathlib.Core.Path.{_≡_, sym, _∙_, ap}
-use denote.Ref.{now}
+use mathlib.Core.Path.{_≡_}
 use borrow.Author.Needs.{needs}
 use Rattle.incidence.specs.On.{on}
 use Rattle.levels.specs.Uncontract.{UncontractingAll, uncontracting-none, uncontracting-splits, uncontracting-more, uncontracting-done}
 use Rattle.levels.proofs.uncontract_nets.Statement.{statement}
 use Rattle.levels.proofs.uncontract_nets.Tie as tie
-use Rattle.levels.proofs.uncontract_nets.Reads as reads
-use Rattle.levels.proofs.uncontract_nets.Lts as lts
-use Rattle.incidence.proofs.next_net.Reads as next-net-reads
-use Rattle.levels.proofs.numbers.index.Reads as index-reads
-use Rattle.levels.proofs.numbers.narrow.Reads as narrow-reads
-use Rattle.levels.proofs.nets.split_net.Reads as split-net-reads
 
 abbrev Inv-loop : tie.InvT-loop
 Inv-loop counts₀ visited₀ gains₀ pins₀ sizes₀ bits₀ weights blocks firsts loaded n m k u v e₀ counts visited gains pins sizes bits e =

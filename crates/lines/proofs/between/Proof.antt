@@ -2,8 +2,6 @@
 use borrow.Author.Tests.{lt-leb, le-leb}
 use Rattle.lines.proofs.between.Statement.{statement}
 use Rattle.lines.proofs.between.Tie as tie
-use Rattle.lines.proofs.between.Reads as reads
-use Rattle.lines.proofs.between.Lts as lts
 
 returns : tie.Need-returns
 returns c = rw (lt-leb (c .before .args .low) (c .before .args .x) (c .if1 .taken))

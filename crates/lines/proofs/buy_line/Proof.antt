@@ -16,13 +16,6 @@ use Rattle.lines.proofs.Asks.{word-BUY}
 use Rattle.lines.proofs.Bids.{buy-long, buy-rest, buy-bad, buy-range, buy-read, buy-wrong}
 use Rattle.lines.proofs.buy_line.Statement.{statement}
 use Rattle.lines.proofs.buy_line.Tie as tie
-use Rattle.lines.proofs.buy_line.Reads as reads
-use Rattle.lines.proofs.buy_line.Lts as lts
-use Rattle.lines.proofs.between.Reads as between-reads
-use Rattle.text.proofs.form.Reads as form-reads
-use Rattle.text.proofs.get.Reads as get-reads
-use Rattle.lines.proofs.read_pins.Reads as read-pins-reads
-use Rattle.text.proofs.third.Reads as third-reads
 
 slice-aggregate-form : tie.Need-slice-aggregate-form
 slice-aggregate-form c = search needs

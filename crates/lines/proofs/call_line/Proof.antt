@@ -10,10 +10,6 @@ use Rattle.text.proofs.Lines.{numbered, line-yes, line-no}
 use Rattle.lines.proofs.Asks.{asked-J, asked-S, asked-M, asked-B, asked-W, asked-P, asked-A, asked-none, word-J, word-S, word-M, word-B, word-W, word-P, word-A}
 use Rattle.lines.proofs.call_line.Statement.{statement}
 use Rattle.lines.proofs.call_line.Tie as tie
-use Rattle.lines.proofs.call_line.Reads as reads
-use Rattle.lines.proofs.call_line.Lts as lts
-use Rattle.text.proofs.form.Reads as form-reads
-use Rattle.text.proofs.get.Reads as get-reads
 
 slice-aggregate-form : tie.Need-slice-aggregate-form
 slice-aggregate-form c = search needs

@@ -13,11 +13,6 @@ use Rattle.text.proofs.Lines.{numbered, line-yes, line-no}
 use Rattle.lines.proofs.Asks.{lot-form, lot-1, lot-2, lot-read, word-LOT}
 use Rattle.lines.proofs.lot_line.Statement.{statement}
 use Rattle.lines.proofs.lot_line.Tie as tie
-use Rattle.lines.proofs.lot_line.Reads as reads
-use Rattle.lines.proofs.lot_line.Lts as lts
-use Rattle.lines.proofs.between.Reads as between-reads
-use Rattle.text.proofs.form.Reads as form-reads
-use Rattle.text.proofs.get.Reads as get-reads
 
 slice-aggregate-form : tie.Need-slice-aggregate-form
 slice-aggregate-form c = search needs

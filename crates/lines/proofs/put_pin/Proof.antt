@@ -5,8 +5,6 @@ use borrow.Author.Needs.{needs}
 use Rattle.lines.proofs.Stamps.{mark-low, mark-high, mark-twice, mark-full, mark-new}
 use Rattle.lines.proofs.put_pin.Statement.{statement}
 use Rattle.lines.proofs.put_pin.Tie as tie
-use Rattle.lines.proofs.put_pin.Reads as reads
-use Rattle.lines.proofs.put_pin.Lts as lts
 
 returns : tie.Need-returns
 returns c = let a = c .before .args in mark-low (a .v) (a .vertices) (a .j) (a .m) (now (a .pins)) (now (a .stamps)) (omega arith) (omega arith) (c .before .pre .2) (c .if1 .taken)

@@ -6,11 +6,6 @@ use denote.Ref.{now}
 use Rattle.lines.proofs.Fields.{OnMarks, marks-start, first-number, marks-stop, marks-last, marks-on}
 use Rattle.lines.proofs.read_pins.Statement.{statement}
 use Rattle.lines.proofs.read_pins.Tie as tie
-use Rattle.lines.proofs.read_pins.Reads as reads
-use Rattle.lines.proofs.read_pins.Lts as lts
-use Rattle.text.proofs.find.Reads as find-reads
-use Rattle.text.proofs.get.Reads as get-reads
-use Rattle.lines.proofs.put_pin.Reads as put-pin-reads
 
 abbrev Inv-loop : tie.InvT-loop
 Inv-loop s at end vertices j first pins₀ stamps₀ i₀ m₀ pins stamps i m = OnMarks s at end vertices j first pins₀ pins stamps i m

@@ -13,11 +13,6 @@ use Rattle.lines.specs.Line.{limitsOf}
 use Rattle.lines.proofs.Asks.{sale-form, sale-1, sale-2, sale-3, sale-4, sale-read, word-SALE}
 use Rattle.lines.proofs.sale_line.Statement.{statement}
 use Rattle.lines.proofs.sale_line.Tie as tie
-use Rattle.lines.proofs.sale_line.Reads as reads
-use Rattle.lines.proofs.sale_line.Lts as lts
-use Rattle.lines.proofs.between.Reads as between-reads
-use Rattle.text.proofs.form.Reads as form-reads
-use Rattle.text.proofs.get.Reads as get-reads
 
 slice-aggregate-form : tie.Need-slice-aggregate-form
 slice-aggregate-form c = search needs

@@ -4,11 +4,6 @@ use lib.Seq.{length-take-le}
 use Rattle.list_example.specs.Lines.{lines-in}
 use Rattle.list_example.proofs.main.Statement.{statement}
 use Rattle.list_example.proofs.main.Tie as tie
-use Rattle.list_example.proofs.main.Reads as reads
-use Rattle.list_example.proofs.main.Lts as lts
-use Rattle.engine.proofs.listing.kapokdrill_list.Reads as kapokdrill-list-reads
-use Rattle.io.proofs.read_full.Reads as read-full-reads
-use Rattle.io.proofs.write_all.Reads as write-all-reads
 
 slice-aggregate-read-full : tie.Need-slice-aggregate-read-full
 slice-aggregate-read-full c = search needs

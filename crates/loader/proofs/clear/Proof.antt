@@ -9,8 +9,6 @@ use Rattle.loader.proofs.Fill.{filled-none, filled-more}
 use denote.Ref.{now}
 use Rattle.loader.proofs.clear.Statement.{statement}
 use Rattle.loader.proofs.clear.Tie as tie
-use Rattle.loader.proofs.clear.Reads as reads
-use Rattle.loader.proofs.clear.Lts as lts
 
 abbrev Inv-loop : tie.InvT-loop
 Inv-loop to₀ n i₀ to i = (i ≤ n) × Filled 0 (λ x. ltb x i) (λ x. 0) to₀ to

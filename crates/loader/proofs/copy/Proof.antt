@@ -10,8 +10,6 @@ use Rattle.loader.proofs.Fill.{filled-none, filled-more}
 use denote.Ref.{now}
 use Rattle.loader.proofs.copy.Statement.{statement}
 use Rattle.loader.proofs.copy.Tie as tie
-use Rattle.loader.proofs.copy.Reads as reads
-use Rattle.loader.proofs.copy.Lts as lts
 
 abbrev Inv-loop : tie.InvT-loop
 Inv-loop from to₀ n i₀ to i = (i ≤ n) × Filled 0 (λ x. ltb x i) (λ x. getD from x 0) to₀ to

@@ -8,9 +8,6 @@ use denote.Ref.{now}
 use borrow.Author.Needs.{needs}
 use Rattle.loader.proofs.hand_out.Statement.{statement}
 use Rattle.loader.proofs.hand_out.Tie as tie
-use Rattle.loader.proofs.hand_out.Reads as reads
-use Rattle.loader.proofs.hand_out.Lts as lts
-use Rattle.lines.proofs.between.Reads as between-reads
 
 sub-result : tie.Need-sub-result
 sub-result c = search needs

@@ -6,11 +6,6 @@ use denote.Ref.{now}
 use borrow.Author.Needs.{needs}
 use Rattle.loader.proofs.load.Statement.{statement}
 use Rattle.loader.proofs.load.Tie as tie
-use Rattle.loader.proofs.load.Reads as reads
-use Rattle.loader.proofs.load.Lts as lts
-use Rattle.loader.proofs.measure.Reads as measure-reads
-use Rattle.loader.proofs.start.Reads as start-reads
-use Rattle.reader.proofs.read.Reads as read-reads
 
 read-requires : tie.Need-read-requires
 read-requires c κs = search needs

@@ -6,8 +6,6 @@ use Rattle.loader.proofs.Handing.{long-is}
 use denote.Ref.{now}
 use Rattle.loader.proofs.long.Statement.{statement}
 use Rattle.loader.proofs.long.Tie as tie
-use Rattle.loader.proofs.long.Reads as reads
-use Rattle.loader.proofs.long.Lts as lts
 
 returns : tie.Need-returns
 returns c = let a = c .before .args in long-is (now (a .loaded)) (now (a .present)) (now (a .firsts)) (now (a .sizes)) (now (a .counts)) false _ _ _ _ (lt-leb 8192 _ (c .if1 .taken)) refl refl refl refl

@@ -10,10 +10,6 @@ use denote.Ref.{now}
 use borrow.Author.Needs.{needs}
 use Rattle.loader.proofs.measure.Statement.{statement}
 use Rattle.loader.proofs.measure.Tie as tie
-use Rattle.loader.proofs.measure.Reads as reads
-use Rattle.loader.proofs.measure.Lts as lts
-use Rattle.reader.proofs.average_weight.Reads as average-weight-reads
-use Rattle.reader.proofs.capacity.Reads as capacity-reads
 
 average-weight-requires : tie.Need-average-weight-requires
 average-weight-requires c κs = search needs

@@ -8,10 +8,6 @@ use denote.Ref.{now}
 use borrow.Author.Needs.{needs}
 use Rattle.loader.proofs.pins_of.Statement.{statement}
 use Rattle.loader.proofs.pins_of.Tie as tie
-use Rattle.loader.proofs.pins_of.Reads as reads
-use Rattle.loader.proofs.pins_of.Lts as lts
-use Rattle.loader.proofs.hand_out.Reads as hand-out-reads
-use Rattle.loader.proofs.long.Reads as long-reads
 
 long-requires : tie.Need-long-requires
 long-requires c κs = search needs

@@ -1,15 +1,11 @@
 -- `reader::after_head` meets its contract.
 use native.Mathlib.Omega.{arith}
-use mathlib.Core.Path.{_≡_, refl, sym, _∙_, ap}
+use mathlib.Core.Path.{refl}
 use Rattle.reader.proofs.Ranges.{lots-cut, lots-go, fresh-start}
 use denote.Ref.{now}
 use borrow.Author.Needs.{needs}
 use Rattle.reader.proofs.after_head.Statement.{statement}
 use Rattle.reader.proofs.after_head.Tie as tie
-use Rattle.reader.proofs.after_head.Reads as reads
-use Rattle.reader.proofs.after_head.Lts as lts
-use Rattle.reader.proofs.after_vertices.Reads as after-vertices-reads
-use Rattle.reader.proofs.read_vertices.Reads as read-vertices-reads
 
 cast-read-vertices : tie.Need-cast-read-vertices
 cast-read-vertices c = search needs

@@ -1,15 +1,9 @@
 -- `reader::after_vertices` meets its contract.
-use native.Mathlib.Omega.{arith}
-use mathlib.Core.Path.{_≡_, sym, _∙_, ap}
 use Rattle.reader.proofs.Ranges.{nets-cut, nets-stop, nets-kept}
 use denote.Ref.{now}
 use borrow.Author.Needs.{needs}
 use Rattle.reader.proofs.after_vertices.Statement.{statement}
 use Rattle.reader.proofs.after_vertices.Tie as tie
-use Rattle.reader.proofs.after_vertices.Reads as reads
-use Rattle.reader.proofs.after_vertices.Lts as lts
-use Rattle.reader.proofs.finish.Reads as finish-reads
-use Rattle.reader.proofs.read_nets.Reads as read-nets-reads
 
 read-nets-requires : tie.Need-read-nets-requires
 read-nets-requires c κs = let p = c .before .before .before .before .before .before .before .before .before .before .before .before .pre in record { at-le = p .at-le; l-le = p .long .l-le; b-le = p .range .b-high; w-len = p .long .nw-len; f-len = p .long .f-len; c-len = p .long .c-len; wide = p .long .wide; slen = p .slen; fresh = p .fresh }

@@ -6,9 +6,6 @@ use Prim.Native.Nat.{ℕ, _+_, _-_, _/_}
 use native.Mathlib.Nat.{div-le-self}
 use Rattle.reader.proofs.average_weight.Statement.{statement}
 use Rattle.reader.proofs.average_weight.Tie as tie
-use Rattle.reader.proofs.average_weight.Reads as reads
-use Rattle.reader.proofs.average_weight.Lts as lts
-use Rattle.reader.proofs.total_weight.Reads as total-weight-reads
 
 total-weight-requires : tie.Need-total-weight-requires
 total-weight-requires c κs = search needs

@@ -8,9 +8,6 @@ use Rattle.laws.specs.Sum.{sum, sum-zero, sum-step}
 use Rattle.reader.specs.Whole.{blockTerm}
 use Rattle.reader.proofs.block_weight.Statement.{statement}
 use Rattle.reader.proofs.block_weight.Tie as tie
-use Rattle.reader.proofs.block_weight.Reads as reads
-use Rattle.reader.proofs.block_weight.Lts as lts
-use Rattle.reader.proofs.share.Reads as share-reads
 
 abbrev Inv-loop : tie.InvT-loop
 Inv-loop weights draft n b i₀ t₀ i t = (i ≤ n) × (t ≡ sum i (blockTerm b weights draft)) × (t ≤ i * 4294967295)

@@ -5,8 +5,6 @@ use native.Mathlib.Nat.{mul-le-mul-right}
 use borrow.Author.Needs.{needs}
 use Rattle.reader.proofs.capacity.Statement.{statement}
 use Rattle.reader.proofs.capacity.Tie as tie
-use Rattle.reader.proofs.capacity.Reads as reads
-use Rattle.reader.proofs.capacity.Lts as lts
 
 add-result : tie.Need-add-result
 add-result c = search needs

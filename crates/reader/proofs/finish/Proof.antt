@@ -5,10 +5,6 @@ use denote.Ref.{now}
 use borrow.Author.Needs.{needs}
 use Rattle.reader.proofs.finish.Statement.{statement}
 use Rattle.reader.proofs.finish.Tie as tie
-use Rattle.reader.proofs.finish.Reads as reads
-use Rattle.reader.proofs.finish.Lts as lts
-use Rattle.reader.proofs.overfull.Reads as overfull-reads
-use Rattle.reader.proofs.read_calls.Reads as read-calls-reads
 
 add-n : tie.Need-add-n
 add-n c = search needs

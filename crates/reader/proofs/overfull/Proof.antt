@@ -10,11 +10,6 @@ use Rattle.model.specs.Catalogue.{Net}
 use Rattle.reader.proofs.Loads.{upTo, over-none, over-next, over-found, over-all}
 use Rattle.reader.proofs.overfull.Statement.{statement}
 use Rattle.reader.proofs.overfull.Tie as tie
-use Rattle.reader.proofs.overfull.Reads as reads
-use Rattle.reader.proofs.overfull.Lts as lts
-use Rattle.reader.proofs.average_weight.Reads as average-weight-reads
-use Rattle.reader.proofs.block_weight.Reads as block-weight-reads
-use Rattle.reader.proofs.capacity.Reads as capacity-reads
 
 abbrev Inv-loop : tie.InvT-loop
 Inv-loop vertices blocks imbalance weights draft most b₀ b = (b ≤ blocks) × ((ns : List Net) → upTo vertices blocks imbalance weights draft ns b ≡ false)

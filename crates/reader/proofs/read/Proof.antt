@@ -1,17 +1,11 @@
 -- `reader::read` meets its contract.
 use native.Mathlib.Omega.{arith}
-use mathlib.Core.Path.{_≡_, sym, _∙_, ap}
 use Rattle.lines.specs.Line.{limitsOf}
 use Rattle.reader.proofs.Ranges.{too-long, no-line, bad-sale, file-not, file-kept}
 use denote.Ref.{now}
 use borrow.Author.Needs.{needs}
 use Rattle.reader.proofs.read.Statement.{statement}
 use Rattle.reader.proofs.read.Tie as tie
-use Rattle.reader.proofs.read.Reads as reads
-use Rattle.reader.proofs.read.Lts as lts
-use Rattle.lines.proofs.sale_line.Reads as sale-line-reads
-use Rattle.reader.proofs.after_head.Reads as after-head-reads
-use Rattle.text.proofs.find.Reads as find-reads
 
 returns : tie.Need-returns
 returns c = let a = c .before .before .before .before .before .before .before .before .args in too-long (limitsOf (a .vmax) (a .bmax)) (now (a .s)) (now (a .weights)) (now (a .draft)) (now (a .firsts)) (now (a .sizes)) (now (a .pins)) (now (a .costs)) (now (a .calls)) (c .if1 .taken)

@@ -11,10 +11,6 @@ use Rattle.lines.specs.Line.{CallRead}
 use Rattle.reader.proofs.Turns.{OnCalls, calls-start, calls-done, calls-full, calls-unended, calls-bad, calls-on}
 use Rattle.reader.proofs.read_calls.Statement.{statement}
 use Rattle.reader.proofs.read_calls.Tie as tie
-use Rattle.reader.proofs.read_calls.Reads as reads
-use Rattle.reader.proofs.read_calls.Lts as lts
-use Rattle.text.proofs.find.Reads as find-reads
-use Rattle.lines.proofs.call_line.Reads as call-line-reads
 
 abbrev Inv-loop : tie.InvT-loop
 Inv-loop s at n calls₀ len i₀ c₀ calls i c = OnCalls s at n calls₀ calls i c

@@ -7,10 +7,6 @@ use borrow.Author.Needs.{needs}
 use Rattle.reader.proofs.NetLines.{OnBuys, buys-start, buys-none, buys-stop, buys-on, buys-done}
 use Rattle.reader.proofs.read_nets.Statement.{statement}
 use Rattle.reader.proofs.read_nets.Tie as tie
-use Rattle.reader.proofs.read_nets.Reads as reads
-use Rattle.reader.proofs.read_nets.Lts as lts
-use Rattle.text.proofs.find.Reads as find-reads
-use Rattle.lines.proofs.buy_line.Reads as buy-line-reads
 
 abbrev Inv-loop : tie.InvT-loop
 Inv-loop s at vertices nets costs₀ firsts₀ sizes₀ pins₀ stamps₀ len base i₀ j₀ m₀ costs firsts sizes pins stamps i j m = OnBuys s at vertices nets firsts₀ sizes₀ pins₀ costs firsts sizes pins stamps i j m

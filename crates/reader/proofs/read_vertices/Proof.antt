@@ -6,10 +6,6 @@ use Prim.Native.Nat.{_-_}
 use Rattle.reader.proofs.Lots.{OnLots, lots-start, lots-none, lots-stop, lots-on, lots-done}
 use Rattle.reader.proofs.read_vertices.Statement.{statement}
 use Rattle.reader.proofs.read_vertices.Tie as tie
-use Rattle.reader.proofs.read_vertices.Reads as reads
-use Rattle.reader.proofs.read_vertices.Lts as lts
-use Rattle.lines.proofs.lot_line.Reads as lot-line-reads
-use Rattle.text.proofs.find.Reads as find-reads
 
 abbrev Inv-loop : tie.InvT-loop
 Inv-loop s at vertices blocks weights₀ draft₀ len i₀ k₀ weights draft i k = OnLots s at vertices blocks weights₀ draft₀ weights draft i k

@@ -2,8 +2,6 @@
 use borrow.Author.Tests.{eq-eqb, ne-eqb}
 use Rattle.reader.proofs.share.Statement.{statement}
 use Rattle.reader.proofs.share.Tie as tie
-use Rattle.reader.proofs.share.Reads as reads
-use Rattle.reader.proofs.share.Lts as lts
 
 returns : tie.Need-returns
 returns c = rw (eq-eqb (c .before .args .block) (c .before .args .b) (c .if1 .taken))

@@ -8,8 +8,6 @@ use Rattle.laws.specs.Sum.{sum, sum-zero, sum-step}
 use Rattle.reader.proofs.Loads.{sum-take}
 use Rattle.reader.proofs.total_weight.Statement.{statement}
 use Rattle.reader.proofs.total_weight.Tie as tie
-use Rattle.reader.proofs.total_weight.Reads as reads
-use Rattle.reader.proofs.total_weight.Lts as lts
 
 abbrev Inv-loop : tie.InvT-loop
 Inv-loop weights n i₀ t₀ i t = (i ≤ n) × (t ≡ sum i (λ x. getD weights x 0)) × (t ≤ i * 4294967295)

@@ -6,10 +6,6 @@ use lib.ListN.{length-replicate}
 use Rattle.selling.specs.Sale.{blank, can-open, begins, can-run, sold}
 use Rattle.selling.proofs.sell.Statement.{statement}
 use Rattle.selling.proofs.sell.Tie as tie
-use Rattle.selling.proofs.sell.Reads as reads
-use Rattle.selling.proofs.sell.Lts as lts
-use Rattle.opening.proofs.open.Reads as open-reads
-use Rattle.sequence.proofs.run_calls.Reads as run-calls-reads
 
 cast-n : tie.Need-cast-n
 cast-n c = search needs

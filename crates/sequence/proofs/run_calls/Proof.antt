@@ -1,5 +1,5 @@
 use borrow.Author.Needs.{needs}
-use Prim.Native.Nat.{ℕ, _-_, _≤_}
+use Prim.Native.Nat.{_-_, _≤_}
 use native.Mathlib.Omega.{arith}
 use mathlib.Core.Path.{_≡_, refl}
 use lib.ListN.{length}
@@ -9,12 +9,6 @@ use Rattle.steps.specs.Steps.{two}
 use Rattle.sequence.specs.Course.{Begins, Done, done-none, can-step, done-more, done-all}
 use Rattle.sequence.proofs.run_calls.Statement.{statement}
 use Rattle.sequence.proofs.run_calls.Tie as tie
-use Rattle.sequence.proofs.run_calls.Reads as reads
-use Rattle.sequence.proofs.run_calls.Lts as lts
-use Rattle.calls.proofs.pairs.Journal.new.Reads as pairs-Journal-new-reads
-use Rattle.calls.proofs.pairs.Stack.new.Reads as pairs-Stack-new-reads
-use Rattle.sequence.proofs.index.Reads as index-reads
-use Rattle.sequence.proofs.step.Reads as step-reads
 
 abbrev Inv-loop : tie.InvT-loop
 Inv-loop output₀ counts₀ visited₀ gains₀ pins₀ sizes₀ bits₀ blocks₀ weights₀ aboves₀ loads₀ netweights firsts loaded calls count n m k average capacity total course₀ i₀ output counts visited gains pins sizes bits blocks weights aboves loads course i =

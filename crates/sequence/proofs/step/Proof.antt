@@ -2,10 +2,6 @@ use borrow.Author.Needs.{needs}
 use Rattle.sequence.specs.Course.{answer-room}
 use Rattle.sequence.proofs.step.Statement.{statement}
 use Rattle.sequence.proofs.step.Tie as tie
-use Rattle.sequence.proofs.step.Reads as reads
-use Rattle.sequence.proofs.step.Lts as lts
-use Rattle.dispatch.proofs.performing.perform.Reads as perform-reads
-use Rattle.report.proofs.answers.put_answer.Reads as put-answer-reads
 
 perform-requires : tie.Need-perform-requires
 perform-requires c κs = search needs

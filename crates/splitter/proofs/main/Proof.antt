@@ -4,11 +4,6 @@ use lib.Seq.{length-take-le}
 use Rattle.engine.specs.Entry.{bytes-in}
 use Rattle.splitter.proofs.main.Statement.{statement}
 use Rattle.splitter.proofs.main.Tie as tie
-use Rattle.splitter.proofs.main.Reads as reads
-use Rattle.splitter.proofs.main.Lts as lts
-use Rattle.engine.proofs.entry.kapokdrill_run.Reads as kapokdrill-run-reads
-use Rattle.io.proofs.read_full.Reads as read-full-reads
-use Rattle.io.proofs.write_all.Reads as write-all-reads
 
 slice-aggregate-read-full : tie.Need-slice-aggregate-read-full
 slice-aggregate-read-full c = search needs

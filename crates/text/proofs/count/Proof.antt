@@ -11,10 +11,6 @@ use denote.Ref.{now}
 use borrow.Author.Needs.{needs}
 use Rattle.text.proofs.count.Statement.{statement}
 use Rattle.text.proofs.count.Tie as tie
-use Rattle.text.proofs.count.Reads as reads
-use Rattle.text.proofs.count.Lts as lts
-use Rattle.text.proofs.find.Reads as find-reads
-use Rattle.text.proofs.number.Reads as number-reads
 
 abbrev Inv-loop : tie.InvT-loop
 Inv-loop s at end i₀ k₀ i k = (1 ≤ at) × (k ≤ i) × (i ≤ end) × (counted 1 (parts 44 (slice at end s)) ≡ counted k (parts 44 (slice i end s)))

@@ -8,8 +8,6 @@ use Rattle.text.specs.Field.{first}
 use Rattle.text.proofs.Walk.{first-here, first-on, first-none}
 use Rattle.text.proofs.find.Statement.{statement}
 use Rattle.text.proofs.find.Tie as tie
-use Rattle.text.proofs.find.Reads as reads
-use Rattle.text.proofs.find.Lts as lts
 
 abbrev Inv-loop : tie.InvT-loop
 Inv-loop s at end sep i₀ i = (at ≤ i) × (i ≤ end) × (at + first sep (slice at end s) ≡ i + first sep (slice i end s))

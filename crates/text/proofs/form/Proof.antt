@@ -7,11 +7,6 @@ use denote.Ref.{now}
 use borrow.Author.Needs.{needs}
 use Rattle.text.proofs.form.Statement.{statement}
 use Rattle.text.proofs.form.Tie as tie
-use Rattle.text.proofs.form.Reads as reads
-use Rattle.text.proofs.form.Lts as lts
-use Rattle.text.proofs.find.Reads as find-reads
-use Rattle.text.proofs.word.Reads as word-reads
-use Rattle.text.proofs.count.Reads as count-reads
 
 find-requires : tie.Need-find-requires
 find-requires c κs = search needs

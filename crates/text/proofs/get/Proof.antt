@@ -6,10 +6,6 @@ use denote.Ref.{now}
 use borrow.Author.Needs.{needs}
 use Rattle.text.proofs.get.Statement.{statement}
 use Rattle.text.proofs.get.Tie as tie
-use Rattle.text.proofs.get.Reads as reads
-use Rattle.text.proofs.get.Lts as lts
-use Rattle.text.proofs.find.Reads as find-reads
-use Rattle.text.proofs.number.Reads as number-reads
 
 abbrev Inv-loop : tie.InvT-loop
 Inv-loop s at end i a₀ k₀ a k = OnGet s at end i a k

@@ -12,8 +12,6 @@ use lib.Seq.{length-slice}
 use Rattle.text.proofs.Walk.{onwardRead, empty-bad, long-bad, zero-bad, well, read-low, read-high, read-on, read-none, ten-room, ten-more, ten-none, slice-head}
 use Rattle.text.proofs.number.Statement.{statement}
 use Rattle.text.proofs.number.Tie as tie
-use Rattle.text.proofs.number.Reads as reads
-use Rattle.text.proofs.number.Lts as lts
 
 abbrev Inv-loop : tie.InvT-loop
 Inv-loop s at end n v₀ i₀ v i =

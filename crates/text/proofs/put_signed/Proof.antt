@@ -12,10 +12,6 @@ use denote.Ref.{now}
 use borrow.Author.Needs.{needs}
 use Rattle.text.proofs.put_signed.Statement.{statement}
 use Rattle.text.proofs.put_signed.Tie as tie
-use Rattle.text.proofs.put_signed.Reads as reads
-use Rattle.text.proofs.put_signed.Lts as lts
-use Rattle.text.proofs.put_number.Reads as put-number-reads
-use Rattle.text.proofs.side.Reads as side-reads
 
 side-requires : tie.Need-side-requires
 side-requires c κs = search needs

@@ -4,8 +4,6 @@ use native.Mathlib.Omega.{arith}
 use mathlib.Core.Path.{sym}
 use Rattle.text.proofs.side.Statement.{statement}
 use Rattle.text.proofs.side.Tie as tie
-use Rattle.text.proofs.side.Reads as reads
-use Rattle.text.proofs.side.Lts as lts
 
 sub-m : tie.Need-sub-m
 sub-m c = let b = below (c .before .args .x) (c .before .fits .x) (c .if1 .taken) in b .fits

@@ -5,9 +5,6 @@ use denote.Ref.{now}
 use borrow.Author.Needs.{needs}
 use Rattle.text.proofs.third.Statement.{statement}
 use Rattle.text.proofs.third.Tie as tie
-use Rattle.text.proofs.third.Reads as reads
-use Rattle.text.proofs.third.Lts as lts
-use Rattle.text.proofs.find.Reads as find-reads
 
 find-requires : tie.Need-find-requires
 find-requires c κs = search needs

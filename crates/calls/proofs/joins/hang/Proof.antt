@@ -1,13 +1,9 @@
-use native.Mathlib.Omega.{arith}
-use mathlib.Core.Path.{_≡_, refl, sym, _∙_, ap}
+use mathlib.Core.Path.{refl, ap}
 use lib.ListN.{set}
 use denote.Ref.{now}
 use borrow.Author.Needs.{needs}
 use Rattle.calls.proofs.joins.hang.Statement.{statement}
 use Rattle.calls.proofs.joins.hang.Tie as tie
-use Rattle.calls.proofs.joins.hang.Reads as reads
-use Rattle.calls.proofs.joins.hang.Lts as lts
-use Rattle.calls.proofs.joins.number.Reads as number-reads
 
 mul-weights : tie.Need-mul-weights
 mul-weights c = search needs

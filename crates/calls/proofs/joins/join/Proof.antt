@@ -1,14 +1,7 @@
-use native.Mathlib.Omega.{arith}
-use mathlib.Core.Path.{_≡_, sym, _∙_, ap}
-use denote.Ref.{now}
 use borrow.Author.Needs.{needs}
 use Rattle.calls.specs.Join.{hangs-ok, contract-ok, joined}
 use Rattle.calls.proofs.joins.join.Statement.{statement}
 use Rattle.calls.proofs.joins.join.Tie as tie
-use Rattle.calls.proofs.joins.join.Reads as reads
-use Rattle.calls.proofs.joins.join.Lts as lts
-use Rattle.calls.proofs.joins.hang.Reads as hang-reads
-use Rattle.levels.proofs.contract.Reads as contract-reads
 
 hang-requires : tie.Need-hang-requires
 hang-requires c κs = hangs-ok (c .before .before .before .before .before .before .before .before .before .before .before .before .pre .sound) (c .before .before .before .before .before .before .before .before .before .before .before .before .pre .pair)

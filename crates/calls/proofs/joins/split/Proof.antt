@@ -1,14 +1,7 @@
-use native.Mathlib.Omega.{arith}
-use mathlib.Core.Path.{_≡_, sym, _∙_, ap}
-use denote.Ref.{now}
 use borrow.Author.Needs.{needs}
 use Rattle.calls.specs.Join.{u-below, v-below, unhangs-ok, uncontract-ok, split-done}
 use Rattle.calls.proofs.joins.split.Statement.{statement}
 use Rattle.calls.proofs.joins.split.Tie as tie
-use Rattle.calls.proofs.joins.split.Reads as reads
-use Rattle.calls.proofs.joins.split.Lts as lts
-use Rattle.calls.proofs.joins.unhang.Reads as unhang-reads
-use Rattle.levels.proofs.uncontract.Reads as uncontract-reads
 
 unhang-requires : tie.Need-unhang-requires
 unhang-requires c κs = unhangs-ok (c .before .before .before .before .before .before .before .before .before .before .before .before .before .args .u) (c .before .before .before .before .before .before .before .before .before .before .before .before .before .args .v) (c .before .before .before .before .before .before .before .before .before .before .before .before .before .pre .splits .sound)

@@ -1,17 +1,7 @@
-use native.Mathlib.Omega.{arith}
-use mathlib.Core.Path.{_≡_, sym, _∙_, ap}
-use denote.Ref.{now}
 use borrow.Author.Needs.{needs}
 use Rattle.calls.specs.Move.{moves-ok, gain-small, lower-needs, shift-needs, went}
 use Rattle.calls.proofs.moves.go.Statement.{statement}
 use Rattle.calls.proofs.moves.go.Tie as tie
-use Rattle.calls.proofs.moves.go.Reads as reads
-use Rattle.calls.proofs.moves.go.Lts as lts
-use Rattle.calls.proofs.moves.index.Reads as index-reads
-use Rattle.calls.proofs.moves.lower_total.Reads as lower-total-reads
-use Rattle.calls.proofs.moves.shift_load.Reads as shift-load-reads
-use Rattle.calls.proofs.moves.wide.Reads as wide-reads
-use Rattle.levels.proofs.move_vertex.Reads as move-vertex-reads
 
 mul-index : tie.Need-mul-index
 mul-index c = search needs

@@ -1,13 +1,7 @@
-use native.Mathlib.Omega.{arith}
-use mathlib.Core.Path.{_≡_, sym, _∙_, ap}
-use denote.Ref.{now}
 use borrow.Author.Needs.{needs}
 use Rattle.calls.specs.Total.{plus-side, minus-side}
 use Rattle.calls.proofs.moves.lower_total.Statement.{statement}
 use Rattle.calls.proofs.moves.lower_total.Tie as tie
-use Rattle.calls.proofs.moves.lower_total.Reads as reads
-use Rattle.calls.proofs.moves.lower_total.Lts as lts
-use Rattle.text.proofs.side.Reads as side-reads
 
 side-requires : tie.Need-side-requires
 side-requires c κs = search needs

@@ -11,10 +11,6 @@ use Rattle.choice.specs.Open.{Leads, bestInRow, gainIn, mayGo}
 use Rattle.choice.specs.OpenLaw.{row-none, row-more}
 use Rattle.choice.proofs.open.best_in_row.Statement.{statement}
 use Rattle.choice.proofs.open.best_in_row.Tie as tie
-use Rattle.choice.proofs.open.best_in_row.Reads as reads
-use Rattle.choice.proofs.open.best_in_row.Lts as lts
-use Rattle.choice.proofs.open.may_go.Reads as may-go-reads
-use Rattle.choice.proofs.open.weigh.Reads as weigh-reads
 
 abbrev Inv-loop : tie.InvT-loop
 Inv-loop gains loads own weight capacity i k row lead₀ j₀ lead j =

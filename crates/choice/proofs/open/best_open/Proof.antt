@@ -10,11 +10,6 @@ use Rattle.choice.specs.Open.{Leads, Chosen, bestTo, gainIn, openIn}
 use Rattle.choice.specs.OpenLaw.{no-lead, first-candidate, next-candidate, lead-in, all-candidates}
 use Rattle.choice.proofs.open.best_open.Statement.{statement}
 use Rattle.choice.proofs.open.best_open.Tie as tie
-use Rattle.choice.proofs.open.best_open.Reads as reads
-use Rattle.choice.proofs.open.best_open.Lts as lts
-use Rattle.choice.proofs.open.best_with.Reads as best-with-reads
-use Rattle.choice.proofs.open.next_candidate.Reads as next-candidate-reads
-use Rattle.choice.proofs.open.pair_at.Reads as pair-at-reads
 
 abbrev Inv-loop : tie.InvT-loop
 Inv-loop gains blocks weights loads candidates n k capacity best₀ i₀ best i =

@@ -8,11 +8,6 @@ use Rattle.choice.specs.Open.{Leads, bestInRow, gainIn, mayGo}
 use Rattle.choice.specs.OpenLaw.{row-heavy}
 use Rattle.choice.proofs.open.best_with.Statement.{statement}
 use Rattle.choice.proofs.open.best_with.Tie as tie
-use Rattle.choice.proofs.open.best_with.Reads as reads
-use Rattle.choice.proofs.open.best_with.Lts as lts
-use Rattle.choice.proofs.numbers.wide.Reads as wide-reads
-use Rattle.choice.proofs.numbers.wide32.Reads as wide32-reads
-use Rattle.choice.proofs.open.best_in_row.Reads as best-in-row-reads
 
 mul-wide32 : tie.Need-mul-wide32
 mul-wide32 c = search needs

@@ -3,8 +3,6 @@ use mathlib.Core.Bool.{Bool, cond}
 use mir.Facts.{toZ-ofZ}
 use Rattle.choice.proofs.open.either_gain.Statement.{statement}
 use Rattle.choice.proofs.open.either_gain.Tie as tie
-use Rattle.choice.proofs.open.either_gain.Reads as reads
-use Rattle.choice.proofs.open.either_gain.Lts as lts
 
 returns : tie.Need-returns
 returns c =

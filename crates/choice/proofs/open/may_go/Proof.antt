@@ -5,9 +5,6 @@ use borrow.Author.Needs.{needs}
 use Rattle.choice.specs.OpenLaw.{room-some}
 use Rattle.choice.proofs.open.may_go.Statement.{statement}
 use Rattle.choice.proofs.open.may_go.Tie as tie
-use Rattle.choice.proofs.open.may_go.Reads as reads
-use Rattle.choice.proofs.open.may_go.Lts as lts
-use Rattle.choice.proofs.open.both.Reads as both-reads
 
 sub-space : tie.Need-sub-space
 sub-space c = search needs

@@ -2,8 +2,6 @@ use borrow.Author.Needs.{needs}
 use Rattle.choice.specs.OpenLaw.{pair-some}
 use Rattle.choice.proofs.open.pair_at.Statement.{statement}
 use Rattle.choice.proofs.open.pair_at.Tie as tie
-use Rattle.choice.proofs.open.pair_at.Reads as reads
-use Rattle.choice.proofs.open.pair_at.Lts as lts
 
 returns : tie.Need-returns
 returns c = search needs

@@ -4,12 +4,6 @@ use Rattle.laws.specs.Integer.{read32}
 use Rattle.choice.specs.OpenLaw.{wide-fits, read64, weighed}
 use Rattle.choice.proofs.open.weigh.Statement.{statement}
 use Rattle.choice.proofs.open.weigh.Tie as tie
-use Rattle.choice.proofs.open.weigh.Reads as reads
-use Rattle.choice.proofs.open.weigh.Lts as lts
-use Rattle.choice.proofs.open.less.Reads as less-reads
-use Rattle.choice.proofs.open.both.Reads as both-reads
-use Rattle.choice.proofs.open.either_place.Reads as either-place-reads
-use Rattle.choice.proofs.open.either_gain.Reads as either-gain-reads
 
 cast-worth : tie.Need-cast-worth
 cast-worth c = wide-fits (c .args .gain) (c .fits .gain)

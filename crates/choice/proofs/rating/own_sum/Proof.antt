@@ -8,10 +8,6 @@ use Rattle.choice.specs.Rating.{ownSum}
 use Rattle.choice.specs.RatingLaw.{own-none, own-more, own-room}
 use Rattle.choice.proofs.rating.own_sum.Statement.{statement}
 use Rattle.choice.proofs.rating.own_sum.Tie as tie
-use Rattle.choice.proofs.rating.own_sum.Reads as reads
-use Rattle.choice.proofs.rating.own_sum.Lts as lts
-use Rattle.choice.proofs.rating.term.Reads as term-reads
-use Rattle.incidence.proofs.next_net.Reads as next-net-reads
 
 abbrev Inv-loop : tie.InvT-loop
 Inv-loop bits sizes netWeights u m sum₀ e₀ sum e = (e ≤ m) × (e < m → on bits (u - 1) e ≡ 1) × (sum ≡ ownSum bits sizes netWeights u e)

@@ -3,8 +3,6 @@ use native.Mathlib.Omega.{arith}
 use borrow.Author.Needs.{needs}
 use Rattle.choice.proofs.rating.term.Statement.{statement}
 use Rattle.choice.proofs.rating.term.Tie as tie
-use Rattle.choice.proofs.rating.term.Reads as reads
-use Rattle.choice.proofs.rating.term.Lts as lts
 
 returns : tie.Need-returns
 returns c = term-none _ _ (omega arith)

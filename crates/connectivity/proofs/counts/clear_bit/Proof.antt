@@ -3,8 +3,6 @@ use borrow.Author.Needs.{needs}
 use Rattle.laws.specs.Bit.{one-shl, clear-law}
 use Rattle.connectivity.proofs.counts.clear_bit.Statement.{statement}
 use Rattle.connectivity.proofs.counts.clear_bit.Tie as tie
-use Rattle.connectivity.proofs.counts.clear_bit.Reads as reads
-use Rattle.connectivity.proofs.counts.clear_bit.Lts as lts
 
 cast-result : tie.Need-cast-result
 cast-result c = search needs

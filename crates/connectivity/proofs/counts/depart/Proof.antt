@@ -3,16 +3,11 @@ use Prim.Native.Nat.{_+_, _*_, _-_}
 use lib.ListN.{getD}
 use borrow.Author.Tests.{lt-ltb, le-ltb}
 use native.Mathlib.Omega.{arith}
-use mathlib.Core.Path.{_≡_, refl, sym, _∙_, ap}
 use denote.Ref.{now}
 use borrow.Author.Needs.{needs}
 use Rattle.connectivity.specs.Law.{step-set}
 use Rattle.connectivity.proofs.counts.depart.Statement.{statement}
 use Rattle.connectivity.proofs.counts.depart.Tie as tie
-use Rattle.connectivity.proofs.counts.depart.Reads as reads
-use Rattle.connectivity.proofs.counts.depart.Lts as lts
-use Rattle.connectivity.proofs.counts.clear_bit.Reads as clear-bit-reads
-use Rattle.connectivity.proofs.counts.set_bit.Reads as set-bit-reads
 
 returns : tie.Need-returns
 returns c = search needs

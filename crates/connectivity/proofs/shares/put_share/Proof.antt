@@ -1,5 +1,5 @@
 -- `put_share`: the first x entries of the row are raised.
-use Prim.Native.Nat.{_≤_, _-_, _+_}
+use Prim.Native.Nat.{_≤_, _-_}
 use mathlib.Core.Path.{_∙_}
 use native.Mathlib.Omega.{arith}
 use Rattle.laws.specs.Integer.{read32, add-at-fits}

@@ -1,18 +1,12 @@
 -- `share_of`: the difference of what leaving frees and what coming draws.
-use mathlib.Core.Path.{_≡_, refl, sym, ap, _∙_}
+use mathlib.Core.Path.{_∙_}
 use native.Mathlib.Omega.{arith}
 use borrow.Author.Needs.{needs}
-use borrow.Author.Tests.{eq-eqb, ne-eqb}
-use lib.IntN.{pos, natAbs}
+use lib.IntN.{pos}
 use Rattle.laws.specs.Integer.{read32, fits32, natAbs-sub}
 use Rattle.connectivity.specs.Share.{share-own, share-off}
 use Rattle.connectivity.proofs.shares.share_of.Statement.{statement}
 use Rattle.connectivity.proofs.shares.share_of.Tie as tie
-use Rattle.connectivity.proofs.shares.share_of.Reads as reads
-use Rattle.connectivity.proofs.shares.share_of.Lts as lts
-use Rattle.connectivity.proofs.shares.less.Reads as less-reads
-use Rattle.connectivity.proofs.shares.when_is.Reads as when-is-reads
-use Rattle.connectivity.proofs.shares.wide.Reads as wide-reads
 
 returns : tie.Need-returns
 returns c = let a = c .before .before .args in share-own (a .counts .now) (a .crow) (a .own) (a .w) (a .x) (c .if1 .taken)

@@ -1,17 +1,11 @@
 -- `share_row`: the sign chooses between the two.
 use Prim.Native.Nat.{_*_}
-use native.Mathlib.Omega.{arith}
-use mathlib.Core.Path.{_≡_, refl, sym, _∙_, ap}
 use denote.Ref.{now}
 use borrow.Author.Needs.{needs}
 use Rattle.connectivity.specs.Share.{share}
 use Rattle.connectivity.specs.Laid.{raised-taken, raised-put}
 use Rattle.connectivity.proofs.shares.share_row.Statement.{statement}
 use Rattle.connectivity.proofs.shares.share_row.Tie as tie
-use Rattle.connectivity.proofs.shares.share_row.Reads as reads
-use Rattle.connectivity.proofs.shares.share_row.Lts as lts
-use Rattle.connectivity.proofs.shares.put_share.Reads as put-share-reads
-use Rattle.connectivity.proofs.shares.take_share.Reads as take-share-reads
 
 mul-take-share : tie.Need-mul-take-share
 mul-take-share c = search needs

@@ -1,5 +1,5 @@
 -- `when_is` by its definition, test by test.
-use mathlib.Core.Path.{_≡_, refl, sym, ap}
+use mathlib.Core.Path.{refl}
 use borrow.Author.Tests.{eq-eqb, ne-eqb}
 use Rattle.connectivity.specs.Share.{when}
 use Rattle.connectivity.proofs.shares.when_is.Statement.{statement}

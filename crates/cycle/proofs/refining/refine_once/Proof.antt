@@ -1,5 +1,4 @@
 -- `refine_once`: the undo, then the walk from the parted pair, which is on the board.
-use native.Mathlib.Omega.{arith}
 use mathlib.Core.Path.{refl}
 use borrow.Author.Needs.{needs}
 use Rattle.cycle.specs.Refine.{walk-asks, parts}

@@ -3,11 +3,6 @@ use denote.Ref.{now}
 use Rattle.dispatch.specs.Kinds.{is-J, is-S, called-as}
 use Rattle.dispatch.proofs.performing.contracting.Statement.{statement}
 use Rattle.dispatch.proofs.performing.contracting.Tie as tie
-use Rattle.dispatch.proofs.performing.contracting.Reads as reads
-use Rattle.dispatch.proofs.performing.contracting.Lts as lts
-use Rattle.dispatch.proofs.answering.answer.Reads as answer-reads
-use Rattle.steps.proofs.contracting.call_join.Reads as call-join-reads
-use Rattle.steps.proofs.contracting.call_split.Reads as call-split-reads
 
 call-join-requires : tie.Need-call-join-requires
 call-join-requires c κs = record { loads = c .before .before .before .before .before .before .before .before .before .before .before .before .before .before .before .before .before .before .before .before .before .pre .loads; loaded = now (c .before .before .before .before .before .before .before .before .before .before .before .before .before .before .before .before .before .before .before .before .before .args .loaded); ready = c .before .before .before .before .before .before .before .before .before .before .before .before .before .before .before .before .before .before .before .before .before .pre .ready }

@@ -3,13 +3,6 @@ use mathlib.Core.Path.{refl}
 use Rattle.dispatch.specs.Kinds.{is-M, is-B, is-W, is-P, called-as, moved-as}
 use Rattle.dispatch.proofs.performing.moving.Statement.{statement}
 use Rattle.dispatch.proofs.performing.moving.Tie as tie
-use Rattle.dispatch.proofs.performing.moving.Reads as reads
-use Rattle.dispatch.proofs.performing.moving.Lts as lts
-use Rattle.dispatch.proofs.answering.answer.Reads as answer-reads
-use Rattle.steps.proofs.moving.call_back.Reads as call-back-reads
-use Rattle.steps.proofs.moving.call_move.Reads as call-move-reads
-use Rattle.turns.proofs.searching.call_polish.Reads as call-polish-reads
-use Rattle.turns.proofs.searching.call_walk.Reads as call-walk-reads
 
 call-move-requires : tie.Need-call-move-requires
 call-move-requires c κs = search needs

@@ -4,14 +4,6 @@ use denote.Ref.{now}
 use Rattle.dispatch.specs.Kinds.{any-contracting, any-moving, any-all, called-as}
 use Rattle.dispatch.proofs.performing.perform.Statement.{statement}
 use Rattle.dispatch.proofs.performing.perform.Tie as tie
-use Rattle.dispatch.proofs.performing.perform.Reads as reads
-use Rattle.dispatch.proofs.performing.perform.Lts as lts
-use Rattle.dispatch.proofs.answering.answer.Reads as answer-reads
-use Rattle.dispatch.proofs.kinds.is_contracting.Reads as is-contracting-reads
-use Rattle.dispatch.proofs.kinds.is_moving.Reads as is-moving-reads
-use Rattle.dispatch.proofs.performing.contracting.Reads as contracting-reads
-use Rattle.dispatch.proofs.performing.moving.Reads as moving-reads
-use Rattle.turns.proofs.cycling.call_all.Reads as call-all-reads
 
 is-contracting-requires : tie.Need-is-contracting-requires
 is-contracting-requires c κs = search needs

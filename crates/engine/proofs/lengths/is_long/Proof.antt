@@ -4,9 +4,6 @@ use Rattle.steps.specs.Refusal.{both-no, both-yes}
 use Rattle.engine.specs.Entry.{by-tests, short-no, short-yes, lists-test}
 use Rattle.engine.proofs.lengths.is_long.Statement.{statement}
 use Rattle.engine.proofs.lengths.is_long.Tie as tie
-use Rattle.engine.proofs.lengths.is_long.Reads as reads
-use Rattle.engine.proofs.lengths.is_long.Lts as lts
-use Rattle.loader.proofs.long.Reads as long-reads
 
 returns : tie.Need-returns
 returns c = by-tests _ (short-no 60000 _ _ (c .if1 .taken))

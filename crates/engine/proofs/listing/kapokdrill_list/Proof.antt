@@ -6,12 +6,6 @@ use Rattle.engine.specs.Entry.{long-is}
 use Rattle.engine.specs.Listing.{untouched-8, untouched-list, list-served}
 use Rattle.engine.proofs.listing.kapokdrill_list.Statement.{statement}
 use Rattle.engine.proofs.listing.kapokdrill_list.Tie as tie
-use Rattle.engine.proofs.listing.kapokdrill_list.Reads as reads
-use Rattle.engine.proofs.listing.kapokdrill_list.Lts as lts
-use Rattle.engine.proofs.lengths.is_long.Reads as is-long-reads
-use Rattle.working.proofs.lists.list_refusal.Reads as list-refusal-reads
-use Rattle.engine.proofs.listing.refused_list.Reads as refused-list-reads
-use Rattle.working.proofs.lists.work_list.Reads as work-list-reads
 
 is-long-requires : tie.Need-is-long-requires
 is-long-requires c κs = search needs

@@ -1,15 +1,10 @@
 -- `clear_counts`: the rows below e are 0.
 use Prim.Native.Nat.{_≤_, _-_}
 use native.Mathlib.Omega.{arith}
-use mathlib.Core.Path.{_≡_, sym, _∙_, ap}
-use denote.Ref.{now}
-use borrow.Author.Needs.{needs}
+use mathlib.Core.Path.{_≡_}
 use Rattle.filling.specs.Clear.{WipedRows, rows-none, rows-more}
 use Rattle.filling.proofs.clear.clear_counts.Statement.{statement}
 use Rattle.filling.proofs.clear.clear_counts.Tie as tie
-use Rattle.filling.proofs.clear.clear_counts.Reads as reads
-use Rattle.filling.proofs.clear.clear_counts.Lts as lts
-use Rattle.filling.proofs.clear.clear_row.Reads as clear-row-reads
 
 abbrev Inv-loop : tie.InvT-loop
 Inv-loop counts₀ m k e₀ counts e = (e ≤ m) × WipedRows 0 e k counts₀ counts

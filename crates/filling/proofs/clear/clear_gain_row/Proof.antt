@@ -3,13 +3,10 @@ use Prim.Native.Nat.{_≤_, _-_}
 use native.Mathlib.Omega.{arith}
 use lib.IntN.{pos}
 use mathlib.Core.Path.{_≡_, refl}
-use denote.Ref.{now}
 use borrow.Author.Needs.{needs}
 use Rattle.filling.specs.Clear.{Wiped, written-none, written-more}
 use Rattle.filling.proofs.clear.clear_gain_row.Statement.{statement}
 use Rattle.filling.proofs.clear.clear_gain_row.Tie as tie
-use Rattle.filling.proofs.clear.clear_gain_row.Reads as reads
-use Rattle.filling.proofs.clear.clear_gain_row.Lts as lts
 
 abbrev Inv-loop : tie.InvT-loop
 Inv-loop gains₀ row k j₀ gains j = (j ≤ k) × Wiped (pos 0) row j gains₀ gains

@@ -2,15 +2,10 @@
 use Prim.Native.Nat.{_≤_, _-_}
 use native.Mathlib.Omega.{arith}
 use lib.IntN.{pos}
-use mathlib.Core.Path.{_≡_, sym, _∙_, ap}
-use denote.Ref.{now}
-use borrow.Author.Needs.{needs}
+use mathlib.Core.Path.{_≡_}
 use Rattle.filling.specs.Clear.{WipedRows, rows-none, rows-more}
 use Rattle.filling.proofs.clear.clear_gains.Statement.{statement}
 use Rattle.filling.proofs.clear.clear_gains.Tie as tie
-use Rattle.filling.proofs.clear.clear_gains.Reads as reads
-use Rattle.filling.proofs.clear.clear_gains.Lts as lts
-use Rattle.filling.proofs.clear.clear_gain_row.Reads as clear-gain-row-reads
 
 abbrev Inv-loop : tie.InvT-loop
 Inv-loop gains₀ n k y₀ gains y = (y ≤ n) × WipedRows (pos 0) y k gains₀ gains

@@ -2,13 +2,9 @@
 use Prim.Native.Nat.{_≤_, _-_}
 use native.Mathlib.Omega.{arith}
 use mathlib.Core.Path.{_≡_, refl}
-use denote.Ref.{now}
-use borrow.Author.Needs.{needs}
 use Rattle.filling.specs.Clear.{Wiped, written-none, written-more}
 use Rattle.filling.proofs.clear.clear_row.Statement.{statement}
 use Rattle.filling.proofs.clear.clear_row.Tie as tie
-use Rattle.filling.proofs.clear.clear_row.Reads as reads
-use Rattle.filling.proofs.clear.clear_row.Lts as lts
 
 abbrev Inv-loop : tie.InvT-loop
 Inv-loop table₀ row k j₀ table j = (j ≤ k) × Wiped 0 row j table₀ table

@@ -1,19 +1,11 @@
 -- `contract_net`: v goes, the list is relinked, and u comes where it was no pin.
 use native.Mathlib.Omega.{arith}
-use mathlib.Core.Path.{_≡_, refl, sym, _∙_, ap}
-use denote.Ref.{now}
+use mathlib.Core.Path.{_∙_}
 use borrow.Author.Needs.{needs}
 use Rattle.levels.specs.ContractNet.{contract-sets, contract-sets-2, contract-both, contract-new, linked-of, linked-le, was-pin, was-none, distinct, in-v, both}
 use Rattle.connectivity.specs.Listed.{has-occ}
 use Rattle.levels.proofs.nets.contract_net.Statement.{statement}
 use Rattle.levels.proofs.nets.contract_net.Tie as tie
-use Rattle.levels.proofs.nets.contract_net.Reads as reads
-use Rattle.levels.proofs.nets.contract_net.Lts as lts
-use Rattle.levels.proofs.numbers.index.Reads as index-reads
-use Rattle.levels.proofs.numbers.number.Reads as number-reads
-use Rattle.connectivity.proofs.set_pin.Reads as set-pin-reads
-use Rattle.incidence.proofs.is_pin.Reads as is-pin-reads
-use Rattle.pins.proofs.relink.Reads as relink-reads
 
 mul-index : tie.Need-mul-index
 mul-index c = search needs

@@ -1,16 +1,9 @@
 -- `split_net`: v comes with the list before the undo, and u goes with the list after it where it was no pin.
 use native.Mathlib.Omega.{arith}
-use mathlib.Core.Path.{_≡_, sym, _∙_, ap}
-use denote.Ref.{now}
 use borrow.Author.Needs.{needs}
 use Rattle.levels.specs.SplitNet.{split-sets, split-sets-2, split-both, split-new}
 use Rattle.levels.proofs.nets.split_net.Statement.{statement}
 use Rattle.levels.proofs.nets.split_net.Tie as tie
-use Rattle.levels.proofs.nets.split_net.Reads as reads
-use Rattle.levels.proofs.nets.split_net.Lts as lts
-use Rattle.connectivity.proofs.set_pin.Reads as set-pin-reads
-use Rattle.pins.proofs.uncontract_net.Reads as uncontract-net-reads
-use Rattle.levels.proofs.numbers.index.Reads as index-reads
 
 mul-index : tie.Need-mul-index
 mul-index c = search needs

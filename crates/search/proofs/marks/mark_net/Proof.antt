@@ -4,12 +4,6 @@ use borrow.Author.Needs.{needs}
 use Rattle.search.specs.Marks.{net-again, net-marked, net-covered}
 use Rattle.search.proofs.marks.mark_net.Statement.{statement}
 use Rattle.search.proofs.marks.mark_net.Tie as tie
-use Rattle.search.proofs.marks.mark_net.Reads as reads
-use Rattle.search.proofs.marks.mark_net.Lts as lts
-use Rattle.incidence.proofs.is_pin.Reads as is-pin-reads
-use Rattle.incidence.proofs.put.Reads as put-reads
-use Rattle.search.proofs.marks.mark_pins.Reads as mark-pins-reads
-use Rattle.search.proofs.numbers.index.Reads as index-reads
 
 is-pin-requires : tie.Need-is-pin-requires
 is-pin-requires c κs = search needs

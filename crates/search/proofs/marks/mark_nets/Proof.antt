@@ -7,10 +7,6 @@ use Rattle.incidence.specs.On.{on}
 use Rattle.search.specs.Marks.{Marked, Covered, near, nets-none, nets-more, nets-all}
 use Rattle.search.proofs.marks.mark_nets.Statement.{statement}
 use Rattle.search.proofs.marks.mark_nets.Tie as tie
-use Rattle.search.proofs.marks.mark_nets.Reads as reads
-use Rattle.search.proofs.marks.mark_nets.Lts as lts
-use Rattle.incidence.proofs.next_net.Reads as next-net-reads
-use Rattle.search.proofs.marks.mark_net.Reads as mark-net-reads
 
 abbrev Inv-loop : tie.InvT-loop
 Inv-loop marks₀ bits pins firsts sizes m u e₀ marks e = (e ≤ m) × (e < m → on bits u e ≡ 1) × Marked marks₀ marks (near bits pins firsts sizes u e) × Covered marks pins firsts sizes

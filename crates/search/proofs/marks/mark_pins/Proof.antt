@@ -7,10 +7,6 @@ use Rattle.connectivity.specs.Listed.{has}
 use Rattle.search.specs.Marks.{Marked, SameNets, nets-same, nets-then, pins-none, pins-more}
 use Rattle.search.proofs.marks.mark_pins.Statement.{statement}
 use Rattle.search.proofs.marks.mark_pins.Tie as tie
-use Rattle.search.proofs.marks.mark_pins.Reads as reads
-use Rattle.search.proofs.marks.mark_pins.Lts as lts
-use Rattle.search.proofs.numbers.index.Reads as index-reads
-use Rattle.search.proofs.marks.mark_vertex.Reads as mark-vertex-reads
 
 abbrev Inv-loop : tie.InvT-loop
 Inv-loop marks₀ pins first size j₀ marks j = (j ≤ size) × Marked marks₀ marks (has pins first j) × SameNets marks₀ marks

@@ -5,10 +5,6 @@ use borrow.Author.Needs.{needs}
 use Rattle.search.specs.Marks.{marked-one, marked-moved, nets-same, nets-beside}
 use Rattle.search.proofs.marks.mark_vertex.Statement.{statement}
 use Rattle.search.proofs.marks.mark_vertex.Tie as tie
-use Rattle.search.proofs.marks.mark_vertex.Reads as reads
-use Rattle.search.proofs.marks.mark_vertex.Lts as lts
-use Rattle.incidence.proofs.is_pin.Reads as is-pin-reads
-use Rattle.incidence.proofs.put.Reads as put-reads
 
 is-pin-requires : tie.Need-is-pin-requires
 is-pin-requires c κs = search needs

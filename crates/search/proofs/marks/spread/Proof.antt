@@ -2,11 +2,6 @@ use borrow.Author.Needs.{needs}
 use Rattle.search.specs.Marks.{spread-law, covered-then}
 use Rattle.search.proofs.marks.spread.Statement.{statement}
 use Rattle.search.proofs.marks.spread.Tie as tie
-use Rattle.search.proofs.marks.spread.Reads as reads
-use Rattle.search.proofs.marks.spread.Lts as lts
-use Rattle.incidence.proofs.put.Reads as put-reads
-use Rattle.incidence.proofs.take.Reads as take-reads
-use Rattle.search.proofs.marks.mark_nets.Reads as mark-nets-reads
 
 take-requires : tie.Need-take-requires
 take-requires c κs = search needs

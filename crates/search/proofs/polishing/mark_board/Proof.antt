@@ -6,9 +6,6 @@ use Rattle.search.specs.Marks.{Marked}
 use Rattle.search.specs.Polishing.{sits, sits-none, sits-more}
 use Rattle.search.proofs.polishing.mark_board.Statement.{statement}
 use Rattle.search.proofs.polishing.mark_board.Tie as tie
-use Rattle.search.proofs.polishing.mark_board.Reads as reads
-use Rattle.search.proofs.polishing.mark_board.Lts as lts
-use Rattle.search.proofs.polishing.mark_placed.Reads as mark-placed-reads
 
 abbrev Inv-loop : tie.InvT-loop
 Inv-loop marks₀ blocks n x₀ marks x = (x ≤ n) × Marked marks₀ marks (sits blocks x)

@@ -3,9 +3,6 @@ use borrow.Author.Needs.{needs}
 use Rattle.search.specs.Polishing.{placed-yes, placed-no}
 use Rattle.search.proofs.polishing.mark_placed.Statement.{statement}
 use Rattle.search.proofs.polishing.mark_placed.Tie as tie
-use Rattle.search.proofs.polishing.mark_placed.Reads as reads
-use Rattle.search.proofs.polishing.mark_placed.Lts as lts
-use Rattle.search.proofs.marks.mark_vertex.Reads as mark-vertex-reads
 
 returns : tie.Need-returns
 returns c = placed-no (now (c .before .args .marks)) (c .before .args .x) (c .before .args .b) (c .if1 .taken)

@@ -5,10 +5,6 @@ use Rattle.choice.specs.Open.{gainIn}
 use Rattle.search.specs.Polishing.{rise-none, rise-yes, rise-no, rise-in}
 use Rattle.search.proofs.polishing.next_rise.Statement.{statement}
 use Rattle.search.proofs.polishing.next_rise.Tie as tie
-use Rattle.search.proofs.polishing.next_rise.Reads as reads
-use Rattle.search.proofs.polishing.next_rise.Lts as lts
-use Rattle.choice.proofs.open.best_open.Reads as best-open-reads
-use Rattle.search.proofs.polishing.rises.Reads as rises-reads
 
 best-open-requires : tie.Need-best-open-requires
 best-open-requires c κs = search needs

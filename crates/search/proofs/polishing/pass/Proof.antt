@@ -7,11 +7,6 @@ use Rattle.search.specs.Tabled.{search-ok}
 use Rattle.search.specs.Polished.{pass-in, pass-goes, pass-none, pass-move}
 use Rattle.search.proofs.polishing.pass.Statement.{statement}
 use Rattle.search.proofs.polishing.pass.Tie as tie
-use Rattle.search.proofs.polishing.pass.Reads as reads
-use Rattle.search.proofs.polishing.pass.Lts as lts
-use Rattle.calls.proofs.moves.go.Reads as go-reads
-use Rattle.search.proofs.numbers.index.Reads as index-reads
-use Rattle.search.proofs.polishing.next_rise.Reads as next-rise-reads
 
 next-rise-requires : tie.Need-next-rise-requires
 next-rise-requires c κs = search-ok (c .before .before .before .before .before .before .before .before .before .before .before .before .before .pre .at .sound) (now (c .before .before .before .before .before .before .before .before .before .before .before .before .before .args .marks)) (omega (arith, c .before .before .before .before .before .before .before .before .before .before .before .before .before .pre .at .marks-fit))

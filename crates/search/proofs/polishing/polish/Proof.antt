@@ -7,10 +7,6 @@ use Rattle.search.specs.Steps.{lent}
 use Rattle.search.specs.Polished.{Passing, passing-none, pass-asks, passing-more, polishes-all}
 use Rattle.search.proofs.polishing.polish.Statement.{statement}
 use Rattle.search.proofs.polishing.polish.Tie as tie
-use Rattle.search.proofs.polishing.polish.Reads as reads
-use Rattle.search.proofs.polishing.polish.Lts as lts
-use Rattle.search.proofs.polishing.mark_board.Reads as mark-board-reads
-use Rattle.search.proofs.polishing.pass.Reads as pass-reads
 
 abbrev Inv-loop : tie.InvT-loop
 Inv-loop counts₀ visited₀ gains₀ blocks₀ loads₀ pins sizes bits weights netweights firsts n m k capacity total marks p₀ counts visited gains blocks loads p =

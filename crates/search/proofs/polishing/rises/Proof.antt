@@ -3,10 +3,6 @@ use borrow.Author.Needs.{needs}
 use Rattle.search.specs.Polishing.{rise-read}
 use Rattle.search.proofs.polishing.rises.Statement.{statement}
 use Rattle.search.proofs.polishing.rises.Tie as tie
-use Rattle.search.proofs.polishing.rises.Reads as reads
-use Rattle.search.proofs.polishing.rises.Lts as lts
-use Rattle.search.proofs.numbers.index.Reads as index-reads
-use Rattle.search.proofs.polishing.above_zero.Reads as above-zero-reads
 
 index-requires : tie.Need-index-requires
 index-requires c κs = search needs

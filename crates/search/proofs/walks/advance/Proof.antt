@@ -5,10 +5,6 @@ use Rattle.search.specs.Tabled.{search-ok}
 use Rattle.search.specs.Turning.{take-asks, turn-none, turn-move}
 use Rattle.search.proofs.walks.advance.Statement.{statement}
 use Rattle.search.proofs.walks.advance.Tie as tie
-use Rattle.search.proofs.walks.advance.Reads as reads
-use Rattle.search.proofs.walks.advance.Lts as lts
-use Rattle.search.proofs.walks.make_move.Reads as make-move-reads
-use Rattle.search.proofs.walks.next_move.Reads as next-move-reads
 
 next-move-requires : tie.Need-next-move-requires
 next-move-requires c κs = (c .before .before .before .before .before .before .before .before .before .before .before .before .before .before .pre .at .kept-to, omega (arith, c .before .before .before .before .before .before .before .before .before .before .before .before .before .before .pre .tried-to, c .before .before .before .before .before .before .before .before .before .before .before .before .before .before .pre .turn-to, c .before .before .before .before .before .before .before .before .before .before .before .before .before .before .pre .at .sound .follows .room .few-vertices), search-ok (c .before .before .before .before .before .before .before .before .before .before .before .before .before .before .pre .at .sound) (now (c .before .before .before .before .before .before .before .before .before .before .before .before .before .before .args .marks)) (omega (arith, c .before .before .before .before .before .before .before .before .before .before .before .before .before .before .pre .at .marks-fit)))

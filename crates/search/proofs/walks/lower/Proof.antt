@@ -1,8 +1,6 @@
 use Rattle.search.specs.Taking.{lower-new, lower-old}
 use Rattle.search.proofs.walks.lower.Statement.{statement}
 use Rattle.search.proofs.walks.lower.Tie as tie
-use Rattle.search.proofs.walks.lower.Reads as reads
-use Rattle.search.proofs.walks.lower.Lts as lts
 
 returns : tie.Need-returns
 returns c = (lower-new (c .before .args .total) (c .before .args .low) _ _ (c .if1 .taken), lower-new (c .before .args .total) (c .before .args .low) _ _ (c .if1 .taken))

@@ -5,13 +5,6 @@ use Prim.Native.Nat.{ℕ, _-_}
 use Rattle.search.specs.Taking.{take-open, take-goes, take-nets, take-law}
 use Rattle.search.proofs.walks.make_move.Statement.{statement}
 use Rattle.search.proofs.walks.make_move.Tie as tie
-use Rattle.search.proofs.walks.make_move.Reads as reads
-use Rattle.search.proofs.walks.make_move.Lts as lts
-use Rattle.calls.proofs.moves.go.Reads as go-reads
-use Rattle.calls.proofs.pairs.Journal.push.Reads as push-reads
-use Rattle.search.proofs.marks.spread.Reads as spread-reads
-use Rattle.search.proofs.numbers.index.Reads as index-reads
-use Rattle.search.proofs.walks.lower.Reads as lower-reads
 
 index-requires : tie.Need-index-requires
 index-requires c κs = search needs

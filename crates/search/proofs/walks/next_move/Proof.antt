@@ -3,9 +3,6 @@ use borrow.Author.Needs.{needs}
 use Rattle.search.specs.Turning.{next-stop, next-best}
 use Rattle.search.proofs.walks.next_move.Statement.{statement}
 use Rattle.search.proofs.walks.next_move.Tie as tie
-use Rattle.search.proofs.walks.next_move.Reads as reads
-use Rattle.search.proofs.walks.next_move.Lts as lts
-use Rattle.choice.proofs.open.best_open.Reads as best-open-reads
 
 add-if1 : tie.Need-add-if1
 add-if1 c = search needs

@@ -8,10 +8,6 @@ use Rattle.search.specs.Steps.{lent}
 use Rattle.search.specs.Back.{Rewinding, rewind-none, rewind-asks, rewind-from, rewind-more, rewind-done}
 use Rattle.search.proofs.walks.rewind.Statement.{statement}
 use Rattle.search.proofs.walks.rewind.Tie as tie
-use Rattle.search.proofs.walks.rewind.Reads as reads
-use Rattle.search.proofs.walks.rewind.Lts as lts
-use Rattle.calls.proofs.moves.go.Reads as go-reads
-use Rattle.search.proofs.numbers.index.Reads as index-reads
 
 abbrev Inv-loop : tie.InvT-loop
 Inv-loop counts₀ visited₀ gains₀ blocks₀ loads₀ pins sizes bits weights netweights firsts n m k total kept journal t₀ j₀ counts visited gains blocks loads t j =

@@ -8,12 +8,6 @@ use Rattle.search.specs.Steps.{lent, locals, Going}
 use Rattle.search.specs.Whole.{going-none, turn-asks, going-more, end-asks, walks-all}
 use Rattle.search.proofs.walks.walk.Statement.{statement}
 use Rattle.search.proofs.walks.walk.Tie as tie
-use Rattle.search.proofs.walks.walk.Reads as reads
-use Rattle.search.proofs.walks.walk.Lts as lts
-use Rattle.calls.proofs.pairs.Journal.new.Reads as new-reads
-use Rattle.search.proofs.marks.mark_vertex.Reads as mark-vertex-reads
-use Rattle.search.proofs.walks.advance.Reads as advance-reads
-use Rattle.search.proofs.walks.rewind.Reads as rewind-reads
 
 abbrev Inv-loop : tie.InvT-loop
 Inv-loop counts₀ visited₀ gains₀ blocks₀ loads₀ pins sizes bits weights netweights firsts n m k capacity total u v marks₀ s₀ counts visited gains blocks loads marks s =

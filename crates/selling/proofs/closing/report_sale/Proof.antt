@@ -2,10 +2,6 @@ use borrow.Author.Needs.{needs}
 use Rattle.selling.specs.Reported.{closes, reported}
 use Rattle.selling.proofs.closing.report_sale.Statement.{statement}
 use Rattle.selling.proofs.closing.report_sale.Tie as tie
-use Rattle.selling.proofs.closing.report_sale.Reads as reads
-use Rattle.selling.proofs.closing.report_sale.Lts as lts
-use Rattle.selling.proofs.sell.Reads as sell-reads
-use Rattle.report.proofs.closing.put_closing.Reads as put-closing-reads
 
 cast-n : tie.Need-cast-n
 cast-n c = search needs

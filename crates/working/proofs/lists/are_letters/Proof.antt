@@ -7,9 +7,6 @@ use borrow.Author.Tests.{not-true, not-false}
 use Rattle.working.specs.Lists.{lettersTo, letters-none, letters-more, letters-all, letters-no}
 use Rattle.working.proofs.lists.are_letters.Statement.{statement}
 use Rattle.working.proofs.lists.are_letters.Tie as tie
-use Rattle.working.proofs.lists.are_letters.Reads as reads
-use Rattle.working.proofs.lists.are_letters.Lts as lts
-use Rattle.working.proofs.lists.is_letter.Reads as is-letter-reads
 
 abbrev Inv-loop : tie.InvT-loop
 Inv-loop list count i₀ i = (lettersTo i list ≡ true) × (i ≤ count)

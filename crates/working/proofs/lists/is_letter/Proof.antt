@@ -3,10 +3,6 @@ use mathlib.Core.Path.{refl}
 use Rattle.working.specs.Lists.{letter-kind, letter-rest}
 use Rattle.working.proofs.lists.is_letter.Statement.{statement}
 use Rattle.working.proofs.lists.is_letter.Tie as tie
-use Rattle.working.proofs.lists.is_letter.Reads as reads
-use Rattle.working.proofs.lists.is_letter.Lts as lts
-use Rattle.dispatch.proofs.kinds.is_contracting.Reads as is-contracting-reads
-use Rattle.dispatch.proofs.kinds.is_moving.Reads as is-moving-reads
 
 is-contracting-requires : tie.Need-is-contracting-requires
 is-contracting-requires c κs = search needs

@@ -3,9 +3,6 @@ use borrow.Author.Tests.{not-true, not-false}
 use Rattle.working.specs.Lists.{list-long, list-odd, list-strange, list-good}
 use Rattle.working.proofs.lists.list_refusal.Statement.{statement}
 use Rattle.working.proofs.lists.list_refusal.Tie as tie
-use Rattle.working.proofs.lists.list_refusal.Reads as reads
-use Rattle.working.proofs.lists.list_refusal.Lts as lts
-use Rattle.working.proofs.lists.are_letters.Reads as are-letters-reads
 
 returns : tie.Need-returns
 returns c = list-long _ (c .if1 .taken)
