@@ -14,7 +14,7 @@ use Rattle.calls.specs.Pairs.{stackOf, pairs-none, pairs-length}
 use Rattle.calls.specs.Tables.{Tables, Sound, Keeps}
 use Rattle.search.specs.Keeping.{keeps-more}
 use Rattle.search.specs.Polished.{PolishOk, Polishes}
-use Rattle.cycle.specs.Coarsen.{Stands, CoarsenOk, Coarsens}
+use Rattle.coarsening.specs.Coarsen.{Stands, CoarsenOk, Coarsens}
 use Rattle.cycle.specs.Refine.{RefineOk, Fined, Refines}
 
 -- what A asks: no contraction stands

@@ -2,14 +2,6 @@
 ghost use mathlib.Core.Path.{_≡_};
 ghost use Prim.Native.Nat.{_-_, _≤_};
 
-// A vertex's number as the stack holds it.
-pub fn short(x: usize) -> u16
-    requires { ⌜ x ≤ 1024 ⌝ }
-    ensures { λ r. ⌜ r ≡ x ⌝ }
-{
-    x as u16
-}
-
 // The place, from 0, of the vertex of that number.
 pub fn place_of(x: u16) -> usize
     requires { ⌜ 1 ≤ x ⌝ }

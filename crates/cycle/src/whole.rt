@@ -1,10 +1,10 @@
 // A as a whole: contractions, the way back, then P.
 ghost use Rattle.calls.specs.Tables.{tables};
 ghost use Rattle.cycle.specs.Whole.{CycleOk, Levels, Does};
-use crate::coarsening::coarsen;
 use crate::numbers::counted;
 use crate::refining::refine;
 use calls::pairs::Stack;
+use coarsening::coarsen;
 use search::polishing::polish;
 
 // How many contractions were made, the moves that the walks made and kept, all together, and the metric.

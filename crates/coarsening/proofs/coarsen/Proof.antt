@@ -8,10 +8,10 @@ use Rattle.calls.specs.Tables.{tables}
 use Rattle.choice.specs.Rating.{Blank, scoreOf}
 use Rattle.choice.specs.Bound.{Bounded}
 use Rattle.choice.specs.BoundLaw.{bounded-begin}
-use Rattle.cycle.specs.Linked.{blank, tables-ok}
-use Rattle.cycle.specs.Coarsen.{locals, Going, len-is, going-none, going-more, going-done, once-asks}
-use Rattle.cycle.proofs.coarsening.coarsen.Statement.{statement}
-use Rattle.cycle.proofs.coarsening.coarsen.Tie as tie
+use Rattle.coarsening.specs.Linked.{blank, tables-ok}
+use Rattle.coarsening.specs.Coarsen.{locals, Going, len-is, going-none, going-more, going-done, once-asks}
+use Rattle.coarsening.proofs.coarsen.Statement.{statement}
+use Rattle.coarsening.proofs.coarsen.Tie as tie
 
 abbrev Inv-loop : tie.InvT-loop
 Inv-loop counts₀ visited₀ gains₀ pins₀ sizes₀ bits₀ blocks₀ weights₀ aboves₀ netweights firsts n m k average total acc₀ bounds₀ s₀ counts visited gains pins sizes bits blocks weights aboves acc bounds s =

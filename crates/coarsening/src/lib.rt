@@ -5,8 +5,7 @@ ghost use mathlib.Core.List.{List};
 ghost use Rattle.calls.specs.Tables.{tables};
 ghost use Rattle.choice.specs.Rating.{Blank, scoreOf};
 ghost use Rattle.choice.specs.Bound.{Bounded};
-ghost use Rattle.cycle.specs.Coarsen.{locals, OnceOk, Once, CoarsenOk, Coarsens};
-use crate::numbers::short;
+ghost use Rattle.coarsening.specs.Coarsen.{locals, OnceOk, Once, CoarsenOk, Coarsens};
 use calls::joins::join;
 use calls::pairs::Stack;
 use choice::bounds::begin;
@@ -16,6 +15,14 @@ use choice::join::plan_join;
 pub struct Round {
     pub stack: Stack,
     pub left: usize,
+}
+
+// A vertex's number as the stack holds it.
+fn short(x: usize) -> u16
+    requires { ⌜ x ≤ 1024 ⌝ }
+    ensures { λ r. ⌜ r ≡ x ⌝ }
+{
+    x as u16
 }
 
 // How many vertices more than 2 × k are on the board, with `len` contractions standing.

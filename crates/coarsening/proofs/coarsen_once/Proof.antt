@@ -3,10 +3,10 @@
 use native.Mathlib.Omega.{arith}
 use mathlib.Core.Path.{refl}
 use borrow.Author.Needs.{needs}
-use Rattle.cycle.specs.Linked.{tables-ok}
-use Rattle.cycle.specs.Coarsen.{once-none, once-join, once-room, once-bounds, pair-ok}
-use Rattle.cycle.proofs.coarsening.coarsen_once.Statement.{statement}
-use Rattle.cycle.proofs.coarsening.coarsen_once.Tie as tie
+use Rattle.coarsening.specs.Linked.{tables-ok}
+use Rattle.coarsening.specs.Coarsen.{once-none, once-join, once-room, once-bounds, pair-ok}
+use Rattle.coarsening.proofs.coarsen_once.Statement.{statement}
+use Rattle.coarsening.proofs.coarsen_once.Tie as tie
 
 plan-join-requires : tie.Need-plan-join-requires
 plan-join-requires c κs =
