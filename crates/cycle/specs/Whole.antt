@@ -1,5 +1,5 @@
 -- A as a whole on sound tables without contractions: contractions, the way back, then P; equal to what model says that A does and answers.
--- Rests on Coarsen, Refine and search's Polished. Assumes nothing.
+-- Rests on coarsening's Coarsen, Refine and search's Polished. Assumes nothing.
 use Prim.Native.Nat.{ℕ}
 use native.Mathlib.Omega.{arith}
 use mathlib.Core.Path.{_≡_, sym, ap, _∙_, subst}
