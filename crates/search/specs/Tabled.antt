@@ -25,6 +25,10 @@ use Rattle.choice.specs.Open.{SearchOk, mayGo, roomFor, isCandidate, openIn}
 use Rattle.choice.specs.OpenLink.{Holds}
 use Rattle.search.specs.Marks.{candidateBit, NetsOk, near, near-yes, near-no}
 
+-- v's place, counted from 0, is that of v
+pub back : (v : ℕ) → 1 ≤ v → v - 1 + 1 ≡ v
+back v l = omega arith
+
 module _ {h : Hypergraph} {cs : List Contraction} {block : ℕ → ℕ} {T : Tables} (s : Sound h cs block T) where
   -- ---- pins
   pub pin-on : (e : ℕ) (x : ℕ) → pin cs (netAt h e) x ≡ true → above cs x ≡ 0
@@ -96,9 +100,6 @@ module _ {h : Hypergraph} {cs : List Contraction} {block : ℕ → ℕ} {T : Tab
         ∙ ap₂ (gain h cs block) (back v lv) (back b lb);
   }
     where
-      back : (v : ℕ) → 1 ≤ v → v - 1 + 1 ≡ v
-      back v l = omega arith
-
       at-one : (v : ℕ) → 1 ≤ v → above cs v ≡ 0 → above cs (v - 1 + 1) ≡ 0
       at-one v l q = ap (above cs) (back v l) ∙ q
 
