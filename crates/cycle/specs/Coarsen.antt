@@ -26,7 +26,7 @@ use Rattle.choice.specs.JoinLink.{Linked, join-is, join-may}
 use Rattle.choice.specs.Bound.{Bounded, Planned, riseOf}
 use Rattle.choice.specs.BoundLink.{bounded-after}
 use Rattle.choice.specs.declared.join.Join.{Join}
-use Rattle.search.specs.Keeping.{keeps-none, keeps-more}
+use Rattle.calls.specs.Keeping.{keeps-none, keeps-more}
 use Rattle.cycle.specs.Linked.{linked, block-at, block-from}
 
 -- tables and the stack's arrays are those of the state c
