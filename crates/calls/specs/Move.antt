@@ -33,6 +33,10 @@ use Rattle.levels.specs.Reading.{reads}
 use Rattle.calls.specs.Tables.{Tables, tables, runningOf, Sound, Past, Keeps}
 use Rattle.calls.specs.Total.{Lowers}
 
+-- a vertex's number from its place, which counts from 0
+pub back : (v : ℕ) → 1 ≤ v → v - 1 + 1 ≡ v
+back v l = omega arith
+
 -- u, counted from 0, is on the board, and t is another block than its own
 pub record Open (blocks : List ℕ) (n k u t : ℕ) : Type 0 where
   pub u-in : u < n

@@ -1,14 +1,13 @@
 -- What sound tables tell the choice of a pair to contract: they hold the state that choice's laws speak of. Rests on calls' Sound and choice's
 -- JoinLink. Assumes nothing.
 use Prim.Native.Nat.{ℕ, _+_, _-_, _<_, _≤_}
-use native.Mathlib.Decide.{decLt}
 use native.Mathlib.Omega.{arith}
 use mathlib.Core.Path.{_≡_, sym, ap, _∙_}
 use mathlib.Core.List.{List}
 use borrow.Author.Tests.{eqb-true, eqb-false}
-use lib.ListN.{getD, replicate, length-replicate, getD-replicate, List·getD-eq-default}
+use lib.ListN.{getD, replicate, length-replicate}
 use Rattle.laws.specs.Choice.{one}
-use Rattle.laws.specs.Fold.{all-get}
+use Rattle.laws.specs.Fold.{all-get, zeros-get}
 use Rattle.laws.specs.Occurrence.{occ, occ-total}
 use Rattle.laws.specs.Sum.{sumTo, sumTo-ext}
 use Rattle.model.specs.Catalogue.{Hypergraph, vertices, averageWeight}
@@ -17,23 +16,15 @@ use Rattle.model.specs.Measure.{Contraction, above, pin, size, weight}
 use Rattle.pins.specs.Stack.{present-le, present-pin, loadedPin, row-pin}
 use Rattle.levels.specs.Running.{netAt}
 use Rattle.calls.specs.Tables.{Tables, Sound}
-use Rattle.calls.specs.Move.{own-block, own-weight, in-range}
+use Rattle.calls.specs.Move.{back, own-block, own-weight, in-range}
 use Rattle.choice.specs.Rating.{TablesOk, Blank}
 use Rattle.choice.specs.JoinLink.{Linked}
 
 -- a table of zeros
 pub blank : (n : ℕ) → n ≡ 1025 → Blank (replicate n 0)
-blank n e = record { len = length-replicate {A = ℕ} n 0 ∙ e; zeros = λ z. go z (decLt z n) }
-  where
-    go : (z : ℕ) → Dec (z < n) → getD {A = ℕ} (replicate n 0) z 0 ≡ 0
-    go z (yes l) = getD-replicate n z 0 0 l
-    go z (no l) = List·getD-eq-default (replicate n 0) 0 (omega (arith, length-replicate {A = ℕ} n 0))
+blank n e = record { len = length-replicate {A = ℕ} n 0 ∙ e; zeros = zeros-get n }
 
 module _ {h : Hypergraph} {cs : List Contraction} {block : ℕ → ℕ} {T : Tables} (s : Sound h cs block T) where
-  -- v's place, counted from 0, is that of v
-  back : (v : ℕ) → 1 ≤ v → v - 1 + 1 ≡ v
-  back v l = omega arith
-
   member : (v e : ℕ) → e < T .m → occ (T .pins) (getD (T .firsts) e 0) (getD (T .sizes) e 0) v ≡ one (pin cs (netAt h e) v)
   member v e l = s .follows .says .board .nets e l .pins v ∙ present-pin (netAt h e) cs (s .follows .says .sound) v
 

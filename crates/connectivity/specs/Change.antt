@@ -27,6 +27,10 @@ unfoldable pub delta : (a b fa fb w o c : ℕ) → ℤ
 delta a b fa fb w o c = cond (eqb o 0) (pos 0)
     (((pos (rowBut fa 2 o a w c) +ℤ negℤ (pos (rowBut fb 1 o b w c))) +ℤ negℤ (pos (single fa 1 a w c))) +ℤ pos (single fb 0 b w c))
 
+-- where no rule applies
+pub zero-sum : {p q s t : ℕ} → p ≡ 0 → q ≡ 0 → s ≡ 0 → t ≡ 0 → ((pos p +ℤ negℤ (pos q)) +ℤ negℤ (pos s)) +ℤ pos t ≡ pos 0
+zero-sum e f g h = rw (e, f, g, h) refl
+
 pub when-no : (n want w : ℕ) → (n ≡ want → ⊥) → when n want w ≡ 0
 unfolding when
 when-no n want w ne = rw (ne-eqb n want ne)
@@ -216,9 +220,6 @@ module _ (n : ℕ) (r : ℕ → ℕ) (x a b w : ℕ) (hx : x < n) (ea : r x ≡ 
       own-none : delta a b fa fb w o o ≡ pos 0
       own-none = delta-some a b fa fb w o o ho ∙ zero-sum (a-none (ℕ-discrete o a)) (b-none (ℕ-discrete o b)) (a-one (ℕ-discrete o a)) (b-one (ℕ-discrete o b))
         where
-          zero-sum : {p q s t : ℕ} → p ≡ 0 → q ≡ 0 → s ≡ 0 → t ≡ 0 → ((pos p +ℤ negℤ (pos q)) +ℤ negℤ (pos s)) +ℤ pos t ≡ pos 0
-          zero-sum e f g h = rw (e, f, g, h) refl
-
           a-none : Dec (o ≡ a) → rowBut fa 2 o a w o ≡ 0
           a-none (yes p) = rowBut-own fa 2 o a w o p
           a-none (no p) = rowBut-other fa 2 o a w o p

@@ -7,7 +7,7 @@ use native.Mathlib.Omega.{arith}
 use native.Mathlib.Decide.{ℕ-discrete}
 use lib.ListN.{length, getD, set, length-set}
 use lib.Seq.{getD-set-same, getD-set-other}
-use lib.IntN.{ℤ, pos, natAbs, _+ℤ_, _-ℤ_, negℤ, +ℤ-idr}
+use lib.IntN.{ℤ, pos, natAbs, _+ℤ_, _-ℤ_, +ℤ-idr}
 use lib.Signed.{mag}
 use mir.Syntax.{w32}
 use mir.Val.{toZ, ofZ}
@@ -16,7 +16,7 @@ use Rattle.laws.specs.Place.{place, place-at, place-off, place-ext}
 use Rattle.connectivity.specs.Raised.{Raised, at}
 use Rattle.connectivity.specs.Row.{row, row-none, row-here, row-there, row-not}
 use Rattle.connectivity.specs.Laid.{Laid, Net, signed, signed-none, signed-le, laid-none, laid-next, laid-more, laid-ext}
-use Rattle.connectivity.specs.Change.{rowBut, single, delta, delta-none, delta-some, when-yes, rowBut-le, single-le, rowBut-idle, rowBut-other, rowBut-own, rowBut-here, single-idle, single-here, single-other}
+use Rattle.connectivity.specs.Change.{rowBut, single, delta, zero-sum, delta-none, delta-some, when-yes, rowBut-le, single-le, rowBut-idle, rowBut-other, rowBut-own, rowBut-here, single-idle, single-here, single-other}
 
 -- the entries of a vertex's row are at most `B`
 abbrev pub Small : ℕ → ℕ → ℕ → List ℤ → Type 0
@@ -163,9 +163,6 @@ delta-idle a b fa fb w zero c ha hb = delta-none a b fa fb w c
 delta-idle a b fa fb w (suc o) c ha hb =
     delta-some a b fa fb w (suc o) c (omega arith)
     ∙ zero-sum (rowBut-idle fa 2 (suc o) a w c (λ z. omega arith)) (rowBut-idle fb 1 (suc o) b w c (λ z. omega arith)) (single-idle fa 1 a w c (λ z. omega arith)) (single-idle fb 0 b w c (λ z. omega arith))
-  where
-    zero-sum : {p q s t : ℕ} → p ≡ 0 → q ≡ 0 → s ≡ 0 → t ≡ 0 → ((pos p +ℤ negℤ (pos q)) +ℤ negℤ (pos s)) +ℤ pos t ≡ pos 0
-    zero-sum e f g h = rw (e, f, g, h) refl
 
 module _ {g : List ℤ} {pins blocks : List ℕ} {n k first p x a b fa fb w : ℕ} (c : Others g pins blocks n k first p x a b fa fb w) where
   pub others-idle : 2 < fa → 1 < fb → Laid (Delta a b fa fb w) (place (row pins blocks first p) x 0) k g g

@@ -17,7 +17,7 @@ use Rattle.calls.specs.Pairs.{stackOf, pairs-none, pairs-some, pairs-length}
 use Rattle.calls.specs.Tables.{Tables, Sound, Keeps}
 use Rattle.calls.specs.Move.{own-block, in-range}
 use Rattle.calls.specs.Join.{Split}
-use Rattle.search.specs.Keeping.{keeps-none, keeps-more}
+use Rattle.calls.specs.Keeping.{keeps-none, keeps-more}
 use Rattle.search.specs.Steps.{WalkOk, Walks, Ended}
 
 -- ---- one of them

@@ -12,7 +12,7 @@ use Rattle.model.specs.Search.{Coarse, Fine, boardSize, coarsen, refine, doesA}
 use Rattle.guarantees.specs.StateBounds.{board-stack}
 use Rattle.calls.specs.Pairs.{stackOf, pairs-none, pairs-length}
 use Rattle.calls.specs.Tables.{Tables, Sound, Keeps}
-use Rattle.search.specs.Keeping.{keeps-more}
+use Rattle.calls.specs.Keeping.{keeps-more}
 use Rattle.search.specs.Polished.{PolishOk, Polishes}
 use Rattle.coarsening.specs.Coarsen.{Stands, CoarsenOk, Coarsens}
 use Rattle.cycle.specs.Refine.{RefineOk, Fined, Refines}

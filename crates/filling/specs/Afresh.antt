@@ -11,10 +11,9 @@ use lib.Dec.{eqb}
 use lib.ListN.{length, getD}
 use lib.IntN.{ℤ, pos, _-ℤ_}
 use Rattle.laws.specs.Choice.{one, one-none, one-eqb}
-use Rattle.laws.specs.Sum.{sum, sum-ext, sum-nil, sum-skip, sum-step, sum-mono, sum-const, sum-list}
+use Rattle.laws.specs.Sum.{sum, sum-ext, sum-nil, sum-skip, sum-step, sum-mono, sum-const}
 use Rattle.laws.specs.Fold.{sumOver}
 use Rattle.model.specs.Catalogue.{Net, Hypergraph}
-use Rattle.model.specs.Memory.{noNet}
 use Rattle.model.specs.Measure.{Contraction, above, pin, pinCount, freed, drawn, gain}
 use Rattle.guarantees.specs.Ends.{At, Placed}
 use Rattle.incidence.specs.On.{on, Next}
@@ -24,7 +23,7 @@ use Rattle.connectivity.specs.Share.{when, when-le}
 use Rattle.connectivity.specs.Matrix.{Tally}
 use Rattle.levels.specs.World.{mat}
 use Rattle.levels.specs.Running.{Says, netAt}
-use Rattle.levels.specs.Reading.{rowCount-is}
+use Rattle.levels.specs.Reading.{rowCount-is, sum-nets}
 use Rattle.filling.specs.Clear.{Written, Wiped}
 
 -- ---- the tables alone
@@ -106,23 +105,20 @@ pub record GainsDone (counts bits weights : List ℕ) (v b m k : ℕ) (g g′ : 
   pub outside : (i : ℕ) → (16 * v ≤ i → 16 * v + k ≤ i) → at g′ i ≡ at g i
 
 module _ {h : Hypergraph} {cs : List Contraction} {block : ℕ → ℕ} {counts bits weights : List ℕ} {v b m k : ℕ} (s : Shown h cs block counts bits weights v b m k) where
-  over : (f : Net → ℕ) → sum m (λ e. f (netAt h e)) ≡ sumOver (h .nets) f
-  over f = ap (λ (z : ℕ). sum z (λ e. f (netAt h e))) (s .all-nets) ∙ sum-list (h .nets) noNet f
-
   -- a sum over the nets of v whose count of a block is `want`
   abbrev weighed : ℕ → ℕ → Net → ℕ
   weighed t want e = cond (pin cs e (v + 1) && eqb (pinCount h cs block e t) want) (e .weight) 0
 
   where-is : (j want : ℕ) → 1 ≤ b → j < k → weightWhere counts bits weights v j want m ≡ sumOver (h .nets) (weighed (j + 1) want)
   unfolding weightWhere when
-  where-is j want on-board lj = sum-ext m _ _ (λ e l. rw (s .marked on-board e l, one-eqb (pin cs (netAt h e) (v + 1)), s .counted e j l lj, s .weighs e l) (by e (pin cs (netAt h e) (v + 1)))) ∙ over (weighed (j + 1) want)
+  where-is j want on-board lj = sum-ext m _ _ (λ e l. rw (s .marked on-board e l, one-eqb (pin cs (netAt h e) (v + 1)), s .counted e j l lj, s .weighs e l) (by e (pin cs (netAt h e) (v + 1)))) ∙ sum-nets h m (weighed (j + 1) want) (s .all-nets)
     where
       by : (e : ℕ) (p : Bool) → cond p (cond (eqb (pinCount h cs block (netAt h e) (j + 1)) want) (netAt h e .weight) 0) 0 ≡ cond (p && eqb (pinCount h cs block (netAt h e) (j + 1)) want) (netAt h e .weight) 0
       by e true = refl
       by e false = refl
 
   none-is : b ≡ 0 → (t want : ℕ) → sumOver (h .nets) (weighed t want) ≡ 0
-  none-is z t want = sym (over (weighed t want)) ∙ sum-nil m _ (λ e l. ap (λ (p : Bool). cond (p && eqb (pinCount h cs block (netAt h e) t) want) (netAt h e .weight) 0) (s .unmarked z e l))
+  none-is z t want = sym (sum-nets h m (weighed t want) (s .all-nets)) ∙ sum-nil m _ (λ e l. ap (λ (p : Bool). cond (p && eqb (pinCount h cs block (netAt h e) t) want) (netAt h e .weight) 0) (s .unmarked z e l))
 
   gain-off : b ≡ 0 → (t : ℕ) → pos 0 ≡ gain h cs block (v + 1) t
   unfolding gain freed drawn

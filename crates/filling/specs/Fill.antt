@@ -1,4 +1,4 @@
--- The tables filled after loading: each net counts its pins one after another, and the bitset gets them. Rests on World and ContractNet's setRow.
+-- The tables filled after loading: each net counts its pins one after another, and the bitset gets them. Rests on levels' World.
 use Prim.Native.Nat.{ℕ, _+_, _*_, _-_, _<_, _≤_}
 use mathlib.Core.Path.{_≡_, refl, sym, ap, _∙_}
 use mathlib.Core.List.{List}
@@ -16,8 +16,7 @@ use Rattle.connectivity.specs.Laid.{Net}
 use Rattle.connectivity.specs.Law.{stands-ext}
 use Rattle.connectivity.specs.Empty.{Blank, stands-empty}
 use Rattle.connectivity.specs.Set.{Frame, Seen, Sets, Set, kept-none, kept-trans, frame-kept}
-use Rattle.levels.specs.World.{mat, Lists, World}
-use Rattle.levels.specs.ContractNet.{setRow, setRow-here, setRow-there}
+use Rattle.levels.specs.World.{mat, Lists, World, setRow, setRow-here, setRow-there}
 
 -- ---- one net
 

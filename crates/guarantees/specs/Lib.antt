@@ -11,7 +11,7 @@
 -- 5. When an accepted A ends, no single move with room lowers the metric: Optimum (A-best; P-best for P).
 -- 6. An accepted file is within every range of document 01: Ranges (accepted-ranges, accepted-book).
 -- 7. Bounds for the code: ReachedBounds (reached-bounds), SearchBounds (walk-counts, refine-counts, polish-count), AnswerBounds (bounded-call),
---    Stretches (size-le, stretch-le, marks-le). The report fits into the lent output: ReportFits (report-fits), whatever the file:
+--    Stretches (size-le, size-fresh, stretch-le, marks-le). The report fits into the lent output: ReportFits (report-fits), whatever the file:
 --    Refusals (engine-fits).
 -- 8. Demand 3's machine half, one theorem about the whole list: MachineHalf (machine-half).
 -- Beneath them: Reversals, Climbs, Tops, Ends, Calls, Clumps, Caps, Reading, Loads, Numbers, Bounds, WeightBounds, StateBounds.
@@ -48,4 +48,3 @@ pub mod ReportFits
 pub mod Refusals
 pub mod Reversals
 pub mod MachineHalf
-pub mod Distinct

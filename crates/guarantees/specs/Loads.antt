@@ -5,7 +5,7 @@ use Prim.Native.Nat.{ℕ, zero, suc, _+_, _-_, _≤_, _<_}
 use native.Mathlib.Decide.{ℕ-discrete}
 use native.Mathlib.Omega.{arith}
 use mathlib.Core.Path.{_≡_, refl, sym, ap, ap₂, _∙_}
-use mathlib.Core.Bool.{Bool, true, false, _||_, _&&_, true≢false}
+use mathlib.Core.Bool.{Bool, true, false, _||_, _&&_}
 use mathlib.Core.List.{List, [], _∷_, _++_}
 use borrow.Author.Tests.{eqb-true, eq-eqb, ltb-false, leb-false}
 use lib.Dec.{eqb, leb, ltb}
@@ -13,7 +13,7 @@ use lib.ListN.{length, length-append}
 use Rattle.laws.specs.Fold.{sumOver, sumOver-more, All, all-map, all-more, all-get}
 use Rattle.laws.specs.Occurrence.{Distinct}
 use Rattle.laws.specs.Sum.{foldTo}
-use Rattle.laws.specs.Choice.{and-left, and-right}
+use Rattle.laws.specs.Choice.{and-left, and-right, or-none}
 use Rattle.model.specs.Catalogue.{Limits, Hypergraph, vertices, drafted, capacity}
 use Rattle.model.specs.Measure.{blockWeight}
 use Rattle.model.specs.Machine.{Call, fresh}
@@ -160,12 +160,8 @@ module _ (limits : Limits) where
   none-over : (n : ℕ) (f : ℕ → Bool) → foldTo n (λ b s. b || f s) false ≡ false → (i : ℕ) → 1 ≤ i → i ≤ n → f i ≡ false
   unfolding foldTo
   none-over zero f q i l u = absurd (omega arith)
-  none-over (suc n) f q i l u = go (or-both (foldTo n (λ b s. b || f s) false) (f (suc n)) q) (λ r k. none-over n f r i l k) (ℕ-discrete i (suc n))
+  none-over (suc n) f q i l u = go (or-none (foldTo n (λ b s. b || f s) false) (f (suc n)) q) (λ r k. none-over n f r i l k) (ℕ-discrete i (suc n))
     where
-      or-both : (a b : Bool) → (a || b) ≡ false → (a ≡ false) × (b ≡ false)
-      or-both true b e = absurd (true≢false e)
-      or-both false b e = (refl, e)
-
       go : (foldTo n (λ b s. b || f s) false ≡ false) × (f (suc n) ≡ false) → (foldTo n (λ b s. b || f s) false ≡ false → i ≤ n → f i ≡ false) → Dec (i ≡ suc n) → f i ≡ false
       go both ih (yes e) = ap f e ∙ both .1
       go both ih (no m) = ih (both .0) (omega arith)

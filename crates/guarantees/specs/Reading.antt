@@ -22,7 +22,7 @@ vertex-range h v q = (leb-true 1 v (and-left _ _ q), leb-true v (vertices h) (an
 pub block-range : (h : Hypergraph) (b : ℕ) → isBlock h b ≡ true → (1 ≤ b) × (b ≤ h .blocks)
 block-range h b q = (leb-true 1 b (and-left _ _ q), leb-true b (h .blocks) (and-right (leb 1 b) _ q))
 
-within-range : (l u x : ℕ) → within l u x ≡ true → (l ≤ x) × (x ≤ u)
+pub within-range : (l u x : ℕ) → within l u x ≡ true → (l ≤ x) × (x ≤ u)
 within-range l u x q = (leb-true l x (and-left _ _ q), leb-true x u (and-right (leb l x) _ q))
 
 -- ---- the marks of one net: `before` marks stood in the file, m with these

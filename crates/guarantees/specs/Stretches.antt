@@ -1,18 +1,23 @@
--- A net has no more present pins than loaded ones (size-le) and no more in a block than present ones (count-le), so its present set fits its loaded
--- stretch; the stretches of an accepted catalogue end within all its marks, at most 8,192 (stretch-le, marks-le). Rests on Ranges. Assumes nothing.
+-- A net has no more present pins than loaded ones (size-le), as many while no contraction stands (size-fresh), and no more in a block than
+-- present ones (count-le), so its present set fits its loaded stretch; the stretches of an accepted catalogue end within all its marks, at
+-- most 8,192 (stretch-le, marks-le). Rests on Ranges and Splits. Assumes nothing.
 use Prim.Native.Nat.{ℕ, zero, suc, _+_, _-_, _≤_}
+use native.Mathlib.Nat.{zero-add}
 use native.Mathlib.Omega.{arith}
-use mathlib.Core.Path.{_≡_, refl, ap}
+use mathlib.Core.Path.{_≡_, refl, sym, ap, _∙_}
 use mathlib.Core.Bool.{Bool, true, false, _||_, _&&_, cond}
 use mathlib.Core.List.{List, [], _∷_}
 use lib.Dec.{eqb}
 use lib.ListN.{length, length-append}
 use Rattle.laws.specs.Choice.{one}
-use Rattle.laws.specs.Fold.{sumOver, any}
-use Rattle.laws.specs.Sum.{sumTo, countTo, sumTo-add, sumTo-nil, sumTo-mono, sumTo-once, sumTo-suc, sumTo-prefix, sumTo-list}
+use Rattle.laws.specs.Fold.{sumOver, any, all-get}
+use Rattle.laws.specs.Occurrence.{occ, Distinct, distinct-any, occ-total}
+use Rattle.laws.specs.Sum.{sumTo, countTo, sumTo-ext, sumTo-add, sumTo-nil, sumTo-mono, sumTo-once, sumTo-suc, sumTo-prefix, sumTo-list}
 use Rattle.model.specs.Catalogue.{Limits, Net, Hypergraph, vertices}
 use Rattle.model.specs.Measure.{Contraction, representative, pin, size, pinCount}
 use Rattle.model.specs.Memory.{noNet, net, allPins, firstPlace}
+use Rattle.guarantees.specs.Clumps.{Within}
+use Rattle.guarantees.specs.Splits.{pin-none}
 use Rattle.guarantees.specs.Ranges.{Ranges}
 
 either-one : (a b : Bool) → one (a || b) ≤ cond a 1 0 + one b
@@ -44,6 +49,13 @@ module _ (h : Hypergraph) (cs : List Contraction) (e : Net) where
   pub count-le : (p : ℕ → ℕ) (b : ℕ) → pinCount h cs p e b ≤ size h cs e
   unfolding pinCount size
   count-le p b = sumTo-mono (vertices h) (λ v. one (pin cs e v && eqb (p v) b)) (λ v. one (pin cs e v)) (λ v _ _. both-one (pin cs e v) (eqb (p v) b))
+
+-- with no contraction as many present pins as loaded ones
+pub size-fresh : (h : Hypergraph) (e : Net) → Within (vertices h) e → Distinct (e .pins) 0 (length (e .pins)) → size h [] e ≡ length (e .pins)
+unfolding size
+size-fresh h e a d =
+    sumTo-ext (vertices h) _ (occ (e .pins) 0 (length (e .pins))) (λ v _ _. ap one (pin-none e v) ∙ sym (distinct-any (e .pins) v d))
+    ∙ occ-total (e .pins) 0 (length (e .pins)) (vertices h) (λ i l. rw zero-add (all-get (e .pins) (λ x. (1 ≤ x) × (x ≤ vertices h)) 0 a i l))
 
 -- ---- stretches
 pub pins-length : (es : List Net) → length (allPins es) ≡ sumOver es (λ e. length (e .pins))

@@ -20,7 +20,7 @@ use Rattle.model.specs.Search.{Best, none, best, Walk, isOpen, walkBest, walkMo
 use Rattle.guarantees.specs.Tops.{Top, best-top}
 use Rattle.guarantees.specs.Ends.{Placed, Pair, placed-move, can-on}
 
-reversed-none : (ms : List Move) (p : ℕ → ℕ) → reversed 0 ms p ≡ p
+pub reversed-none : (ms : List Move) (p : ℕ → ℕ) → reversed 0 ms p ≡ p
 unfolding reversed
 reversed-none ms p = refl
 

@@ -6,10 +6,11 @@ use Prim.Native.Nat.{ℕ, _+_, _-_, _*_, _/_, _%_, _^_, _≤_, _<_, max}
 use native.Mathlib.Nat.{div-one, add-zero}
 use native.Mathlib.Decide.{decLt, ℕ-discrete}
 use native.Mathlib.Omega.{arith}
-use lib.ListN.{length, getD, set, length-set, replicate, length-replicate, getD-replicate, List·getD-eq-default}
+use lib.ListN.{length, getD, set, length-set, replicate}
 use lib.Seq.{getD-set-same, getD-set-other}
 use lib.Bits.{bitOr}
 use Rattle.laws.specs.Bit.{bit, Made}
+use Rattle.laws.specs.Fold.{zeros-get}
 use Rattle.incidence.specs.Word.{Lowest, bit-or-max, bit-shr, bit-of-zero, bit-high}
 
 -- 1 where vertex x is a pin of net e, below 1,024; else 0
@@ -22,11 +23,7 @@ on-is l x e = refl
 
 -- a table of zeros has no pin
 pub on-blank : (n x e : ℕ) → on (replicate n 0) x e ≡ 0
-on-blank n x e = on-is (replicate n 0) x e ∙ bit-of-zero (getD (replicate n 0) (16 * x + e / 64) 0) (e % 64) (blank (decLt (16 * x + e / 64) n))
-  where
-    blank : Dec (16 * x + e / 64 < n) → getD {A = ℕ} (replicate n 0) (16 * x + e / 64) 0 ≡ 0
-    blank (yes h) = getD-replicate n (16 * x + e / 64) 0 0 h
-    blank (no h) = List·getD-eq-default (replicate n 0) 0 (omega (arith, length-replicate {A = ℕ} n 0))
+on-blank n x e = on-is (replicate n 0) x e ∙ bit-of-zero (getD (replicate n 0) (16 * x + e / 64) 0) (e % 64) (zeros-get n (16 * x + e / 64))
 
 -- (x, e) is made v, and all else is as it was
 pub record Changed (l l′ : List ℕ) (x e v : ℕ) : Type 0 where

@@ -1,5 +1,5 @@
--- A choice by a test (the library's cond), 1 for true, and the laws of both and of &&. Assumes nothing.
--- one: one-le, one-full, one-none, one-eqb · cond: cond-yes, cond-no, cond-zero, cond-or, cond-le · &&: and-left, and-right · eqb-sym
+-- A choice by a test (the library's cond), 1 for true, and the laws of both, of && and of ||. Assumes nothing.
+-- one: one-le, one-full, one-none, one-eqb · cond: cond-yes, cond-no, cond-zero, cond-or, cond-le · &&: and-left, and-right · ||: or-none · eqb-sym
 use Prim.Native.Nat.{ℕ, _+_, _≤_}
 use native.Mathlib.Decide.{ℕ-discrete}
 use native.Mathlib.Omega.{arith}
@@ -55,6 +55,11 @@ and-left false b q = q
 pub and-right : (a b : Bool) → (a && b) ≡ true → b ≡ true
 and-right true b q = q
 and-right false b q = absurd (true≢false (sym q))
+
+-- neither passes
+pub or-none : (a b : Bool) → (a || b) ≡ false → (a ≡ false) × (b ≡ false)
+or-none true b e = absurd (true≢false e)
+or-none false b e = (refl, e)
 
 pub one-eqb : (b : Bool) → eqb (one b) 1 ≡ b
 one-eqb true = refl

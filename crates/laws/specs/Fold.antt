@@ -1,11 +1,13 @@
 -- Sums and tests over a list, and what holds of every element. Assumes nothing.
 -- sumOver: sumOver-ext, sumOver-all, sumOver-more, sumOver-both, sumOver-le · any: any-ext, any-at, any-not · All: all-map, all-more, all-get
+-- A table of zeros: zeros-get
 use Prim.Native.Nat.{ℕ, zero, suc, _+_, _*_, _≤_, _<_}
+use native.Mathlib.Decide.{decLt}
 use native.Mathlib.Omega.{arith}
 use mathlib.Core.Path.{_≡_, refl, sym, ap₂}
 use mathlib.Core.Bool.{Bool, true, false, _||_, _&&_, true≢false}
 use mathlib.Core.List.{List, [], _∷_, _++_}
-use lib.ListN.{length, getD}
+use lib.ListN.{length, getD, replicate, length-replicate, getD-replicate, List·getD-eq-default}
 
 -- the sum of f over a list
 unfoldable pub sumOver : {A : Type 0} → List A → (A → ℕ) → ℕ
@@ -39,6 +41,14 @@ pub all-get : {A : Type 0} (l : List A) (P : A → Type 0) (d : A) → All l P �
 all-get [] P d a i h = absurd (omega arith)
 all-get (x ∷ l) P d a zero h = a .0
 all-get (x ∷ l) P d a (suc i) h = all-get l P d (a .1) i (omega arith)
+
+-- a table of zeros has 0 everywhere
+pub zeros-get : (n i : ℕ) → getD {A = ℕ} (replicate n 0) i 0 ≡ 0
+zeros-get n i = go (decLt i n)
+  where
+    go : Dec (i < n) → getD {A = ℕ} (replicate n 0) i 0 ≡ 0
+    go (yes l) = getD-replicate n i 0 0 l
+    go (no l) = List·getD-eq-default (replicate n 0) 0 (omega (arith, length-replicate {A = ℕ} n 0))
 
 -- f and g agree wherever P holds, and P holds throughout
 pub sumOver-all : {A : Type 0} (l : List A) (P : A → Type 0) (f g : A → ℕ) → All l P → ((x : A) → P x → f x ≡ g x) → sumOver l f ≡ sumOver l g

@@ -10,9 +10,9 @@ use borrow.Author.Tests.{eq-eqb, ne-eqb}
 use lib.Dec.{eqb}
 use lib.ListN.{length, getD, set, length-append, List·getD-append}
 use lib.Seq.{getD-set-same, getD-set-other}
-use Rattle.laws.specs.Choice.{one}
-use Rattle.laws.specs.Fold.{any}
-use Rattle.laws.specs.Sum.{sum, sum-zero, sum-suc, sum-step, sum-ext, sum-change, sum-nil, sum-split, term-le, sumTo, sumTo-ext, sumTo-nil, sumTo-add, sumTo-change}
+use Rattle.laws.specs.Choice.{one, or-none}
+use Rattle.laws.specs.Fold.{sumOver, any}
+use Rattle.laws.specs.Sum.{sum, sum-zero, sum-suc, sum-step, sum-ext, sum-change, sum-nil, sum-split, term-le, sum-list, sumTo, sumTo-ext, sumTo-nil, sumTo-add, sumTo-change}
 
 -- what stands at place i of the stretch that begins at f
 abbrev pub at : List ℕ → ℕ → ℕ → ℕ
@@ -154,11 +154,7 @@ pub any-getD : (l : List ℕ) (x : ℕ) → any l (λ y. eqb y x) ≡ false → 
 unfolding any
 any-getD [] x q i h e = omega arith
 any-getD (y ∷ l) x q zero h e = true≢false (sym (ap (λ (b : Bool). b || any l (λ y. eqb y x)) (eq-eqb y x e)) ∙ q)
-any-getD (y ∷ l) x q (suc i) h e = any-getD l x (rest (eqb y x) q) i (omega arith) e
-  where
-    rest : (b : Bool) → (b || any l (λ y. eqb y x)) ≡ false → any l (λ y. eqb y x) ≡ false
-    rest true r = absurd (true≢false r)
-    rest false r = r
+any-getD (y ∷ l) x q (suc i) h e = any-getD l x (or-none (eqb y x) (any l (λ y. eqb y x)) q .1) i (omega arith) e
 
 getD-last : (l : List ℕ) (x : ℕ) → getD (l ++ (x ∷ [])) (length l) 0 ≡ x
 getD-last [] x = refl
@@ -187,3 +183,21 @@ distinct-more l x d q i j hi hj e = go (ℕ-discrete i (length l)) (ℕ-discrete
         let li : i < length l = omega (arith, longer) in
         let lj : j < length l = omega (arith, longer) in
         d i j li lj (here i li ∙ sym (old i li) ∙ e ∙ old j lj ∙ sym (here j lj))
+
+-- ---- a whole list whose numbers are distinct: each stands in it once or not at all
+occ-list : (l : List ℕ) (v : ℕ) → occ l 0 (length l) v ≡ sumOver l (λ x. one (eqb x v))
+unfolding occ same
+occ-list l v = sum-ext (length l) _ (λ i. one (eqb (getD l i 0) v)) (λ i _. ap (λ (j : ℕ). one (eqb (getD l j 0) v)) (zero-add i)) ∙ sum-list l 0 (λ x. one (eqb x v))
+
+at-most-one : (l : List ℕ) (v : ℕ) → sumOver l (λ x. one (eqb x v)) ≤ 1 → sumOver l (λ x. one (eqb x v)) ≡ one (any l (λ x. eqb x v))
+unfolding sumOver any
+at-most-one [] v k = refl
+at-most-one (x ∷ l) v k = go (eqb x v) (at-most-one l v) k
+  where
+    go : (t : Bool) → (sumOver l (λ x. one (eqb x v)) ≤ 1 → sumOver l (λ x. one (eqb x v)) ≡ one (any l (λ x. eqb x v))) → one t + sumOver l (λ x. one (eqb x v)) ≤ 1
+        → one t + sumOver l (λ x. one (eqb x v)) ≡ one (t || any l (λ x. eqb x v))
+    go true ih k = omega arith
+    go false ih k = omega (arith, ih (omega arith))
+
+pub distinct-any : (l : List ℕ) (v : ℕ) → Distinct l 0 (length l) → occ l 0 (length l) v ≡ one (any l (λ x. eqb x v))
+distinct-any l v d = occ-list l v ∙ at-most-one l v (omega (arith, occ-list l v, distinct-occ l 0 (length l) d v))

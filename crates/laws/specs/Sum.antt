@@ -5,7 +5,7 @@
 --   sumTo-suc, sumTo-prefix, countTo-le, countTo-full; foldTo-zero, foldTo-step, foldTo-ext, foldTo-skip, foldTo-none, foldTo-more, foldTo-found
 -- Both: sum-sumTo · over a list's places: sum-list, sumTo-list
 use mathlib.Core.Path.{_≡_, refl, sym, ap, ap₂, _∙_}
-use mathlib.Core.Bool.{Bool, true, false, cond, _||_}
+use mathlib.Core.Bool.{Bool, true, false, cond, _||_, or-true}
 use Prim.Native.Nat.{ℕ, zero, suc, _+_, _-_, _*_, _≤_, _<_}
 use native.Mathlib.Nat.{add-zero, add-suc, suc-mul, mul-add, zero-mul, mul-zero}
 use native.Mathlib.Numerals.{add-one}
@@ -296,10 +296,6 @@ unfolding foldTo
 foldTo-found zero i f l u e = absurd (omega arith)
 foldTo-found (suc n) i f l u e = go (foldTo n (λ b s. b || f s) false) (foldTo-found n i f l) (ℕ-discrete i (suc n))
   where
-    either : (b : Bool) → (b || true) ≡ true
-    either true = refl
-    either false = refl
-
     go : (b : Bool) → (i ≤ n → f i ≡ true → b ≡ true) → Dec (i ≡ suc n) → (b || f (suc n)) ≡ true
-    go b ih (yes q) = ap (λ (t : Bool). b || t) (ap f (sym q) ∙ e) ∙ either b
+    go b ih (yes q) = ap (λ (t : Bool). b || t) (ap f (sym q) ∙ e) ∙ or-true b
     go b ih (no m) = ap (λ (t : Bool). t || f (suc n)) (ih (omega arith) e)

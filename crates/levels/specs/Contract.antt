@@ -13,15 +13,12 @@ use Rattle.laws.specs.Choice.{one, one-full, one-none}
 use Rattle.laws.specs.Occurrence.{at}
 use Rattle.model.specs.Measure.{Contraction}
 use Rattle.guarantees.specs.Climbs.{Sound}
-use Rattle.connectivity.specs.Listed.{has, in-has, has-ext, has-is}
+use Rattle.connectivity.specs.Listed.{has, in-has, has-is}
 use Rattle.incidence.specs.On.{on, Next, Joined}
 use Rattle.connectivity.specs.Matrix.{Kept}
-use Rattle.connectivity.specs.Row.{row, row-by}
-use Rattle.connectivity.specs.Laid.{Net, net-ext}
-use Rattle.connectivity.specs.Law.{stands-ext}
-use Rattle.connectivity.specs.Set.{frame-kept, kept-trans, kept-none}
-use Rattle.levels.specs.World.{mat, World}
-use Rattle.levels.specs.ContractNet.{setRow, setRow-here, setRow-there, ContractNetNeeds, ContractNetDoes}
+use Rattle.connectivity.specs.Set.{kept-trans, kept-none}
+use Rattle.levels.specs.World.{mat, World, world-net}
+use Rattle.levels.specs.ContractNet.{ContractNetNeeds, ContractNetDoes}
 use Rattle.pins.specs.Stack.{row as stackRow, present-on, row-into, row-other, one-or}
 use Rattle.pins.specs.Stretch.{Stretch, stretch-ext, stretch-in, skip-on, stretch-contract}
 use Rattle.pins.specs.Board.{join, half, half-below, half-from, Board, Room, KeptLists, room-kept}
@@ -166,21 +163,6 @@ module _ {weights cs₀ vs₀ pins₀ blocks firsts sizes₀ bits : List ℕ} {g
       apart : (d : ℕ) → d < m → (d ≡ e → ⊥) → (i : ℕ) → i < getD sizes d 0 → getD pins₁ (getD firsts d 0 + i) 0 ≡ getD pins (getD firsts d 0 + i) 0
       apart d hd ne i l = far (o .own) (o .cs) (o .loaded) (o .room) nets-now d hd ne i (omega (arith, nets-now .net d hd .whole))
 
-      values : (d y : ℕ) → d < m → y < n → setRow (mat pins blocks firsts sizes) e (row pins₁ blocks f r) d y ≡ mat pins₁ blocks firsts (set sizes e r) d y
-      values d y hd hy = by (ℕ-discrete d e)
-        where
-          has-d : (d ≡ e → ⊥) → has pins (getD firsts d 0) (getD sizes d 0) y ≡ has pins₁ (getD firsts d 0) (getD (set sizes e r) d 0) y
-          has-d ne = sym (rw (size-d d ne) (has-ext pins pins₁ (getD firsts d 0) (getD sizes d 0) y (apart d hd ne)))
-
-          by : Dec (d ≡ e) → setRow (mat pins blocks firsts sizes) e (row pins₁ blocks f r) d y ≡ mat pins₁ blocks firsts (set sizes e r) d y
-          by (yes q) = rw (q, setRow-here, size-e, ef) refl
-          by (no q) = ap (λ (w : ℕ → ℕ). w y) (setRow-there (mat pins blocks firsts sizes) e (row pins₁ blocks f r) d q)
-              ∙ row-by pins pins₁ blocks (getD firsts d 0) (getD sizes d 0) (getD (set sizes e r) d 0) y (has-d q)
-
-      net-at : (d : ℕ) → d < m → Dec (d ≡ e) → Net pins₁ blocks (getD firsts d 0) (getD (set sizes e r) d 0) n k
-      net-at d l (yes q) = rw (q, size-e, ← ef) (t .net)
-      net-at d l (no q) = rw (size-d d q) (net-ext (t .pins-len) (apart d l q) (c .world .lists .nets d l))
-
       new : (own : ℕ → ℕ → Bool) (st : List Contraction) (loaded : List ℕ) → Sound (join u v ∷ st) → Board own (λ _. st) pins₀ firsts sizes₀ loaded bits n m → Nets own (half e (join u v ∷ st) st) pins firsts sizes loaded m →
           Stretch (own e) (join u v ∷ st) pins₁ (getD firsts e 0) r (getD loaded e 0)
       new own st loaded so b q = stretch-contract (own e) st (join u v) so pins (getD firsts e 0) (getD sizes e 0) (getD loaded e 0) (one-full _ (omega (arith, row-of own st loaded b e he, here))) pins₁ r
@@ -192,16 +174,7 @@ module _ {weights cs₀ vs₀ pins₀ blocks firsts sizes₀ bits : List ℕ} {g
 
       pub contracting-more : {e′ : ℕ} → Next bits v (e + 1) m e′ → Contracting weights blocks firsts bits n m k u v e′ pins₀ pins₁ sizes₀ (set sizes e r) cs₀ cs₁ vs₀ vs₁ g₀ g₁
       contracting-more {e′} w = record {
-        world = record {
-          stands = stands-ext (λ d y l q. values d y l q) (t .stands (mat pins blocks firsts sizes) (c .world .stands) (λ y l. rw (ef, ep) refl));
-          frame = frame-kept (c .world .frame) (t .kept);
-          lists = record {
-            nets = λ d l. net-at d l (ℕ-discrete d e);
-            blocks-fit = c .world .lists .blocks-fit;
-            firsts-fit = c .world .lists .firsts-fit;
-            sizes-fit = omega (arith, length-set sizes e r, c .world .lists .sizes-fit);
-          };
-        };
+        world = world-net he ef ep (t .pins-len) apart (t .net) (t .stands) (t .kept) (c .world);
         kept = kept-trans (c .kept) (t .kept);
         nets = λ own st loaded so ro b. let q = c .nets own st loaded so ro b in
             nets-skip st u v (e + 1) so (nets-more st u v e so q (omega (arith, c .world .lists .sizes-fit)) he (far own st loaded ro q) (new own st loaded so b q)) e′ (w .low) (w .high)

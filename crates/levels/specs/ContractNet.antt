@@ -1,18 +1,17 @@
 -- v contracted into u in one net: its list, its counts and its shares in the gains. Rests on World and on pins' Link.
 use Prim.Native.Nat.{ℕ, _+_, _*_, _-_, _<_, _≤_}
 use mathlib.Core.Path.{_≡_, refl, sym, ap, _∙_, subst}
-use mathlib.Core.Bool.{Bool, true, false, cond}
+use mathlib.Core.Bool.{true, false}
 use mathlib.Core.Logic.{⊎-elim, _⊎_, inl, inr}
 use mathlib.Core.List.{List}
 use native.Mathlib.Omega.{arith}
 use native.Mathlib.Decide.{ℕ-discrete}
-use borrow.Author.Tests.{eq-eqb, ne-eqb}
 use lib.Dec.{eqb}
 use lib.ListN.{length, getD}
 use lib.IntN.{ℤ}
 use Rattle.laws.specs.Integer.{le-or-lt}
 use Rattle.laws.specs.Occurrence.{occ, In, Distinct}
-use Rattle.laws.specs.Choice.{one}
+use Rattle.laws.specs.Choice.{one, one-eqb}
 use Rattle.laws.specs.Place.{place, place-at, place-off}
 use Rattle.incidence.specs.On.{on}
 use Rattle.connectivity.specs.Listed.{has, vertexAt, in-has, has-in, has-iff, has-not, has-yes, has-no}
@@ -22,10 +21,7 @@ use Rattle.connectivity.specs.Row.{row, row-yes, row-no, row-by, setPin-here, s
 use Rattle.connectivity.specs.Laid.{Net}
 use Rattle.connectivity.specs.Law.{stands-ext}
 use Rattle.connectivity.specs.Set.{Frame, Seen, Sets, Set, frame-kept, kept-trans}
-
--- the matrix with the row `r` for the net `e`
-unfoldable pub setRow : (ℕ → ℕ → ℕ) → ℕ → (ℕ → ℕ) → ℕ → ℕ → ℕ
-setRow Q e r d = cond (eqb d e) r (Q d)
+use Rattle.levels.specs.World.{setRow, setRow-here, setRow-there}
 
 -- what `contract_net` needs
 pub record ContractNetNeeds (weights counts visited pins blocks bits : List ℕ) (gains : List ℤ) (n m k first p e u v : ℕ) : Type 0 where
@@ -53,14 +49,6 @@ pub record ContractNetDoes (weights blocks : List ℕ) (n m k first p e u v r : 
   pub stands : (Q : ℕ → ℕ → ℕ) → Stands Q n m k weights cs vs g → ((y : ℕ) → y < n → Q e y ≡ row pins blocks first p y) →
       Stands (setRow Q e (row pins′ blocks first r)) n m k weights cs′ vs′ g′
   pub kept : Kept n m k cs cs′ vs vs′ g g′
-
-pub setRow-here : (Q : ℕ → ℕ → ℕ) (e : ℕ) (r : ℕ → ℕ) → setRow Q e r e ≡ r
-unfolding setRow
-setRow-here Q e r = rw (eq-eqb e e refl)
-
-pub setRow-there : (Q : ℕ → ℕ → ℕ) (e : ℕ) (r : ℕ → ℕ) (d : ℕ) → (d ≡ e → ⊥) → setRow Q e r d ≡ Q d
-unfolding setRow
-setRow-there Q e r d ne = rw (ne-eqb d e ne)
 
 -- ---- what `relink` does to the row
 module _ {pins pins′ : List ℕ} {first p r u v : ℕ} (c : Contracted pins pins′ first p r (u + 1) (v + 1)) (ne : u ≡ v → ⊥) (hv : has pins first p v ≡ true) where
@@ -229,8 +217,4 @@ module _ {weights cs vs pins blocks bits : List ℕ} {g : List ℤ} {n m k first
 
   -- what the bitset answers for u
   pub both : eqb (on bits u e) 1 ≡ has pins first p u
-  both = ap (λ (z : ℕ). eqb z 1) (o .marked) ∙ by (has pins first p u)
-    where
-      by : (b : Bool) → eqb (one b) 1 ≡ b
-      by true = refl
-      by false = refl
+  both = ap (λ (z : ℕ). eqb z 1) (o .marked) ∙ one-eqb (has pins first p u)

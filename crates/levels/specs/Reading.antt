@@ -8,7 +8,7 @@ use mathlib.Core.Bool.{Bool, true, false, cond, _&&_}
 use mathlib.Core.List.{List}
 use borrow.Author.Tests.{eq-eqb, ne-eqb}
 use lib.Dec.{eqb, ltb}
-use lib.ListN.{getD}
+use lib.ListN.{length, getD}
 use lib.IntN.{ℤ, pos, _-ℤ_}
 use Rattle.laws.specs.Choice.{one, one-none}
 use Rattle.laws.specs.Bit.{bit}
@@ -56,6 +56,10 @@ module _ {h : Hypergraph} {cs : List Contraction} {block : ℕ → ℕ} {weights
         go : (p : Bool) (x : ℕ) → one (eqb (cond p x 0) b) ≡ one (p && eqb x b)
         go true x = refl
         go false x = ap one (ne-eqb 0 b (λ q. omega arith))
+
+-- a sum over the nets' places
+pub sum-nets : (h : Hypergraph) (m : ℕ) (f : Net → ℕ) → m ≡ length (h .nets) → sum m (λ e. f (netAt h e)) ≡ sumOver (h .nets) f
+sum-nets h m f q = ap (λ (z : ℕ). sum z (λ e. f (netAt h e))) q ∙ sum-list (h .nets) noNet f
 
 -- ---- gains are gains
 sumZ-nil : (f : ℕ → ℤ) (n : ℕ) → ((i : ℕ) → i < n → f i ≡ pos 0) → sumZ f n ≡ pos 0
@@ -122,9 +126,6 @@ module _ {h : Hypergraph} {cs : List Contraction} {block : ℕ → ℕ} {weights
           ∙ turn true q
       go false q = shareOf-out _ _ _ _ (entry-out e l q) ∙ turn false q
 
-  over : (f : Net → ℕ) → sum m (λ e. f (netAt h e)) ≡ sumOver (h .nets) f
-  over f = ap (λ (z : ℕ). sum z (λ e. f (netAt h e))) (w .all-nets) ∙ sum-list (h .nets) noNet f
-
   pub sum-is : sumZ (λ e. rowShare n (getD weights e 0) (mat pins blocks firsts sizes e) y (j + 1)) m ≡ gain h cs block (y + 1) (j + 1)
   unfolding gain freed drawn share-at
   sum-is = go (ℕ-discrete (block (y + 1)) (j + 1))
@@ -134,7 +135,7 @@ module _ {h : Hypergraph} {cs : List Contraction} {block : ℕ → ℕ} {weights
       go (no z) =
           sumZ-ext share-at (λ e. pos (frees (netAt h e)) -ℤ pos (draws (netAt h e))) m (goes z)
           ∙ sumZ-split (λ e. frees (netAt h e)) (λ e. draws (netAt h e)) m
-          ∙ ap₂ (λ (a b : ℕ). pos a -ℤ pos b) (over frees) (over draws)
+          ∙ ap₂ (λ (a b : ℕ). pos a -ℤ pos b) (sum-nets h m frees (w .all-nets)) (sum-nets h m draws (w .all-nets))
           ∙ sym (ap (λ (b : Bool). cond b (pos 0) (pos (freed h cs block (y + 1)) -ℤ pos (drawn h cs block (y + 1) (j + 1)))) (ne-eqb (block (y + 1)) (j + 1) z))
 
 -- every entry in use as document 01 defines it; off the board gains are 0

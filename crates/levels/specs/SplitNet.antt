@@ -19,7 +19,7 @@ use Rattle.connectivity.specs.Row.{row, row-yes, row-no, row-by, setPin-here, s
 use Rattle.connectivity.specs.Laid.{Net}
 use Rattle.connectivity.specs.Law.{stands-ext}
 use Rattle.connectivity.specs.Set.{Frame, Seen, Sets, Set, frame-kept, kept-trans}
-use Rattle.levels.specs.ContractNet.{setRow, setRow-here, setRow-there}
+use Rattle.levels.specs.World.{setRow, setRow-here, setRow-there}
 use Rattle.pins.specs.Stack.{present, present-on, present-gone, present-into, present-other}
 use Rattle.pins.specs.Stretch.{Stretch, stretch-distinct}
 use Rattle.pins.specs.Board.{join}

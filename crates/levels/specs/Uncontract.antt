@@ -1,22 +1,15 @@
 -- v split from u in every net that had v, found by the bitset. Rests on SplitNet and on pins' Uncontract.
 use Prim.Native.Nat.{ℕ, _+_, _-_, _<_, _≤_}
-use mathlib.Core.Path.{_≡_, refl, sym, ap, _∙_}
+use mathlib.Core.Path.{_≡_, refl}
 use mathlib.Core.Logic.{⊎-elim, _⊎_, inl, inr}
 use mathlib.Core.List.{List}
 use native.Mathlib.Omega.{arith}
-use native.Mathlib.Decide.{ℕ-discrete}
-use lib.ListN.{getD, set, length-set}
-use lib.Seq.{getD-set-same, getD-set-other}
+use lib.ListN.{getD, set}
 use lib.IntN.{ℤ}
-use Rattle.connectivity.specs.Listed.{has, has-ext}
 use Rattle.incidence.specs.On.{on, Next}
 use Rattle.connectivity.specs.Matrix.{Kept}
-use Rattle.connectivity.specs.Row.{row, row-by}
-use Rattle.connectivity.specs.Laid.{Net, net-ext}
-use Rattle.connectivity.specs.Law.{stands-ext}
-use Rattle.connectivity.specs.Set.{frame-kept, kept-trans, kept-none}
-use Rattle.levels.specs.World.{mat, World}
-use Rattle.levels.specs.ContractNet.{setRow, setRow-here, setRow-there}
+use Rattle.connectivity.specs.Set.{kept-trans, kept-none}
+use Rattle.levels.specs.World.{mat, World, world-net}
 use Rattle.pins.specs.Uncontract.{Uncontracts, Uncontracting, Uncontracted, uncontract-none, uncontract-splits, uncontract-more, uncontract-done}
 use Rattle.levels.specs.SplitNet.{SplitNetNeeds, SplitNetDoes}
 
@@ -61,12 +54,6 @@ module _ {weights cs₀ vs₀ pins₀ blocks firsts sizes₀ loaded bits₀ : Li
     }
 
     module _ {cs₁ vs₁ pins₁ bits₁ : List ℕ} {g₁ : List ℤ} {r : ℕ} (t : SplitNetDoes weights blocks n m k f p N e u v r pins pins₁ bits bits₁ cs cs₁ vs vs₁ g g₁) where
-      size-e : getD (set sizes e r) e 0 ≡ r
-      size-e = getD-set-same sizes e r 0 (omega (arith, c .world .lists .sizes-fit))
-
-      size-d : (d : ℕ) → (d ≡ e → ⊥) → getD (set sizes e r) d 0 ≡ getD sizes d 0
-      size-d d ne = getD-set-other sizes e d r 0 ne
-
       -- no stretch is longer than it was loaded
       no-longer : (d : ℕ) → d < m → getD sizes d 0 ≤ getD loaded d 0
       no-longer d l = omega (arith, c .lists .board (o .lists .own) (o .lists .cs) (o .lists .sound) (o .lists .board) .nets d l .whole)
@@ -78,33 +65,9 @@ module _ {weights cs₀ vs₀ pins₀ blocks firsts sizes₀ loaded bits₀ : Li
           (λ q. inr (omega (arith, q, ef, eN)))
           (o .lists .room .apart d e hd he ne))
 
-      values : (d y : ℕ) → d < m → y < n → setRow (mat pins blocks firsts sizes) e (row pins₁ blocks f r) d y ≡ mat pins₁ blocks firsts (set sizes e r) d y
-      values d y hd hy = by (ℕ-discrete d e)
-        where
-          has-d : (d ≡ e → ⊥) → has pins (getD firsts d 0) (getD sizes d 0) y ≡ has pins₁ (getD firsts d 0) (getD (set sizes e r) d 0) y
-          has-d ne = sym (rw (size-d d ne) (has-ext pins pins₁ (getD firsts d 0) (getD sizes d 0) y (apart d hd ne)))
-
-          by : Dec (d ≡ e) → setRow (mat pins blocks firsts sizes) e (row pins₁ blocks f r) d y ≡ mat pins₁ blocks firsts (set sizes e r) d y
-          by (yes q) = rw (q, setRow-here, size-e, ef) refl
-          by (no q) = ap (λ (w : ℕ → ℕ). w y) (setRow-there (mat pins blocks firsts sizes) e (row pins₁ blocks f r) d q)
-              ∙ row-by pins pins₁ blocks (getD firsts d 0) (getD sizes d 0) (getD (set sizes e r) d 0) y (has-d q)
-
-      net-at : (d : ℕ) → d < m → Dec (d ≡ e) → Net pins₁ blocks (getD firsts d 0) (getD (set sizes e r) d 0) n k
-      net-at d l (yes q) = rw (q, size-e, ← ef) (t .net)
-      net-at d l (no q) = rw (size-d d q) (net-ext (t .split .pins-len) (apart d l q) (c .world .lists .nets d l))
-
       pub uncontracting-more : {e′ : ℕ} → Next bits₁ v (e + 1) m e′ → UncontractingAll weights blocks firsts loaded n m k u v e′ pins₀ pins₁ sizes₀ (set sizes e r) bits₀ bits₁ cs₀ cs₁ vs₀ vs₁ g₀ g₁
       uncontracting-more w = record {
-        world = record {
-          stands = stands-ext (λ d y l q. values d y l q) (t .stands (mat pins blocks firsts sizes) (c .world .stands) (λ y l. rw (ef, ep) refl));
-          frame = frame-kept (c .world .frame) (t .kept);
-          lists = record {
-            nets = λ d l. net-at d l (ℕ-discrete d e);
-            blocks-fit = c .world .lists .blocks-fit;
-            firsts-fit = c .world .lists .firsts-fit;
-            sizes-fit = omega (arith, length-set sizes e r, c .world .lists .sizes-fit);
-          };
-        };
+        world = world-net he ef ep (t .split .pins-len) apart (t .net) (t .stands) (t .kept) (c .world);
         kept = kept-trans (c .kept) (t .kept);
         lists = uncontract-more (o .lists) he here (c .lists) ef ep eN (t .split) w;
       }

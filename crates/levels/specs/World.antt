@@ -1,19 +1,22 @@
--- The matrix that the pin lists and the blocks give, and the tables that stand for it. Rests on connectivity's Set.
+-- The matrix that the pin lists and the blocks give, and the tables that stand for it; the stretch of one net changed, and a block stored. Rests on
+-- connectivity's Set.
 use Prim.Native.Nat.{ℕ, _+_, _-_, _<_, _≤_}
-use mathlib.Core.Path.{_≡_, sym, _∙_}
-use mathlib.Core.Bool.{true, false}
+use mathlib.Core.Path.{_≡_, refl, sym, ap, _∙_}
+use mathlib.Core.Bool.{true, false, cond}
 use mathlib.Core.List.{List}
 use native.Mathlib.Omega.{arith}
 use native.Mathlib.Decide.{ℕ-discrete}
+use borrow.Author.Tests.{eq-eqb, ne-eqb}
+use lib.Dec.{eqb}
 use lib.ListN.{length, getD, set, length-set}
-use lib.Seq.{getD-set-other}
+use lib.Seq.{getD-set-same, getD-set-other}
 use lib.IntN.{ℤ}
-use Rattle.connectivity.specs.Listed.{has, in-has, vertexAt}
-use Rattle.connectivity.specs.Matrix.{Stands}
-use Rattle.connectivity.specs.Row.{row, row-no, row-set}
-use Rattle.connectivity.specs.Laid.{Net}
+use Rattle.connectivity.specs.Listed.{has, in-has, has-ext, vertexAt}
+use Rattle.connectivity.specs.Matrix.{Stands, Kept}
+use Rattle.connectivity.specs.Row.{row, row-no, row-by, row-set}
+use Rattle.connectivity.specs.Laid.{Net, net-ext}
 use Rattle.connectivity.specs.Law.{stands-ext}
-use Rattle.connectivity.specs.Set.{Frame}
+use Rattle.connectivity.specs.Set.{Frame, frame-kept}
 
 -- the net `e` has the `sizes e` pins from `firsts e`, each in the block that `blocks` has
 abbrev pub mat : List ℕ → List ℕ → List ℕ → List ℕ → ℕ → ℕ → ℕ
@@ -30,6 +33,52 @@ pub record World (weights counts visited pins blocks firsts sizes : List ℕ) (g
   pub stands : Stands (mat pins blocks firsts sizes) n m k weights counts visited gains
   pub frame : Frame weights counts visited gains n m k
   pub lists : Lists pins blocks firsts sizes n m k
+
+-- the matrix with the row `r` for the net `e`
+unfoldable pub setRow : (ℕ → ℕ → ℕ) → ℕ → (ℕ → ℕ) → ℕ → ℕ → ℕ
+setRow Q e r d = cond (eqb d e) r (Q d)
+
+pub setRow-here : (Q : ℕ → ℕ → ℕ) (e : ℕ) (r : ℕ → ℕ) → setRow Q e r e ≡ r
+unfolding setRow
+setRow-here Q e r = rw (eq-eqb e e refl)
+
+pub setRow-there : (Q : ℕ → ℕ → ℕ) (e : ℕ) (r : ℕ → ℕ) (d : ℕ) → (d ≡ e → ⊥) → setRow Q e r d ≡ Q d
+unfolding setRow
+setRow-there Q e r d ne = rw (ne-eqb d e ne)
+
+-- the stretch of the net e, which begins at f, becomes one of r pins; the other nets' stretches stand as they stood
+pub world-net : {weights cs cs′ vs vs′ pins pins′ blocks firsts sizes : List ℕ} {g g′ : List ℤ} {n m k e f p r : ℕ} → e < m → f ≡ getD firsts e 0 → p ≡ getD sizes e 0 → length pins′ ≡ length pins →
+    ((d : ℕ) → d < m → (d ≡ e → ⊥) → (i : ℕ) → i < getD sizes d 0 → getD pins′ (getD firsts d 0 + i) 0 ≡ getD pins (getD firsts d 0 + i) 0) → Net pins′ blocks f r n k →
+    ((Q : ℕ → ℕ → ℕ) → Stands Q n m k weights cs vs g → ((y : ℕ) → y < n → Q e y ≡ row pins blocks f p y) → Stands (setRow Q e (row pins′ blocks f r)) n m k weights cs′ vs′ g′) →
+    Kept n m k cs cs′ vs vs′ g g′ → World weights cs vs pins blocks firsts sizes g n m k → World weights cs′ vs′ pins′ blocks firsts (set sizes e r) g′ n m k
+world-net {pins = pins} {pins′ = pins′} {blocks = blocks} {firsts = firsts} {sizes = sizes} {n = n} {m = m} {k = k} {e = e} {f = f} {r = r} he ef ep hl apart new stands kept w = record {
+  stands = stands-ext (λ d y l q. values d y l (ℕ-discrete d e)) (stands (mat pins blocks firsts sizes) (w .stands) (λ y l. rw (ef, ep) refl));
+  frame = frame-kept (w .frame) kept;
+  lists = record {
+    nets = λ d l. net-at d l (ℕ-discrete d e);
+    blocks-fit = w .lists .blocks-fit;
+    firsts-fit = w .lists .firsts-fit;
+    sizes-fit = omega (arith, length-set sizes e r, w .lists .sizes-fit);
+  };
+}
+  where
+    size-e : getD (set sizes e r) e 0 ≡ r
+    size-e = getD-set-same sizes e r 0 (omega (arith, w .lists .sizes-fit))
+
+    size-d : (d : ℕ) → (d ≡ e → ⊥) → getD (set sizes e r) d 0 ≡ getD sizes d 0
+    size-d d ne = getD-set-other sizes e d r 0 ne
+
+    has-d : (d y : ℕ) → d < m → (d ≡ e → ⊥) → has pins (getD firsts d 0) (getD sizes d 0) y ≡ has pins′ (getD firsts d 0) (getD (set sizes e r) d 0) y
+    has-d d y l ne = sym (rw (size-d d ne) (has-ext pins pins′ (getD firsts d 0) (getD sizes d 0) y (apart d l ne)))
+
+    values : (d y : ℕ) → d < m → Dec (d ≡ e) → setRow (mat pins blocks firsts sizes) e (row pins′ blocks f r) d y ≡ mat pins′ blocks firsts (set sizes e r) d y
+    values d y l (yes q) = rw (q, setRow-here, size-e, ef) refl
+    values d y l (no q) = ap (λ (z : ℕ → ℕ). z y) (setRow-there (mat pins blocks firsts sizes) e (row pins′ blocks f r) d q)
+        ∙ row-by pins pins′ blocks (getD firsts d 0) (getD sizes d 0) (getD (set sizes e r) d 0) y (has-d d y l q)
+
+    net-at : (d : ℕ) → d < m → Dec (d ≡ e) → Net pins′ blocks (getD firsts d 0) (getD (set sizes e r) d 0) n k
+    net-at d l (yes q) = rw (q, size-e, ← ef) new
+    net-at d l (no q) = rw (size-d d q) (net-ext hl (apart d l q) (w .lists .nets d l))
 
 -- the block of a vertex that is a pin of no net may be stored
 pub world-set : {weights cs vs pins blocks firsts sizes : List ℕ} {g : List ℤ} {n m k : ℕ} (v s : ℕ) → ((e : ℕ) → e < m → has pins (getD firsts e 0) (getD sizes e 0) v ≡ false) →

@@ -2,7 +2,7 @@
 use Prim.Native.Nat.{ℕ, suc, _+_, _-_, _≤_, _<_}
 use mathlib.Core.Path.{_≡_, refl, ap, sym, _∙_}
 use mathlib.Core.List.{List, [], _∷_, _++_}
-use mathlib.Core.Bool.{Bool, true, false, not, _&&_, _||_, cond}
+use mathlib.Core.Bool.{Bool, true, false, not, _&&_, _||_, cond, or-true, or-false}
 use native.Mathlib.Omega.{arith}
 use native.Mathlib.Numerals.{add-one}
 use mathlib.Core.Logic.{_⊎_, inl, inr}
@@ -22,14 +22,6 @@ slice-more first m v l le lt =
     let z : length (take m l) ≡ m = length-take-le m l (omega arith) in
     let u : first ≤ length (take m l) = omega arith in
     rw (add-one, take-suc-set l m v lt) (drop-append-le first (take m l) (v ∷ []) u)
-
-or-false : (a : Bool) → (a || false) ≡ a
-or-false true = refl
-or-false false = refl
-
-or-true : (a : Bool) → (a || true) ≡ true
-or-true true = refl
-or-true false = refl
 
 any-more : (l : List ℕ) (v u : ℕ) → any (l ++ (v ∷ [])) (λ x. eqb x u) ≡ (any l (λ x. eqb x u) || eqb v u)
 unfolding any

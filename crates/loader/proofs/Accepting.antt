@@ -19,7 +19,6 @@ use Rattle.model.specs.Memory.{Filled, net, allPins, firstPlace, weightEntry, b
 use Rattle.guarantees.specs.Caps.{Capped}
 use Rattle.guarantees.specs.Loads.{Loaded as Good, parsed, held-start}
 use Rattle.guarantees.specs.Splits.{board-none, above-none, weight-none}
-use Rattle.guarantees.specs.Distinct.{parsed-once}
 use Rattle.lines.specs.Line.{book}
 use Rattle.reader.specs.Seen.{callsOf}
 use Rattle.reader.specs.Whole.{averageOf, graphOf, Fitted, FileRead, seen as told}
@@ -115,7 +114,7 @@ module _ (limits : Limits) (file : List ℕ) (l b k t m n : ℕ) (w₀ d₀ a₀
       first-at = first-is h b m f₀ c₀ lp₀ nw f c lp refl laid wide
 
       present-at : (i : ℕ) → i < b → size h [] (net h (suc i)) ≡ getD c i 0
-      present-at = present-is h b m f₀ c₀ lp₀ nw f c lp refl laid wide (good .nets-in) (parsed-once limits file k′ (sym says))
+      present-at = present-is h b m f₀ c₀ lp₀ nw f c lp refl laid wide (good .nets-in) (good .nets-distinct)
 
       sets-at : (e v : ℕ) → 1 ≤ e → e ≤ length (h .nets) → occ pp (firstPlace h e) (size h [] (net h e)) v ≡ one (pin [] (net h e) v)
       sets-at zero v l u = absurd (omega arith)
@@ -123,7 +122,7 @@ module _ (limits : Limits) (file : List ℕ) (l b k t m n : ℕ) (w₀ d₀ a₀
           let z : y < b = omega (arith, known) in
           ap (λ (x : ℕ). occ pp x (size h [] (net h (suc y))) v) (sym (first-at y z))
           ∙ ap (λ (x : ℕ). occ pp (getD f y 0) x v) (present-at y z)
-          ∙ sets-is h b m f₀ c₀ lp₀ nw f c lp refl laid wide (good .nets-in) (parsed-once limits file k′ (sym says)) pp copied y v z
+          ∙ sets-is h b m f₀ c₀ lp₀ nw f c lp refl laid wide (good .nets-in) (good .nets-distinct) pp copied y v z
 
       pub started : Started h (lists w₀ d₀ a₀ lp₀ pp₀ f₀ c₀ pc₀) (lists w d a lp pp f c pc)
       started = record {

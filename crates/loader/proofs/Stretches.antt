@@ -1,29 +1,25 @@
 -- What the tables of an accepted file show: each buyer's marks, all marks, first places, sizes, present marks. Rests on Fill and on guarantees' laws of a catalogue with no contraction.
 use Prim.Native.Nat.{ℕ, zero, suc, _+_, _-_, _≤_, _<_}
 use mathlib.Core.Path.{_≡_, refl, ap, sym, _∙_}
-use mathlib.Core.List.{List, [], _∷_, _++_, append-assoc}
+use mathlib.Core.List.{List, [], _∷_, _++_, append-assoc, append-nil}
+use native.Mathlib.Nat.{zero-add}
 use native.Mathlib.Omega.{arith}
 use native.Mathlib.Decide.{ℕ-discrete}
-use lib.Dec.{eqb}
 use lib.ListN.{length, getD, take, drop}
 use lib.Seq.{slice, length-slice, length-take-le, getD-take, getD-drop, getD-at, take-add}
 use Rattle.laws.specs.Choice.{one}
-use Rattle.laws.specs.Fold.{sumOver, sumOver-ext, All, all-get}
-use Rattle.laws.specs.Occurrence.{occ, same}
-use Rattle.laws.specs.Sum.{sum, sum-zero, sum-suc, sum-step, sum-ext, sum-split, sum-list, sum-sumTo}
+use Rattle.laws.specs.Fold.{All, all-get}
+use Rattle.laws.specs.Occurrence.{occ, same, Distinct, distinct-any}
+use Rattle.laws.specs.Sum.{sum, sum-zero, sum-suc, sum-step, sum-ext, sum-split, sum-sumTo}
 use Rattle.text.proofs.Walk.{slice-is}
 use Rattle.model.specs.Catalogue.{Net, Hypergraph, vertices}
 use Rattle.model.specs.Measure.{pin, size}
 use Rattle.model.specs.Memory.{noNet, net, allPins, firstPlace}
 use Rattle.guarantees.specs.Clumps.{Within}
 use Rattle.guarantees.specs.Splits.{pin-none}
-use Rattle.guarantees.specs.Distinct.{Once, once-count, size-fresh}
+use Rattle.guarantees.specs.Stretches.{size-fresh}
 use Rattle.reader.specs.Buyers.{netsOf, Laid}
 use Rattle.reader.proofs.NetLines.{nets-length}
-
-same-one : (x v : ℕ) → same x v ≡ one (eqb x v)
-unfolding same
-same-one x v = refl
 
 sum-prefix : (x n : ℕ) (f : ℕ → ℕ) → x ≤ n → sum x f ≤ sum n f
 sum-prefix x n f l =
@@ -38,10 +34,6 @@ getD-front (x ∷ xs) ys (suc i) d l = getD-front xs ys i d (omega arith)
 pins-end : (ns : List Net) (e : Net) → allPins (ns ++ (e ∷ [])) ≡ allPins ns ++ e .pins
 unfolding allPins
 pins-end [] e = append-nil (e .pins)
-  where
-    append-nil : (l : List ℕ) → (l ++ []) ≡ l
-    append-nil [] = refl
-    append-nil (x ∷ l) = ap (λ (r : List ℕ). x ∷ r) (append-nil l)
 pins-end (n ∷ ns) e = ap (λ (l : List ℕ). n .pins ++ l) (pins-end ns e) ∙ sym (append-assoc (n .pins) (allPins ns) (e .pins))
 
 module _ (w f c marks : List ℕ) where
@@ -104,13 +96,13 @@ module _ (h : Hypergraph) (b m : ℕ) (f₀ c₀ marks₀ w f c marks : List ℕ
   pub pins-at : (i : ℕ) → i < m → getD (allPins (h .nets)) i 0 ≡ getD marks i 0
   pins-at i l = ap (λ (ps : List ℕ). getD ps i 0) pins-all ∙ getD-take m marks i 0 l
 
-  module _ (within : All (h .nets) (Within (vertices h))) (once : All (h .nets) (λ e. Once (e .pins))) where
+  module _ (within : All (h .nets) (Within (vertices h))) (distinct : All (h .nets) (λ e. Distinct (e .pins) 0 (length (e .pins)))) where
     pub present-is : (y : ℕ) → y < b → size h [] (net h (suc y)) ≡ getD c y 0
     present-is y l =
         let z : suc y - 1 ≡ y = omega arith in
         size-fresh h (net h (suc y))
         (rw z (all-get (h .nets) (Within (vertices h)) noNet within y (omega (arith, count-is))))
-        (rw z (all-get (h .nets) (λ e. Once (e .pins)) noNet once y (omega (arith, count-is))))
+        (rw z (all-get (h .nets) (λ e. Distinct (e .pins) 0 (length (e .pins))) noNet distinct y (omega (arith, count-is))))
         ∙ size-is y l
 
     pub sets-is : (pp : List ℕ) → ((i : ℕ) → i < m → getD pp i 0 ≡ getD marks i 0) → (y v : ℕ) → y < b → occ pp (getD f y 0) (getD c y 0) v ≡ one (pin [] (net h (suc y)) v)
@@ -118,19 +110,15 @@ module _ (h : Hypergraph) (b m : ℕ) (f₀ c₀ marks₀ w f c marks : List ℕ
     sets-is pp copied y v l =
         let z : suc y - 1 ≡ y = omega arith in
         let vs : List ℕ = net h (suc y) .pins in
-        let o : Once vs = rw z (all-get (h .nets) (λ e. Once (e .pins)) noNet once y (omega (arith, count-is))) in
-        sum-ext (getD c y 0) _ _ (λ i u. ap (λ (x : ℕ). same x v) (copied (getD f y 0 + i) (omega (arith, stretch y l)) ∙ sym (at-is i u)))
-        ∙ ap (λ (n : ℕ). sum n (λ i. same (getD vs i 0) v)) (sym (size-is y l))
-        ∙ sum-list vs 0 (λ x. same x v)
-        ∙ occurs vs
-        ∙ once-count vs v o
+        let o : Distinct vs 0 (length vs) = rw z (all-get (h .nets) (λ e. Distinct (e .pins) 0 (length (e .pins))) noNet distinct y (omega (arith, count-is))) in
+        sum-ext (getD c y 0) _ (λ i. same (getD vs (0 + i) 0) v) (λ i u. ap (λ (x : ℕ). same x v) (copied (getD f y 0 + i) (omega (arith, stretch y l)) ∙ sym (at-is i u)))
+        ∙ ap (λ (n : ℕ). occ vs 0 n v) (sym (size-is y l))
+        ∙ distinct-any vs v o
         ∙ sym (ap one (pin-none (net h (suc y)) v))
       where
-        at-is : (i : ℕ) → i < getD c y 0 → getD (net h (suc y) .pins) i 0 ≡ getD marks (getD f y 0 + i) 0
+        at-is : (i : ℕ) → i < getD c y 0 → getD (net h (suc y) .pins) (0 + i) 0 ≡ getD marks (getD f y 0 + i) 0
         at-is i u =
-            ap (λ (ps : List ℕ). getD ps i 0) (pins-is y l ∙ slice-is (getD f y 0) (getD c y 0) marks)
+            ap (λ (j : ℕ). getD (net h (suc y) .pins) j 0) (zero-add i)
+            ∙ ap (λ (ps : List ℕ). getD ps i 0) (pins-is y l ∙ slice-is (getD f y 0) (getD c y 0) marks)
             ∙ getD-take (getD c y 0) (drop (getD f y 0) marks) i 0 u
             ∙ getD-drop (getD f y 0) marks i 0
-
-        occurs : (vs : List ℕ) → sumOver vs (λ x. same x v) ≡ sumOver vs (λ x. one (eqb x v))
-        occurs vs = sumOver-ext vs _ _ (λ x. same-one x v)

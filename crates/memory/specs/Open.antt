@@ -13,7 +13,7 @@ use lib.IntN.{ℤ}
 use Rattle.laws.specs.Choice.{one}
 use Rattle.laws.specs.Fold.{all-get}
 use Rattle.laws.specs.Sum.{sumTo, sumTo-suc, sumTo-prefix}
-use Rattle.laws.specs.Occurrence.{occ}
+use Rattle.laws.specs.Occurrence.{occ, Distinct}
 use Rattle.model.specs.Catalogue.{Limits, Net, Hypergraph, vertices, loaded, drafted}
 use Rattle.model.specs.Measure.{size}
 use Rattle.model.specs.Grammar.{Book, parse, reading}
@@ -21,9 +21,8 @@ use Rattle.model.specs.Memory.{Filled, noNet, net, firstPlace}
 use Rattle.model.specs.Demand.{Accepted as ModelAccepted}
 use Rattle.guarantees.specs.Clumps.{Within}
 use Rattle.guarantees.specs.Splits.{above-none, pin-none}
-use Rattle.guarantees.specs.Distinct.{Once, size-fresh, parsed-once}
 use Rattle.guarantees.specs.Ranges.{Ranges, InBook, accepted-ranges, accepted-book}
-use Rattle.guarantees.specs.Stretches.{stretch-le, marks-le}
+use Rattle.guarantees.specs.Stretches.{size-fresh, stretch-le, marks-le}
 use Rattle.incidence.specs.Word.{bit-of-zero}
 use Rattle.incidence.specs.On.{on-is}
 use Rattle.pins.specs.Stack.{loadedPin}
@@ -103,7 +102,7 @@ module _ {limits : Limits} {file : List ℕ} {z : Sizes} {old new : Lists} {nw c
   sizes-same e le =
       present-at e le
       ∙ ap (size h []) (net-number e)
-      ∙ size-fresh h (netAt h e) (all-get (h .nets) (Within (vertices h)) noNet (ranges .loaded .nets-in) e (omega (arith, all-nets))) (all-get (h .nets) (λ n. Once (n .pins)) noNet (parsed-once limits file read parsed-as) e (omega (arith, all-nets)))
+      ∙ size-fresh h (netAt h e) (all-get (h .nets) (Within (vertices h)) noNet (ranges .loaded .nets-in) e (omega (arith, all-nets))) (all-get (h .nets) (λ n. Distinct (n .pins) 0 (length (n .pins))) noNet (ranges .loaded .nets-distinct) e (omega (arith, all-nets)))
       ∙ sym (loaded-at e le ∙ ap (λ (n : Net). length (n .pins)) (net-number e))
 
   listed-at : (e : ℕ) → e < z .nets → (x : ℕ) → occ (new .presentPins) (getD (new .firsts) e 0) (getD (new .presentSizes) e 0) x ≡ one (loadedPin (netAt h e) x)

@@ -4,7 +4,7 @@ use native.Mathlib.Decide.{ℕ-discrete}
 use native.Mathlib.Numerals.{add-one}
 use native.Mathlib.Omega.{arith}
 use mathlib.Core.Path.{_≡_, refl, sym, ap, _∙_}
-use mathlib.Core.List.{List, [], _∷_, _++_, append-assoc}
+use mathlib.Core.List.{List, [], _∷_, _++_, append-assoc, append-nil}
 use lib.ListN.{length, getD, length-append}
 use Rattle.model.specs.Catalogue.{Hypergraph}
 use Rattle.model.specs.Machine.{Call, State}
@@ -18,10 +18,6 @@ pub after-more : (h : Hypergraph) (s : State) (before : List Call) (c : Call) �
 unfolding after
 after-more h s [] c = refl
 after-more h s (b ∷ before) c = after-more h (call h s b .state) before c
-
-append-nil : (l : List ℕ) → (l ++ []) ≡ l
-append-nil [] = refl
-append-nil (x ∷ l) = ap (λ (r : List ℕ). x ∷ r) (append-nil l)
 
 pub answers-more : (h : Hypergraph) (s : State) (before : List Call) (c : Call) → answers h s (before ++ (c ∷ [])) ≡ answers h s before ++ answerRow (call h (after h s before) c .answer)
 unfolding after answers

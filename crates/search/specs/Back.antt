@@ -10,10 +10,11 @@ use Rattle.model.specs.Catalogue.{Hypergraph, vertices}
 use Rattle.model.specs.Measure.{Contraction, above}
 use Rattle.model.specs.Machine.{Move}
 use Rattle.model.specs.Search.{reversed}
+use Rattle.guarantees.specs.Walks.{reversed-none}
 use Rattle.calls.specs.Pairs.{journalOf, pairs-some}
 use Rattle.calls.specs.Tables.{Tables, Sound, Keeps}
 use Rattle.calls.specs.Move.{CanGo, Went, own-block, in-range}
-use Rattle.search.specs.Keeping.{keeps-none, keeps-more}
+use Rattle.calls.specs.Keeping.{keeps-none, keeps-more}
 
 -- a move that was made last: its vertex is on the board, and in another block than the one it left
 pub record Latest (h : Hypergraph) (cs : List Contraction) (block : ℕ → ℕ) (v from : ℕ) : Type 0 where
@@ -49,10 +50,6 @@ module _ (h : Hypergraph) (cs : List Contraction) (block : ℕ → ℕ) (vs bs :
   reversed-step : (i d : ℕ) → 1 ≤ i → reversed (suc d) (journalOf vs bs i) block ≡ reversed d (journalOf vs bs (i - 1)) (place block (getD vs (i - 1) 0) (getD bs (i - 1) 0))
   unfolding reversed
   reversed-step i d l = ap (λ (ms : List Move). reversed (suc d) ms block) (pairs-some (λ v b. record { vertex = v; from = b }) vs bs i l)
-
-reversed-none : (ms : List Move) (p : ℕ → ℕ) → reversed 0 ms p ≡ p
-unfolding reversed
-reversed-none ms p = refl
 
 -- what `rewind` asks. It has no use for the vertices above and for the loaded sizes: whatever these are
 pub record RewindOk (T : List ℕ → List ℕ → Tables) (vs bs : List ℕ) (tried kept : ℕ) : Type 0 where

@@ -1,7 +1,6 @@
 -- The searches W and P on the tables of a running sale, each equal to model's. Assumes nothing.
 -- Marks      the candidates as rows of bits, and what marking does to them
 -- Tabled     what sound tables tell a search
--- Keeping    what is not in use stays untouched by one operation after another
 -- Back       the way back of a walk
 -- Steps      a walk on its way: what tables and variables are for model's walk; the contracts of W
 -- Taking     one move of a walk
@@ -11,7 +10,6 @@
 -- Polished   P on its way and as a whole; its contracts
 pub mod Marks
 pub mod Tabled
-pub mod Keeping
 pub mod Back
 pub mod Steps
 pub mod Taking

@@ -6,7 +6,7 @@ use native.Mathlib.Decide.{ℕ-discrete}
 use native.Mathlib.Numerals.{add-one}
 use native.Mathlib.Omega.{arith}
 use mathlib.Core.Path.{_≡_, refl, sym, ap, ap₂, _∙_, subst}
-use mathlib.Core.Bool.{Bool, true, false, not, _&&_, _||_, cond, and-false, and-true}
+use mathlib.Core.Bool.{Bool, true, false, not, _&&_, _||_, cond, and-false, and-true, or-true, or-false}
 use mathlib.Core.List.{List}
 use borrow.Author.Tests.{eq-eqb, ne-eqb, eqb-true}
 use lib.Dec.{eqb}
@@ -32,19 +32,11 @@ pub record Marked (l l′ : List ℕ) (p : ℕ → Bool) : Type 0 where
   pub moved : (x : ℕ) → x < 1024 → movedBit l′ x ≡ movedBit l x
   pub marks : (x : ℕ) → x < 1024 → candidateBit l′ x ≡ (candidateBit l x || (p x && not (movedBit l x)))
 
-or-false : (b : Bool) → b ≡ (b || false)
-or-false true = refl
-or-false false = refl
-
-or-true : (b : Bool) → true ≡ (b || true)
-or-true true = refl
-or-true false = refl
-
 pub marked-none : (l : List ℕ) (p : ℕ → Bool) → ((x : ℕ) → x < 1024 → p x ≡ false) → Marked l l p
 marked-none l p h = record {
   len = refl;
   moved = λ x k. refl;
-  marks = λ x k. or-false (candidateBit l x) ∙ ap (λ (b : Bool). candidateBit l x || (b && not (movedBit l x))) (sym (h x k));
+  marks = λ x k. sym (or-false (candidateBit l x)) ∙ ap (λ (b : Bool). candidateBit l x || (b && not (movedBit l x))) (sym (h x k));
 }
 
 pub marked-ext : {l l′ : List ℕ} {p : ℕ → Bool} (q : ℕ → Bool) → Marked l l′ p → ((x : ℕ) → x < 1024 → p x ≡ q x) → Marked l l′ q
@@ -98,15 +90,15 @@ marked-one {l} {l′} x small m c = record {
     go y k (yes q) =
         ap (candidateBit l′) q
         ∙ ap (λ (z : ℕ). eqb z 1) (c .here)
-        ∙ or-true (candidateBit l y)
+        ∙ sym (or-true (candidateBit l y))
         ∙ sym (ap₂ (λ (a b : Bool). candidateBit l y || (a && not b)) (eq-eqb y x q) (ap (movedBit l) q ∙ m))
     go y k (no q) =
         ap (λ (z : ℕ). eqb z 1) (c .elsewhere 0 y k (λ _ r. q r))
-        ∙ or-false (candidateBit l y)
+        ∙ sym (or-false (candidateBit l y))
         ∙ sym (ap (λ (a : Bool). candidateBit l y || (a && not (movedBit l y))) (ne-eqb y x q))
 
 pub marked-moved : (l : List ℕ) (x : ℕ) → movedBit l x ≡ true → Marked l l (λ y. eqb y x)
-marked-moved l x m = record { len = refl; moved = λ y k. refl; marks = λ y k. or-false (candidateBit l y) ∙ ap (λ (b : Bool). candidateBit l y || b) (sym (go y (ℕ-discrete y x))) }
+marked-moved l x m = record { len = refl; moved = λ y k. refl; marks = λ y k. sym (or-false (candidateBit l y)) ∙ ap (λ (b : Bool). candidateBit l y || b) (sym (go y (ℕ-discrete y x))) }
   where
     go : (y : ℕ) → Dec (y ≡ x) → (eqb y x && not (movedBit l y)) ≡ false
     go y (yes q) = ap (λ (b : Bool). eqb y x && not b) (ap (movedBit l) q ∙ m) ∙ and-false (eqb y x)
@@ -168,7 +160,7 @@ module _ (bits pins firsts sizes : List ℕ) (u : ℕ) where
   near-pass e x z =
       near-step e x
       ∙ ap (λ (b : Bool). near bits pins firsts sizes u e x || (b && has pins (getD firsts e 0) (getD sizes e 0) x)) (ne-eqb (on bits u e) 1 (λ q. omega arith))
-      ∙ sym (or-false (near bits pins firsts sizes u e x))
+      ∙ or-false (near bits pins firsts sizes u e x)
 
   near-skip : (a d x : ℕ) → ((e : ℕ) → a ≤ e → e < a + d → on bits u e ≡ 0) → near bits pins firsts sizes u (a + d) x ≡ near bits pins firsts sizes u a x
   near-skip a zero x h = ap (λ (i : ℕ). near bits pins firsts sizes u i x) (let q : a + 0 ≡ a = omega arith in q)
@@ -203,7 +195,7 @@ module _ (bits pins firsts sizes : List ℕ) (u : ℕ) where
           → (near bits pins firsts sizes u m x || (eqb (on bits u m) 1 && has pins (getD firsts m 0) (getD sizes m 0) x)) ≡ true
       go (yes q) ih =
           subst (λ (i : ℕ). (near bits pins firsts sizes u m x || (eqb (on bits u i) 1 && has pins (getD firsts i 0) (getD sizes i 0) x)) ≡ true) q
-          (ap₂ (λ (a b : Bool). near bits pins firsts sizes u m x || (a && b)) (eq-eqb (on bits u e) 1 o) k ∙ sym (or-true (near bits pins firsts sizes u m x)))
+          (ap₂ (λ (a b : Bool). near bits pins firsts sizes u m x || (a && b)) (eq-eqb (on bits u e) 1 o) k ∙ or-true (near bits pins firsts sizes u m x))
       go (no q) ih = ap (λ (b : Bool). b || (eqb (on bits u m) 1 && has pins (getD firsts m 0) (getD sizes m 0) x)) (ih (omega arith) o k)
 
   pub near-no : (m x : ℕ) → ((e : ℕ) → e < m → (eqb (on bits u e) 1 && has pins (getD firsts e 0) (getD sizes e 0) x) ≡ false) → near bits pins firsts sizes u m x ≡ false
@@ -258,7 +250,7 @@ module _ (pins firsts sizes : List ℕ) {l l₁ l₂ : List ℕ} (e f s : ℕ) (
           → ((candidateBit l x || movedBit l x) || has pins (getD firsts e 0) (getD sizes e 0) x) ≡ true
       go e′ k o x kx q (yes d) =
           ap (λ (p : Bool). (candidateBit l x || movedBit l x) || p) (ap (λ (i : ℕ). has pins (getD firsts i 0) (getD sizes i 0) x) (sym d) ∙ q)
-          ∙ sym (or-true (candidateBit l x || movedBit l x))
+          ∙ or-true (candidateBit l x || movedBit l x)
       go e′ k o x kx q (no d) =
           ap (λ (t : Bool). t || has pins (getD firsts e 0) (getD sizes e 0) x) (c .covers e′ k (sym (b .elsewhere 2 e′ k (λ _ r. d r) ∙ n .same e′ k) ∙ o) x kx q)
 

@@ -23,7 +23,7 @@ use Rattle.choice.specs.Open.{bestOf, gainIn, openIn, Chosen}
 use Rattle.choice.specs.OpenLink.{polish-is}
 use Rattle.search.specs.Marks.{candidateBit, blank-bit, Marked}
 use Rattle.search.specs.Tabled.{holds, pair-open}
-use Rattle.search.specs.Keeping.{keeps-none, keeps-more}
+use Rattle.calls.specs.Keeping.{keeps-none, keeps-more}
 use Rattle.search.specs.Polishing.{sits, rise, riseOf, rise-open}
 
 -- tables and variables are those of the polish q; the vertices on the board are marked

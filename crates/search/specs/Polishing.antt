@@ -4,7 +4,7 @@ use Prim.Native.Nat.{ℕ, _+_, _*_, _<_, _≤_, _^_}
 use native.Mathlib.Decide.{ℕ-discrete}
 use native.Mathlib.Omega.{arith}
 use mathlib.Core.Path.{_≡_, refl, sym, ap, ap₂, _∙_}
-use mathlib.Core.Bool.{Bool, true, false, _&&_, _||_, cond, and-true, and-false}
+use mathlib.Core.Bool.{Bool, true, false, _&&_, _||_, cond, and-true, and-false, or-false}
 use mathlib.Core.List.{List}
 use borrow.Author.Tests.{eq-eqb, ne-eqb, lt-ltb, le-ltb, ltb-true, ltb-false}
 use lib.Dec.{eqb, ltb}
@@ -39,10 +39,6 @@ pub sits-more : {l l′ l″ : List ℕ} (blocks : List ℕ) (x b : ℕ) → b �
 unfolding sits
 sits-more blocks x b e p q = marked-ext (sits blocks (x + 1)) (marked-more p q) (λ y k. go y (ℕ-discrete y x))
   where
-    or-false : (c d : Bool) → (c || (false && d)) ≡ c
-    or-false true d = refl
-    or-false false d = refl
-
     go : (y : ℕ) → Dec (y ≡ x) → ((ltb y x && ltb 0 (getD blocks y 0)) || (eqb y x && ltb 0 b)) ≡ (ltb y (x + 1) && ltb 0 (getD blocks y 0))
     go y (yes r) =
         ap₂ (λ (c d : Bool). (c && ltb 0 (getD blocks y 0)) || (d && ltb 0 b)) (le-ltb y x (omega arith)) (eq-eqb y x r)
@@ -50,7 +46,7 @@ sits-more blocks x b e p q = marked-ext (sits blocks (x + 1)) (marked-more p q) 
         ∙ sym (ap (λ (c : Bool). c && ltb 0 (getD blocks y 0)) (lt-ltb y (x + 1) (omega arith)))
     go y (no r) =
         ap (λ (d : Bool). (ltb y x && ltb 0 (getD blocks y 0)) || (d && ltb 0 b)) (ne-eqb y x r)
-        ∙ or-false (ltb y x && ltb 0 (getD blocks y 0)) (ltb 0 b)
+        ∙ or-false (ltb y x && ltb 0 (getD blocks y 0))
         ∙ ap (λ (c : Bool). c && ltb 0 (getD blocks y 0)) (below y r (ltb y x) refl)
       where
         below : (y : ℕ) → (y ≡ x → ⊥) → (t : Bool) → ltb y x ≡ t → ltb y x ≡ ltb y (x + 1)

@@ -20,7 +20,7 @@ use Rattle.connectivity.specs.Listed.{has}
 use Rattle.levels.specs.Running.{netAt}
 use Rattle.levels.specs.Reading.{has-pin, reads}
 use Rattle.calls.specs.Tables.{Tables, Sound}
-use Rattle.calls.specs.Move.{Open, own-block, own-weight, in-range}
+use Rattle.calls.specs.Move.{back, Open, own-block, own-weight, in-range}
 use Rattle.choice.specs.Open.{SearchOk, mayGo, roomFor, isCandidate, openIn}
 use Rattle.choice.specs.OpenLink.{Holds}
 use Rattle.search.specs.Marks.{candidateBit, NetsOk, near, near-yes, near-no}
@@ -96,9 +96,6 @@ module _ {h : Hypergraph} {cs : List Contraction} {block : ℕ → ℕ} {T : Tab
         ∙ ap₂ (gain h cs block) (back v lv) (back b lb);
   }
     where
-      back : (v : ℕ) → 1 ≤ v → v - 1 + 1 ≡ v
-      back v l = omega arith
-
       at-one : (v : ℕ) → 1 ≤ v → above cs v ≡ 0 → above cs (v - 1 + 1) ≡ 0
       at-one v l q = ap (above cs) (back v l) ∙ q
 

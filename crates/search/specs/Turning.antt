@@ -22,7 +22,7 @@ use Rattle.choice.specs.OpenLaw.{pick-open}
 use Rattle.choice.specs.OpenLink.{walk-is}
 use Rattle.search.specs.Marks.{candidateBit}
 use Rattle.search.specs.Tabled.{holds, pair-open}
-use Rattle.search.specs.Keeping.{keeps-none}
+use Rattle.calls.specs.Keeping.{keeps-none}
 use Rattle.search.specs.Steps.{Locals, At, nextOf, TakeOk, Took, TurnOk, Turned}
 
 -- ---- the next move, as the code finds it

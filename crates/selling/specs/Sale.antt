@@ -1,12 +1,12 @@
 -- A list of calls on tables as loading left them: what it needs, and that it leaves what demand 3 says. Rests on memory and sequence.
 -- Assumes nothing.
-use Prim.Native.Nat.{ℕ, _+_, _*_, _<_, _≤_}
-use native.Mathlib.Decide.{decLt}
+use Prim.Native.Nat.{ℕ, _+_, _*_, _≤_}
 use native.Mathlib.Omega.{arith}
 use mathlib.Core.Path.{_≡_, refl, _∙_}
 use mathlib.Core.List.{List}
-use lib.ListN.{length, getD, replicate, length-replicate, getD-replicate, List·getD-eq-default}
+use lib.ListN.{length, getD, replicate, length-replicate}
 use lib.IntN.{ℤ}
+use Rattle.laws.specs.Fold.{zeros-get}
 use Rattle.model.specs.Catalogue.{Limits, Hypergraph}
 use Rattle.model.specs.Machine.{Call, fresh}
 use Rattle.model.specs.Report.{closing}
@@ -79,11 +79,7 @@ pub record Blank (bits : List ℕ) : Type 0 where
   pub zeros : (i : ℕ) → getD bits i 0 ≡ 0
 
 pub blank : (n : ℕ) → n ≡ 16384 → Blank (replicate n 0)
-blank n e = record { len = length-replicate {A = ℕ} n 0 ∙ e; zeros = λ i. go i (decLt i n) }
-  where
-    go : (i : ℕ) → Dec (i < n) → getD {A = ℕ} (replicate n 0) i 0 ≡ 0
-    go i (yes l) = getD-replicate n i 0 0 l
-    go i (no l) = List·getD-eq-default (replicate n 0) 0 (omega (arith, length-replicate {A = ℕ} n 0))
+blank n e = record { len = length-replicate {A = ℕ} n 0 ∙ e; zeros = zeros-get n }
 
 -- ---- what it does
 -- demand 3; the lines of the answers stand in the output and end at `at`; the closing report can follow

@@ -15,10 +15,10 @@ use Rattle.reader.specs.Seen.{callsOf}
 use Rattle.report.specs.Wrote.{Wrote}
 use Rattle.report.proofs.Laws.{wrote-none, wrote-length, wrote-append}
 use Rattle.calls.specs.Tables.{Tables, Sound, Keeps}
-use Rattle.search.specs.Keeping.{keeps-more}
+use Rattle.calls.specs.Keeping.{keeps-none, keeps-more}
 use Rattle.steps.specs.Steps.{Two, Runs, Stepped}
 use Rattle.steps.specs.Start.{Empty, runs-fresh}
-use Rattle.steps.specs.Called.{Called, keeps-same}
+use Rattle.steps.specs.Called.{Called}
 use Rattle.turns.specs.Cycling.{ReadyA}
 use Rattle.dispatch.specs.Kinds.{anyCall, any-is}
 use Rattle.memory.specs.Prefix.{after-more, answers-more, NextCall, callsOf-more}
@@ -68,7 +68,7 @@ pub record Done (h : Hypergraph) (calls : List ℕ) (i : ℕ) (T₀ T : Tables) 
 
 pub done-none : {limits : Limits} {h : Hypergraph} {T : Tables} {average limit count room : ℕ} {calls : List ℕ} {S J : Two} (out : List ℕ) → Begins limits h T average limit calls count room → Empty S → Empty J → Done h calls 0 T T S J out out 0
 unfolding callsOf after answers
-done-none {T = T} out b e f = record { runs = runs-fresh (b .sound) e f; keeps = keeps-same T; journal-le = omega (arith, f .none); wrote = wrote-none out 0 }
+done-none {T = T} out b e f = record { runs = runs-fresh (b .sound) e f; keeps = keeps-none T; journal-le = omega (arith, f .none); wrote = wrote-none out 0 }
 
 module _ {limits : Limits} {h : Hypergraph} {T₀ : Tables} {average limit count : ℕ} {calls out₀ : List ℕ} (b : Begins limits h T₀ average limit calls count (length out₀)) (i : ℕ) (l : i < count)
     {T : Tables} {S J : Two} {out : List ℕ} {at : ℕ} (d : Done h calls i T₀ T S J out₀ out at) (x y : ℕ) (qx : x ≡ getD calls (3 * i + 1) 0) (qy : y ≡ getD calls (3 * i + 2) 0) where

@@ -10,10 +10,8 @@ use Rattle.model.specs.Machine.{Call, Answer, State, Step, settle}
 use Rattle.model.specs.Search.{call}
 use Rattle.model.specs.Report.{refusal}
 use Rattle.guarantees.specs.StateBounds.{stack-le}
-use Rattle.connectivity.specs.Set.{kept-none}
 use Rattle.calls.specs.Pairs.{pairs-length, Pushed}
 use Rattle.calls.specs.Tables.{Tables, Keeps}
-use Rattle.calls.specs.Move.{past-same}
 use Rattle.steps.specs.Steps.{Two, Whole, Runs, Ready, told, Stepped, Moves, runs-call}
 
 -- J has no use for the blocks' weights and the loaded sizes, S none for the former, M and B none for the vertices above, the loaded
@@ -77,18 +75,6 @@ pub settle-yes : (q : ℕ) (s : State) (done : Step) → q ≡ 0 → settle q s 
 unfolding settle
 settle-yes zero s done e = refl
 settle-yes (suc q) s done e = absurd (omega arith)
-
-pub keeps-same : (T : Tables) → Keeps T T
-keeps-same T = record {
-  running = record {
-    tables = kept-none (T .counts) (T .visited) (T .gains);
-    lists = record { pins-len = refl; sizes-len = refl; pins-past = λ i _. refl; sizes-past = λ e _. refl };
-    blocks-len = refl;
-    blocks-past = λ y _. refl;
-  };
-  weights = past-same (T .n) (T .weights);
-  aboves = past-same (T .n) (T .aboves);
-}
 
 -- ---- the stack has a place left
 pub stack-room : {h : Hypergraph} {s : State} {T : Tables} {S J : Two} → Runs h s T S J → S .len < 1024

@@ -20,9 +20,10 @@ use Rattle.calls.specs.Pairs.{stackOf, journalOf, pairs-none, pairs-some, Pushe
 use Rattle.calls.specs.Tables.{Tables, Sound}
 use Rattle.calls.specs.Move.{own-weight}
 use Rattle.calls.specs.Join.{Pair, Joined, Splits, Split}
+use Rattle.calls.specs.Keeping.{keeps-none}
 use Rattle.steps.specs.Refusal.{known, here, refusalJ, refusalJ-is, known-range}
 use Rattle.steps.specs.Steps.{Two, Whole, Runs, Ready, told}
-use Rattle.steps.specs.Called.{Called, Popped, Cleared, stepped, refused, settle-no, settle-yes, keeps-same, stack-room}
+use Rattle.steps.specs.Called.{Called, Popped, Cleared, stepped, refused, settle-no, settle-yes, stack-room}
 
 pub above-none : (x : ℕ) → (x ≡ 0 → ⊥) → 1 ≤ x
 above-none zero n = absurd (n refl)
@@ -68,7 +69,7 @@ pub refused-J : {h : Hypergraph} (T : Tables) {S J : Two} (u v q w : ℕ) → q 
 unfolding call
 refused-J {h} T u v q w e n = record {
   steps = λ s r. refused (callJ u v) (ap (λ (z : ℕ). settle z s (doesJ h s u v)) (sym (e ∙ refusalJ-is (r .sound) s refl refl u v)) ∙ settle-no q s (doesJ h s u v) (saysJ w) n) r;
-  keeps = λ s r. keeps-same T;
+  keeps = λ s r. keeps-none T;
   unchanged = λ _. (refl, refl, refl);
 }
 
@@ -125,7 +126,7 @@ pub refused-S : {h : Hypergraph} (T : Tables) {S J : Two} → S .len ≡ 0 → C
 unfolding call doesS
 refused-S {h} T {S} q = record {
   steps = λ s r. refused callS (ap (doesS s) (sym (r .stack-is) ∙ ap (stackOf (S .xs) (S .ys)) q ∙ pairs-none (λ x y. record { into = x; gone = y }) (S .xs) (S .ys))) r;
-  keeps = λ s r. keeps-same T;
+  keeps = λ s r. keeps-none T;
   unchanged = λ _. (refl, refl, refl);
 }
 

@@ -22,9 +22,10 @@ use Rattle.connectivity.specs.Raised.{at}
 use Rattle.calls.specs.Pairs.{journalOf, pairs-none, pairs-some, Pushed, pairs-push}
 use Rattle.calls.specs.Tables.{Tables, Sound}
 use Rattle.calls.specs.Move.{Open, Goes, Went, own-block, in-range, gain-read}
+use Rattle.calls.specs.Keeping.{keeps-none}
 use Rattle.steps.specs.Refusal.{known, here, refusalM, refusalM-is, known-range}
 use Rattle.steps.specs.Steps.{Two, Runs, Ready, told}
-use Rattle.steps.specs.Called.{Called, Popped, stepped, refused, settle-no, settle-yes, keeps-same}
+use Rattle.steps.specs.Called.{Called, Popped, stepped, refused, settle-no, settle-yes}
 use Rattle.steps.specs.Contracting.{above-none, popped-whole, pushed-whole}
 
 -- ---- M
@@ -52,7 +53,7 @@ refused-M {h} T cap u t q total g qc e n = record {
   steps = λ s r. refused (callM u t)
       (ap (λ (z : ℕ). settle z s (doesM h s u t)) (sym (e ∙ ap (λ (z : ℕ). refusalM (T .blocks) (T .loads) (T .weights) (T .n) (T .k) z u t) qc ∙ refusalM-is (r .sound) s refl refl u t))
       ∙ settle-no q s (doesM h s u t) (saysM g total) n) r;
-  keeps = λ s r. keeps-same T;
+  keeps = λ s r. keeps-none T;
   unchanged = λ _. (refl, refl, refl);
 }
 
@@ -113,7 +114,7 @@ pub refused-B : {h : Hypergraph} (T : Tables) {S J : Two} → J .len ≡ 0 → C
 unfolding call doesB
 refused-B {h} T {J = J} q = record {
   steps = λ s r. refused callB (ap (doesB h s) (sym (r .journal-is) ∙ ap (journalOf (J .xs) (J .ys)) q ∙ pairs-none (λ v x. record { vertex = v; from = x }) (J .xs) (J .ys))) r;
-  keeps = λ s r. keeps-same T;
+  keeps = λ s r. keeps-none T;
   unchanged = λ _. (refl, refl, refl);
 }
 

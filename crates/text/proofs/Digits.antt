@@ -2,29 +2,14 @@
 use Prim.Native.Nat.{ℕ, zero, suc, _+_, _-_, _/_, _%_, _≤_, _<_}
 use mathlib.Core.Path.{_≡_, refl, ap, sym, _∙_}
 use mathlib.Core.List.{List, [], _∷_, _++_, append-assoc}
-use mathlib.Core.Bool.{Bool, true, false}
 use native.Mathlib.Omega.{arith}
 use lib.ListN.{length, take, drop, set, getD, length-append, length-drop}
 use lib.Seq.{set-split, append-snoc, set-at, drop-cons, length-take-le, take-suc-set, drop-set-lt}
 use native.Mathlib.Numerals.{add-one}
-use lib.Dec.{ltb}
-use borrow.Author.Tests.{lt-ltb, le-ltb, ltb-false}
+use borrow.Author.Tests.{lt-ltb, le-ltb}
 use Rattle.model.specs.Report.{digits, digitsOf}
+use Rattle.guarantees.specs.Fuel.{digits-fuel}
 use Rattle.text.specs.Output.{written}
-
--- more fuel says the same
-enough : (f g n : ℕ) → n ≤ f → n ≤ g → digitsOf f n ≡ digitsOf g n
-unfolding digitsOf
-enough zero zero n h k = refl
-enough zero (suc g) n h k = rw (lt-ltb n 10 (omega arith))
-enough (suc f) zero n h k = rw (lt-ltb n 10 (omega arith))
-enough (suc f) (suc g) n h k = go (ltb n 10) refl (enough f g (n / 10))
-  where
-    go : (t : Bool) → ltb n 10 ≡ t → (n / 10 ≤ f → n / 10 ≤ g → digitsOf f (n / 10) ≡ digitsOf g (n / 10)) → digitsOf (suc f) n ≡ digitsOf (suc g) n
-    go true e ih = rw e
-    go false e ih =
-        let l = ltb-false n 10 e in
-        rw (e, ih (omega arith) (omega arith))
 
 pub digits-small : (x : ℕ) → x < 10 → digits x ≡ (48 + x) ∷ []
 unfolding digits digitsOf
@@ -34,7 +19,7 @@ digits-small (suc k) h = rw (lt-ltb (suc k) 10 h)
 pub digits-more : (x : ℕ) → 10 ≤ x → digits x ≡ digits (x / 10) ++ ((48 + x % 10) ∷ [])
 unfolding digits digitsOf
 digits-more zero h = absurd (omega arith)
-digits-more (suc k) h = rw (le-ltb (suc k) 10 h, enough k (suc k / 10) (suc k / 10) (omega arith) (omega arith))
+digits-more (suc k) h = rw (le-ltb (suc k) 10 h, digits-fuel k (suc k / 10) (omega arith))
 
 pub length-small : (x : ℕ) → x < 10 → length (digits x) ≡ 1
 length-small x h = ap length (digits-small x h)

@@ -11,9 +11,10 @@ use Rattle.model.specs.Report.{refusal}
 use Rattle.model.specs.Search.{refusesA, doesA, call}
 use Rattle.calls.specs.Pairs.{stackOf, pairs-none, pairs-some}
 use Rattle.calls.specs.Tables.{Tables, Sound}
+use Rattle.calls.specs.Keeping.{keeps-none}
 use Rattle.cycle.specs.Whole.{CycleOk, Does}
 use Rattle.steps.specs.Steps.{Two, Runs, Ready}
-use Rattle.steps.specs.Called.{Called, Cleared, stepped, refused, settle-no, settle-yes, keeps-same}
+use Rattle.steps.specs.Called.{Called, Cleared, stepped, refused, settle-no, settle-yes}
 use Rattle.steps.specs.Contracting.{above-none, emptied, cleared-whole}
 
 -- the average weight of a block, ⌈W/k⌉, that A is told is the catalogue's
@@ -33,7 +34,7 @@ refused-A {h} T {S} n = record {
       let top : Contraction = record { into = getD (S .xs) (S .len - 1) 0; gone = getD (S .ys) (S .len - 1) 0 } in
       let some : s .stack ≡ top ∷ stackOf (S .xs) (S .ys) (S .len - 1) = sym (r .stack-is) ∙ pairs-some (λ u v. record { into = u; gone = v }) (S .xs) (S .ys) (S .len) (above-none (S .len) n) in
       refused callA (ap (λ (l : List Contraction). settle (refusesA h s l) s (doesA h s)) some ∙ settle-no 16 s (doesA h s) (saysNO 16) (λ z. omega arith)) r;
-  keeps = λ s r. keeps-same T;
+  keeps = λ s r. keeps-none T;
   unchanged = λ _. (refl, refl, refl);
 }
 

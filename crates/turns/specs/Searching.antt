@@ -15,11 +15,12 @@ use Rattle.model.specs.Report.{refusal}
 use Rattle.model.specs.Search.{walk, refusesW, doesW, doesP, call}
 use Rattle.guarantees.specs.SearchBounds.{tried-le, walk-counts}
 use Rattle.calls.specs.Tables.{Tables}
+use Rattle.calls.specs.Keeping.{keeps-none}
 use Rattle.search.specs.Steps.{WalkOk, Ended, Walks}
 use Rattle.search.specs.Polished.{PolishOk, Polishes}
 use Rattle.steps.specs.Refusal.{known, here, refusalW, refusalW-is, known-range}
 use Rattle.steps.specs.Steps.{Two, Runs, Ready, told}
-use Rattle.steps.specs.Called.{Called, Cleared, stepped, refused, settle-no, settle-yes, keeps-same}
+use Rattle.steps.specs.Called.{Called, Cleared, stepped, refused, settle-no, settle-yes}
 use Rattle.steps.specs.Contracting.{above-none, emptied, cleared-whole}
 
 -- W and P have no use for the vertices above, the loaded sizes and the stack, whatever these are; the capacity that they are told is the
@@ -94,7 +95,7 @@ pub refused-W : {h : Hypergraph} (T : Tables) {S J : Two} (u v q tried kept tota
 unfolding call
 refused-W {h} T u v q tried kept total e n = record {
   steps = λ s r. refused (callW u v) (ap (λ (z : ℕ). settle z s (doesW h s u v)) (sym (e ∙ refusalW-is (r .sound) s refl u v)) ∙ settle-no q s (doesW h s u v) (saysW tried kept total) n) r;
-  keeps = λ s r. keeps-same T;
+  keeps = λ s r. keeps-none T;
   unchanged = λ _. (refl, refl, refl);
 }
 

@@ -1,11 +1,11 @@
--- What is not in use is untouched by one operation after another. Rests on calls' Keeps. Assumes nothing.
+-- What is not in use is untouched by one operation after another. Rests on Tables' Keeps. Assumes nothing.
 use Prim.Native.Nat.{ℕ}
 use native.Mathlib.Omega.{arith}
 use mathlib.Core.Path.{_≡_, refl, _∙_}
 use mathlib.Core.List.{List}
 use Rattle.connectivity.specs.Set.{kept-none, kept-trans}
 use Rattle.calls.specs.Tables.{Tables, Past, Keeps}
 use Rattle.calls.specs.Move.{past-same}
 
 past-more : {n n′ : ℕ} {l l′ l″ : List ℕ} → n′ ≡ n → Past n l l′ → Past n′ l′ l″ → Past n l l″
 past-more e a b = record { len = b .len ∙ a .len; past = λ i q. b .past i (omega arith) ∙ a .past i q }
