@@ -1,11 +1,11 @@
-//! The worked sale of document 01 through the bindings: its report from the example's program,
-//! its tables through `Memory`, and its lots as records.
+//! The worked sale of document 01 through the bindings: its report from the examples' programs, in
+//! Rust and in C, its tables through `Memory`, its lots as records, and its calls apart.
 
 use kapokdrill::lent::{self, LentLots, Lot, LOTS, MARKS, OUTPUT, ROWS};
 use kapokdrill::{entry, Memory};
 use std::io::Write;
 use std::path::Path;
-use std::process::{Command, Stdio};
+use std::process::{Command, Output, Stdio};
 
 fn on_file(name: &str) -> Vec<u8> {
     let folder = Path::new(env!("CARGO_MANIFEST_DIR")).join("../../sales");
@@ -19,19 +19,42 @@ fn example() -> Command {
     Command::new(folder.join("examples/sale"))
 }
 
-#[test]
-fn the_example_prints_the_worked_sale() {
-    let mut child = example()
+/// What a program ends with, and prints, for the worked sale on its standard input.
+fn run_worked_sale(mut program: Command) -> Output {
+    let mut child = program
         .stdin(Stdio::piped())
         .stdout(Stdio::piped())
         .spawn()
-        .expect("the example starts");
+        .expect("the program starts");
     let mut input = child.stdin.take().expect("the input is a pipe");
     input
         .write_all(&on_file("worked-sale.sale"))
-        .expect("the example reads its input");
+        .expect("the program reads its input");
     drop(input);
-    let end = child.wait_with_output().expect("the example ends");
+    child.wait_with_output().expect("the program ends")
+}
+
+#[test]
+fn the_example_prints_the_worked_sale() {
+    let end = run_worked_sale(example());
+    assert_eq!(end.status.code(), Some(0));
+    assert_eq!(end.stdout, on_file("worked-sale.report"));
+}
+
+#[test]
+fn the_example_in_c_prints_the_worked_sale() {
+    let top = Path::new(env!("CARGO_MANIFEST_DIR")).join("../..");
+    let program = Path::new(env!("CARGO_TARGET_TMPDIR")).join("sale-in-c");
+    let compiled = Command::new("cc")
+        .current_dir(top)
+        .args(["-std=c99", "-Wall", "-Wextra", "-pedantic", "-Werror"])
+        .args(["-I", "bindings", "bindings/c/sale.c"])
+        .args(["target/staticlib/libengine.a", "-o"])
+        .arg(&program)
+        .status()
+        .expect("the C compiler starts");
+    assert!(compiled.success());
+    let end = run_worked_sale(Command::new(program));
     assert_eq!(end.status.code(), Some(0));
     assert_eq!(end.stdout, on_file("worked-sale.report"));
 }
