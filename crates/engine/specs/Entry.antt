@@ -1,4 +1,4 @@
--- The engine's answer in model's terms: is lent memory long enough, and what is promised either way. Rests on working's Files and on model's
+-- The engine's answer in model's terms: is lent memory long enough, and what is promised either way. Rests on selling's Files and on model's
 -- Memory. Assumes nothing.
 use Prim.Native.Nat.{ℕ, _<_, _≤_}
 use native.Mathlib.Omega.{arith}
@@ -15,9 +15,8 @@ use Rattle.model.specs.Grammar.{Reading, parse}
 use Rattle.model.specs.Engine.{outcome}
 use Rattle.model.specs.Memory.{Tables as Lent, Memory, longLists, longTables, longMemory, Worked, Served, Serves}
 use Rattle.loader.specs.Tables.{Lists}
-use Rattle.loader.specs.Handed.{netTables}
-use Rattle.selling.specs.Sale.{lent}
-use Rattle.working.specs.Files.{memory, lotsIn, Long}
+use Rattle.memory.specs.Lent.{lent, memory}
+use Rattle.selling.specs.Files.{lotsIn, Long}
 
 -- ---- the lots of a file
 -- how many lots' entries are written, by whether lent memory is long enough
@@ -31,40 +30,6 @@ pub record ServesLots (limits : Limits) (file : List ℕ) (old new : Memory) (co
   pub lots-are : lots ≡ lotsWritten (longMemory limits old) (parse limits file)
 
 -- ---- is lent memory long enough
--- seven tests, one by one
-regroup : (a b c d e f g : Bool) → (a && (b && (c && (d && (e && (f && g)))))) ≡ (a && b && c && d && e && f && g)
-regroup false b c d e f g = refl
-regroup true false c d e f g = refl
-regroup true true false d e f g = refl
-regroup true true true false e f g = refl
-regroup true true true true false f g = refl
-regroup true true true true true false g = refl
-regroup true true true true true true g = refl
-
-abbrev tests : Memory → Bool
-tests m =
-    let t : Lent = m .tables in
-    leb 60000 (length (m .output)) && (leb 1024 (length (t .weights)) && (leb 1024 (length (t .blocks)) && (leb 1024 (length (t .aboves))
-    && (longLists t && (leb 16384 (length (t .counts)) && (leb 16384 (length (t .gains)) && leb 1024 (length (t .visited))))))))
-
-pub by-tests : (m : Memory) {r : Bool} → r ≡ tests m → r ≡ longMemory mainLimits m
-unfolding longMemory longTables
-by-tests m e =
-    let t : Lent = m .tables in
-    e ∙ ap (λ (b : Bool). leb 60000 (length (m .output)) && b)
-    (regroup (leb 1024 (length (t .weights))) (leb 1024 (length (t .blocks))) (leb 1024 (length (t .aboves))) (longLists t) (leb 16384 (length (t .counts))) (leb 16384 (length (t .gains))) (leb 1024 (length (t .visited))))
-
-pub short-no : (n l : ℕ) (b : Bool) → l < n → false ≡ (leb n l && b)
-short-no n l b q = sym (ap (λ (t : Bool). t && b) (lt-leb n l q))
-
-pub short-yes : (n l : ℕ) {b r : Bool} → n ≤ l → r ≡ b → r ≡ (leb n l && b)
-short-yes n l {b} q e = e ∙ sym (ap (λ (t : Bool). t && b) (le-leb n l q))
-
--- the buyers' and the mark tables alone
-pub lists-test : (t : Lent) {r : Bool} → r ≡ longLists (netTables (t .loadedPins) (t .presentPins) (t .firsts) (t .loadedSizes) (t .presentSizes)) → r ≡ longLists t
-unfolding longLists
-lists-test t e = e
-
 -- what is long enough has its lengths
 cut : (b : Bool) (n l : ℕ) → (b && leb n l) ≡ true → (b ≡ true) × (n ≤ l)
 cut b n l q = (and-left b (leb n l) q, leb-true n l (and-right b (leb n l) q))

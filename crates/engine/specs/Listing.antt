@@ -1,4 +1,4 @@
--- A catalogue's bytes and a list of calls apart from each other, on lent memory: what the engine promises. Rests on working's Lists. Assumes
+-- A catalogue's bytes and a list of calls apart from each other, on lent memory: what the engine promises. Rests on lists' Lists. Assumes
 -- nothing.
 use Prim.Native.Nat.{ℕ, zero, suc}
 use mathlib.Core.Path.{_≡_, refl, sym, _∙_, subst}
@@ -9,7 +9,7 @@ use Rattle.model.specs.Measure.{Contraction}
 use Rattle.model.specs.Machine.{Call}
 use Rattle.model.specs.Grammar.{Reading, parse}
 use Rattle.model.specs.Memory.{Memory, longMemory, Untouched}
-use Rattle.working.specs.Lists.{listRefusal, listCalls, Idle, ListWorked}
+use Rattle.lists.specs.Lists.{listRefusal, listCalls, Idle, ListWorked}
 
 -- 8 is tested first, then the list; these touch nothing and write nothing
 abbrev pub ListServed : Bool → ℕ → Reading → List Call → Memory → Memory → List Contraction → ℕ → ℕ → ℕ → Type 0

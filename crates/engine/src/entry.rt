@@ -2,12 +2,11 @@
 ghost use Rattle.model.specs.Catalogue.{mainLimits};
 ghost use Rattle.model.specs.Memory.{Serves};
 ghost use Rattle.loader.specs.Tables.{lists};
-ghost use Rattle.selling.specs.Sale.{lent};
-ghost use Rattle.working.specs.Files.{memory};
+ghost use Rattle.memory.specs.Lent.{lent, memory};
 ghost use Rattle.engine.specs.Entry.{ServesLots};
-use crate::lengths::is_long;
-use working::files::Served;
-use working::files::work_file;
+use lengths::is_long;
+use working::Served;
+use working::work_file;
 
 // The engine's answer: 0 or the number of the refusal, 1 to 8, and the bytes written.
 #[repr(C)]

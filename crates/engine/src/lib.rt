@@ -1,4 +1,3 @@
 // The engine: a sale file and lent memory in, the report and lent memory out. What customers call.
 pub mod entry;
-pub mod lengths;
 pub mod listing;

@@ -3,14 +3,13 @@ ghost use mathlib.Core.Path.{_≡_};
 ghost use Rattle.model.specs.Catalogue.{mainLimits};
 ghost use Rattle.loader.specs.Tables.{lists};
 ghost use Rattle.calls.specs.Pairs.{stackOf};
-ghost use Rattle.selling.specs.Sale.{lent};
-ghost use Rattle.working.specs.Files.{memory};
+ghost use Rattle.memory.specs.Lent.{lent, memory};
 ghost use Rattle.engine.specs.Listing.{ListServes};
-use crate::lengths::is_long;
 use calls::pairs::Stack;
-use working::lists::ListRan;
-use working::lists::list_refusal;
-use working::lists::work_list;
+use lengths::is_long;
+use lists::ListRan;
+use lists::list_refusal;
+use lists::work_list;
 
 // A list that is refused, and short memory, touch nothing.
 fn refused_list(code: u32) -> ListRan

@@ -9,7 +9,7 @@ use Rattle.model.specs.Catalogue.{Limits}
 use Rattle.model.specs.Measure.{Contraction}
 use Rattle.model.specs.Grammar.{Reading, unread, reading, stopped, parse}
 use Rattle.model.specs.Memory.{Memory, longMemory, Written}
-use Rattle.working.specs.Lists.{listRefusal, listCalls}
+use Rattle.lists.specs.Lists.{listRefusal, listCalls}
 use Rattle.engine.specs.Listing.{ListServed, ListServes}
 
 written-in : (text old new : List ℕ) (bytes : ℕ) → Written text old new bytes → bytes ≤ length new

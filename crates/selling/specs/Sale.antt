@@ -25,25 +25,10 @@ use Rattle.calls.specs.Pairs.{stackOf}
 use Rattle.calls.specs.Tables.{Tables, tables}
 use Rattle.steps.specs.Steps.{Two}
 use Rattle.sequence.specs.Course.{Begins, CanRun, Done}
+use Rattle.memory.specs.Lent.{lent}
 use Rattle.memory.specs.Open.{opens, none-above, is-accepted}
 use Rattle.memory.specs.Close.{draft-is, ended, report-length}
 use Rattle.memory.specs.Held.{held}
-
--- the lent tables: the lists that loading writes, and counts, gains and connectivity sets
-abbrev pub lent : Lists → List ℕ → List ℤ → List ℕ → Lent
-lent t counts gains visited = record {
-  weights = t .weights;
-  blocks = t .blocks;
-  aboves = t .aboves;
-  loadedPins = t .loadedPins;
-  presentPins = t .presentPins;
-  firsts = t .firsts;
-  loadedSizes = t .loadedSizes;
-  presentSizes = t .presentSizes;
-  counts = counts;
-  gains = gains;
-  visited = visited;
-}
 
 -- ---- what a list of calls needs
 -- a file was loaded: `old` held what it held before, `new` is what loading left; counts, gains and connectivity sets are not yet filled

@@ -1,3 +1,90 @@
-// A file, or a catalogue and a list of calls, in memory that is long enough.
-pub mod files;
-pub mod lists;
+// A sale file in memory that is long enough: it is loaded, and worked to its end or turned down.
+ghost use mathlib.Core.Path.{_≡_};
+ghost use Rattle.model.specs.Catalogue.{mainLimits};
+ghost use Rattle.model.specs.Grammar.{parse};
+ghost use Rattle.model.specs.Memory.{Worked};
+ghost use Rattle.loader.specs.Tables.{lists};
+ghost use Rattle.memory.specs.Lent.{lent, memory};
+ghost use Rattle.selling.specs.Files.{lotsIn, Long};
+use loader::Loaded;
+use selling::closing::refuse;
+use selling::closing::report_sale;
+
+// 0 or the number of the refusal, 1 to 8, the bytes written, and how many lots the file has: 0 where none was accepted.
+pub struct Served {
+    pub code: u32,
+    pub written: usize,
+    pub lots: usize,
+}
+
+// The file, in memory that is long enough.
+pub fn work_file(
+    file: &[u8],
+    output: &mut [u8],
+    weights: &mut [u32],
+    blocks: &mut [u16],
+    aboves: &mut [u16],
+    pins: &mut [u16],
+    present: &mut [u16],
+    firsts: &mut [u16],
+    sizes: &mut [u16],
+    standing: &mut [u16],
+    counts: &mut [u16],
+    gains: &mut [i32],
+    visited: &mut [u16],
+) -> Served
+    requires { ⌜ Long mainLimits (now output) (lists (now weights) (now blocks) (now aboves) (now pins) (now present) (now firsts) (now sizes) (now standing)) (now counts) (now gains) (now visited) ⌝ }
+    ensures { λ r. ⌜ Worked (parse mainLimits (now (file .entry))) (memory (now (output .entry)) (lent (lists (now (weights .entry)) (now (blocks .entry)) (now (aboves .entry)) (now (pins .entry)) (now (present .entry)) (now (firsts .entry)) (now (sizes .entry)) (now (standing .entry))) (now (counts .entry)) (now (gains .entry)) (now (visited .entry)))) (memory (now (output .exit)) (lent (lists (now (weights .exit)) (now (blocks .exit)) (now (aboves .exit)) (now (pins .exit)) (now (present .exit)) (now (firsts .exit)) (now (sizes .exit)) (now (standing .exit))) (now (counts .exit)) (now (gains .exit)) (now (visited .exit)))) (r .code) (r .written) × (r .lots ≡ lotsIn (parse mainLimits (now (file .entry)))) ⌝ }
+{
+    let mut netweights = [0u16; 1024];
+    let mut calls = [0u32; 1536];
+    match loader::load(
+        file,
+        1024,
+        16,
+        weights,
+        blocks,
+        aboves,
+        pins,
+        present,
+        firsts,
+        sizes,
+        standing,
+        &mut netweights,
+        &mut calls,
+    ) {
+        Loaded::Refused(q, line) => {
+            let end = refuse(output, q, line);
+            let number = q as u32;
+            Served {
+                code: number,
+                written: end,
+                lots: 0,
+            }
+        }
+        Loaded::Accepted(z) => {
+            let end = report_sale(
+                output,
+                weights,
+                blocks,
+                aboves,
+                present,
+                standing,
+                counts,
+                gains,
+                visited,
+                firsts,
+                sizes,
+                &netweights,
+                &calls,
+                z,
+            );
+            let lots = z.vertices as usize;
+            Served {
+                code: 0,
+                written: end,
+                lots: lots,
+            }
+        }
+    }
+}

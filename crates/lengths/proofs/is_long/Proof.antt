@@ -1,0 +1,47 @@
+use borrow.Author.Needs.{needs}
+use mathlib.Core.Path.{refl}
+use Rattle.steps.specs.Refusal.{both-no, both-yes}
+use Rattle.lengths.specs.Tests.{by-tests, short-no, short-yes, lists-test}
+use Rattle.lengths.proofs.is_long.Statement.{statement}
+use Rattle.lengths.proofs.is_long.Tie as tie
+
+returns : tie.Need-returns
+returns c = by-tests _ (short-no 60000 _ _ (c .if1 .taken))
+
+returns-2 : tie.Need-returns-2
+returns-2 c = by-tests _ (short-yes 60000 _ (c .before .if1 .left) (short-no 1024 _ _ (c .if2 .taken)))
+
+returns-3 : tie.Need-returns-3
+returns-3 c = by-tests _ (short-yes 60000 _ (c .before .before .if1 .left) (short-yes 1024 _ (c .before .if2 .left) (short-no 1024 _ _ (c .if3 .taken))))
+
+returns-4 : tie.Need-returns-4
+returns-4 c = by-tests _ (short-yes 60000 _ (c .before .before .before .if1 .left) (short-yes 1024 _ (c .before .before .if2 .left) (short-yes 1024 _ (c .before .if3 .left) (short-no 1024 _ _ (c .if4 .taken)))))
+
+long-requires : tie.Need-long-requires
+long-requires c κs = search needs
+
+returns-5 : tie.Need-returns-5
+returns-5 c = by-tests _ (short-yes 60000 _ (c .before .before .before .before .before .if1 .left) (short-yes 1024 _ (c .before .before .before .before .if2 .left) (short-yes 1024 _ (c .before .before .before .if3 .left) (short-yes 1024 _ (c .before .before .if4 .left) (both-no _ _ (lists-test _ (c .before .long .ensures)) (c .if5 .taken))))))
+
+returns-6 : tie.Need-returns-6
+returns-6 c = by-tests _ (short-yes 60000 _ (c .before .before .before .before .before .before .if1 .left) (short-yes 1024 _ (c .before .before .before .before .before .if2 .left) (short-yes 1024 _ (c .before .before .before .before .if3 .left) (short-yes 1024 _ (c .before .before .before .if4 .left) (both-yes _ _ (lists-test _ (c .before .before .long .ensures)) (c .before .if5 .left) (short-no 16384 _ _ (c .if6 .taken)))))))
+
+returns-7 : tie.Need-returns-7
+returns-7 c = by-tests _ (short-yes 60000 _ (c .before .before .before .before .before .before .before .if1 .left) (short-yes 1024 _ (c .before .before .before .before .before .before .if2 .left) (short-yes 1024 _ (c .before .before .before .before .before .if3 .left) (short-yes 1024 _ (c .before .before .before .before .if4 .left) (both-yes _ _ (lists-test _ (c .before .before .before .long .ensures)) (c .before .before .if5 .left) (short-yes 16384 _ (c .before .if6 .left) (short-no 16384 _ _ (c .if7 .taken))))))))
+
+returns-8 : tie.Need-returns-8
+returns-8 c = by-tests _ (short-yes 60000 _ (c .before .before .before .before .before .before .before .if1 .left) (short-yes 1024 _ (c .before .before .before .before .before .before .if2 .left) (short-yes 1024 _ (c .before .before .before .before .before .if3 .left) (short-yes 1024 _ (c .before .before .before .before .if4 .left) (both-yes _ _ (lists-test _ (c .before .before .before .long .ensures)) (c .before .before .if5 .left) (short-yes 16384 _ (c .before .if6 .left) (short-yes 16384 _ (c .if7 .left) (refl))))))))
+
+pub is-long-spec : {M : Type 1} → statement M
+is-long-spec =
+    tie.close
+    (tie.spec
+    returns
+    returns-2
+    returns-3
+    returns-4
+    long-requires
+    returns-5
+    returns-6
+    returns-7
+    returns-8)

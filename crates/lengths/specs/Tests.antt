@@ -1,0 +1,44 @@
+-- The tests of lent memory's lengths, one by one, are model's `longMemory`. Rests on memory's Lent. Assumes nothing.
+use Prim.Native.Nat.{ℕ, _<_, _≤_}
+use mathlib.Core.Path.{_≡_, refl, sym, ap, _∙_}
+use mathlib.Core.Bool.{Bool, true, false, _&&_}
+use borrow.Author.Tests.{le-leb, lt-leb}
+use lib.Dec.{leb}
+use lib.ListN.{length}
+use Rattle.model.specs.Catalogue.{mainLimits}
+use Rattle.model.specs.Memory.{Tables as Lent, Memory, longLists, longTables, longMemory}
+use Rattle.loader.specs.Handed.{netTables}
+
+-- seven tests, one by one
+regroup : (a b c d e f g : Bool) → (a && (b && (c && (d && (e && (f && g)))))) ≡ (a && b && c && d && e && f && g)
+regroup false b c d e f g = refl
+regroup true false c d e f g = refl
+regroup true true false d e f g = refl
+regroup true true true false e f g = refl
+regroup true true true true false f g = refl
+regroup true true true true true false g = refl
+regroup true true true true true true g = refl
+
+abbrev tests : Memory → Bool
+tests m =
+    let t : Lent = m .tables in
+    leb 60000 (length (m .output)) && (leb 1024 (length (t .weights)) && (leb 1024 (length (t .blocks)) && (leb 1024 (length (t .aboves))
+    && (longLists t && (leb 16384 (length (t .counts)) && (leb 16384 (length (t .gains)) && leb 1024 (length (t .visited))))))))
+
+pub by-tests : (m : Memory) {r : Bool} → r ≡ tests m → r ≡ longMemory mainLimits m
+unfolding longMemory longTables
+by-tests m e =
+    let t : Lent = m .tables in
+    e ∙ ap (λ (b : Bool). leb 60000 (length (m .output)) && b)
+    (regroup (leb 1024 (length (t .weights))) (leb 1024 (length (t .blocks))) (leb 1024 (length (t .aboves))) (longLists t) (leb 16384 (length (t .counts))) (leb 16384 (length (t .gains))) (leb 1024 (length (t .visited))))
+
+pub short-no : (n l : ℕ) (b : Bool) → l < n → false ≡ (leb n l && b)
+short-no n l b q = sym (ap (λ (t : Bool). t && b) (lt-leb n l q))
+
+pub short-yes : (n l : ℕ) {b r : Bool} → n ≤ l → r ≡ b → r ≡ (leb n l && b)
+short-yes n l {b} q e = e ∙ sym (ap (λ (t : Bool). t && b) (le-leb n l q))
+
+-- the buyers' and the mark tables alone
+pub lists-test : (t : Lent) {r : Bool} → r ≡ longLists (netTables (t .loadedPins) (t .presentPins) (t .firsts) (t .loadedSizes) (t .presentSizes)) → r ≡ longLists t
+unfolding longLists
+lists-test t e = e

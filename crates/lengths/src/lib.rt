@@ -1,0 +1,47 @@
+// Is lent memory as long as document 01 asks.
+ghost use mathlib.Core.Path.{_≡_};
+ghost use Rattle.model.specs.Catalogue.{mainLimits};
+ghost use Rattle.model.specs.Memory.{longMemory};
+ghost use Rattle.loader.specs.Tables.{lists};
+ghost use Rattle.memory.specs.Lent.{lent, memory};
+
+// The output and all tables.
+pub fn is_long(
+    output: &[u8],
+    weights: &[u32],
+    blocks: &[u16],
+    aboves: &[u16],
+    pins: &[u16],
+    present: &[u16],
+    firsts: &[u16],
+    sizes: &[u16],
+    standing: &[u16],
+    counts: &[u16],
+    gains: &[i32],
+    visited: &[u16],
+) -> bool
+    ensures { λ r. ⌜ r ≡ longMemory mainLimits (memory (now (output .entry)) (lent (lists (now (weights .entry)) (now (blocks .entry)) (now (aboves .entry)) (now (pins .entry)) (now (present .entry)) (now (firsts .entry)) (now (sizes .entry)) (now (standing .entry))) (now (counts .entry)) (now (gains .entry)) (now (visited .entry)))) ⌝ }
+{
+    if output.len() < 60000 {
+        return false;
+    }
+    if weights.len() < 1024 {
+        return false;
+    }
+    if blocks.len() < 1024 {
+        return false;
+    }
+    if aboves.len() < 1024 {
+        return false;
+    }
+    if !loader::long(pins, present, firsts, sizes, standing) {
+        return false;
+    }
+    if counts.len() < 16384 {
+        return false;
+    }
+    if gains.len() < 16384 {
+        return false;
+    }
+    1024 <= visited.len()
+}

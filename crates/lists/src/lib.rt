@@ -1,0 +1,150 @@
+// A catalogue's bytes and a list of calls apart from each other, three numbers for each call: the letter's byte and two numbers. The list
+// need not fit into a file with the catalogue.
+ghost use Prim.Native.Nat.{_*_, _/_, _≤_};
+ghost use mathlib.Core.Path.{_≡_};
+ghost use lib.ListN.{length};
+ghost use Rattle.model.specs.Catalogue.{mainLimits};
+ghost use Rattle.model.specs.Grammar.{parse};
+ghost use Rattle.loader.specs.Tables.{lists};
+ghost use Rattle.calls.specs.Pairs.{stackOf};
+ghost use Rattle.memory.specs.Lent.{lent, memory};
+ghost use Rattle.selling.specs.Files.{Long};
+ghost use Rattle.lists.specs.Lists.{isLetter, lettersTo, listRefusal, listCalls, ListWorked};
+use calls::pairs::Stack;
+use dispatch::kinds::is_contracting;
+use dispatch::kinds::is_moving;
+use loader::Loaded;
+use selling::closing::refuse;
+use selling::sell;
+
+// 0 or the number of the refusal, the bytes written, the metric at the end, and the contractions that stand.
+#[repr(C)]
+pub struct ListRan {
+    pub code: u32,
+    pub written: usize,
+    pub total: u32,
+    pub stack: Stack,
+}
+
+// Is this the letter of a call.
+fn is_letter(letter: u32) -> bool
+    ensures { λ r. ⌜ r ≡ isLetter letter ⌝ }
+{
+    if is_contracting(letter) {
+        return true;
+    }
+    if is_moving(letter) {
+        return true;
+    }
+    letter == 65
+}
+
+// Has each of the first `count` calls the letter of a call.
+fn are_letters(list: &[u32], count: usize) -> bool
+    requires { ⌜ (3 * count ≤ length (now list)) × (count ≤ 512) ⌝ }
+    ensures { λ r. ⌜ r ≡ lettersTo count (now (list .entry)) ⌝ }
+{
+    let mut i = 0;
+    while i < count {
+        if !is_letter(list[3 * i]) {
+            return false;
+        }
+        i += 1;
+    }
+    true
+}
+
+// The refusal of a list, or 0.
+pub fn list_refusal(list: &[u32]) -> u32
+    ensures { λ r. ⌜ r ≡ listRefusal (now (list .entry)) ⌝ }
+{
+    let len = list.len();
+    if 1536 < len {
+        return 7;
+    }
+    if len % 3 != 0 {
+        return 2;
+    }
+    if !are_letters(list, len / 3) {
+        return 2;
+    }
+    0
+}
+
+// A list that is not refused, in memory that is long enough.
+pub fn work_list(
+    file: &[u8],
+    list: &[u32],
+    output: &mut [u8],
+    weights: &mut [u32],
+    blocks: &mut [u16],
+    aboves: &mut [u16],
+    pins: &mut [u16],
+    present: &mut [u16],
+    firsts: &mut [u16],
+    sizes: &mut [u16],
+    standing: &mut [u16],
+    counts: &mut [u16],
+    gains: &mut [i32],
+    visited: &mut [u16],
+) -> ListRan
+    requires { ⌜ Long mainLimits (now output) (lists (now weights) (now blocks) (now aboves) (now pins) (now present) (now firsts) (now sizes) (now standing)) (now counts) (now gains) (now visited) × (listRefusal (now list) ≡ 0) ⌝ }
+    ensures { λ r. ⌜ ListWorked (parse mainLimits (now (file .entry))) (listCalls (now (list .entry))) (memory (now (output .entry)) (lent (lists (now (weights .entry)) (now (blocks .entry)) (now (aboves .entry)) (now (pins .entry)) (now (present .entry)) (now (firsts .entry)) (now (sizes .entry)) (now (standing .entry))) (now (counts .entry)) (now (gains .entry)) (now (visited .entry)))) (memory (now (output .exit)) (lent (lists (now (weights .exit)) (now (blocks .exit)) (now (aboves .exit)) (now (pins .exit)) (now (present .exit)) (now (firsts .exit)) (now (sizes .exit)) (now (standing .exit))) (now (counts .exit)) (now (gains .exit)) (now (visited .exit)))) (stackOf (r .stack .into) (r .stack .gone) (r .stack .len)) (r .total) (r .code) (r .written) ⌝ }
+{
+    let mut netweights = [0u16; 1024];
+    let mut calls = [0u32; 1536];
+    match loader::load(
+        file,
+        1024,
+        16,
+        weights,
+        blocks,
+        aboves,
+        pins,
+        present,
+        firsts,
+        sizes,
+        standing,
+        &mut netweights,
+        &mut calls,
+    ) {
+        Loaded::Refused(q, line) => {
+            let end = refuse(output, q, line);
+            let number = q as u32;
+            let none = Stack::new();
+            ListRan {
+                code: number,
+                written: end,
+                total: 0,
+                stack: none,
+            }
+        }
+        Loaded::Accepted(z) => {
+            let count = list.len() / 3;
+            let s = sell(
+                output,
+                weights,
+                blocks,
+                aboves,
+                present,
+                standing,
+                counts,
+                gains,
+                visited,
+                firsts,
+                sizes,
+                &netweights,
+                list,
+                count,
+                z,
+            );
+            let stack = s.stack;
+            ListRan {
+                code: 0,
+                written: s.at,
+                total: s.total,
+                stack: stack,
+            }
+        }
+    }
+}
