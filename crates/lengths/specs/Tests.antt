@@ -1,4 +1,4 @@
--- The tests of lent memory's lengths, one by one, are model's `longMemory`. Rests on memory's Lent. Assumes nothing.
+-- The tests of lent memory's lengths, one by one, are model's `longMemory`. Rests on model's Memory and loader's Handed. Assumes nothing.
 use Prim.Native.Nat.{ℕ, _<_, _≤_}
 use mathlib.Core.Path.{_≡_, refl, sym, ap, _∙_}
 use mathlib.Core.Bool.{Bool, true, false, _&&_}
