@@ -1,6 +1,7 @@
 -- The two choices of a search, each equal to model's choice.
 -- Open        the best open pair, as the tables have it
 -- OpenLaw     its laws
+-- Peak        bounds on the gains of each part of 64 vertices, and how they are raised
 -- OpenLink    it is the pair that a walk or a polish of model takes, where the tables hold its state
 -- Rating      ratings, as the tables have them
 -- RatingLaw   ratings added up over the nets of a vertex; no rating passes the sum of the terms of its own nets
@@ -14,6 +15,7 @@
 -- BoundLink   bounds raised for a contraction are bounds after it
 pub mod Open
 pub mod OpenLaw
+pub mod Peak
 pub mod OpenLink
 pub mod Rating
 pub mod RatingLaw

@@ -4,4 +4,5 @@ pub mod bounds;
 pub mod join;
 mod numbers;
 pub mod open;
+pub mod peaks;
 mod rating;

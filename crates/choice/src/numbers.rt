@@ -1,5 +1,6 @@
 // Numbers of the tables, as wide as code counts with them.
 ghost use mathlib.Core.Path.{_≡_};
+ghost use Rattle.choice.specs.Peak.{lesser};
 
 // A table's number as an index.
 pub fn wide(x: u16) -> usize
@@ -13,4 +14,11 @@ pub fn wide32(x: u32) -> u64
     ensures { λ r. ⌜ r ≡ x ⌝ }
 {
     x as u64
+}
+
+// The smaller of two numbers.
+pub fn least(a: usize, b: usize) -> usize
+    ensures { λ r. ⌜ r ≡ lesser a b ⌝ }
+{
+    if a < b { a } else { b }
 }

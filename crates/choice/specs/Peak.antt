@@ -1,0 +1,148 @@
+-- Peaks: for each part of 64 vertices a number that no gain of them passes; how they are set and raised. Vertices and blocks count from 0
+-- here: the 64 vertices from 64 * c on are part c. Assumes nothing.
+use mathlib.Core.Path.{_≡_, refl, sym, ap, _∙_, subst}
+use mathlib.Core.Bool.{true, false, true≢false}
+use mathlib.Core.List.{List}
+use Prim.Native.Nat.{ℕ, _+_, _-_, _*_, _/_, _≤_, _<_}
+use native.Mathlib.Decide.{ℕ-discrete}
+use native.Mathlib.Omega.{arith}
+use borrow.Author.Tests.{ltb-true, ltb-false, le-ltb}
+use lib.ListN.{length, getD, set, length-set}
+use lib.Seq.{getD-set-same, getD-set-other}
+use lib.IntN.{ℤ, pos, negsuc}
+use lib.Signed.{ltZ}
+
+-- the smaller of two numbers
+abbrev pub lesser : ℕ → ℕ → ℕ
+lesser a b = a - (a - b)
+
+-- the gain of vertex x to block b is not above the peak of x's part
+abbrev pub Under : List ℤ → List ℤ → ℕ → ℕ → Type 0
+Under gains peaks x b = ltZ (getD peaks (x / 64) (pos 0)) (getD gains (16 * x + b) (pos 0)) ≡ false
+
+pub record Peaked (gains peaks : List ℤ) (n k : ℕ) : Type 0 where
+  pub len : length peaks ≡ 16
+  pub under : (x b : ℕ) → x < n → b < k → Under gains peaks x b
+
+-- no peak has fallen
+pub record Higher (l l′ : List ℤ) : Type 0 where
+  pub len : length l′ ≡ length l
+  pub kept : (x : ℤ) (c : ℕ) → ltZ (getD l c (pos 0)) x ≡ false → ltZ (getD l′ c (pos 0)) x ≡ false
+
+-- r is not below a nor below b
+pub record Larger (a b r : ℤ) : Type 0 where
+  pub kept : (z : ℤ) → ltZ a z ≡ false → ltZ r z ≡ false
+  pub above : ltZ r b ≡ false
+
+-- r is not below `before` nor below a gain of vertex x
+pub record RowPeak (gains : List ℤ) (x k : ℕ) (before r : ℤ) : Type 0 where
+  pub kept : (z : ℤ) → ltZ before z ≡ false → ltZ r z ≡ false
+  pub above : (b : ℕ) → b < k → ltZ r (getD gains (16 * x + b) (pos 0)) ≡ false
+
+-- r is not below a gain of the vertices from .. to - 1
+pub record PartPeak (gains : List ℤ) (from to k : ℕ) (r : ℤ) : Type 0 where
+  pub above : (x b : ℕ) → from ≤ x → x < to → b < k → ltZ r (getD gains (16 * x + b) (pos 0)) ≡ false
+
+-- ---- the order of two numbers, by the test that the code makes
+
+pub not-below : (a b c : ℤ) → ltZ a b ≡ false → ltZ b c ≡ false → ltZ a c ≡ false
+not-below (pos a) (pos b) (pos c) h k = le-ltb a c (omega (arith, ltb-false a b h, ltb-false b c k))
+not-below (pos a) b (negsuc c) h k = refl
+not-below (pos a) (negsuc b) (pos c) h k = absurd (true≢false k)
+not-below (negsuc a) (pos b) c h k = absurd (true≢false h)
+not-below (negsuc a) (negsuc b) (pos c) h k = absurd (true≢false k)
+not-below (negsuc a) (negsuc b) (negsuc c) h k = le-ltb c a (omega (arith, ltb-false b a h, ltb-false c b k))
+
+pub not-both : (a b : ℤ) → ltZ a b ≡ true → ltZ b a ≡ false
+not-both (pos a) (pos b) h = le-ltb b a (omega (arith, ltb-true a b h))
+not-both (pos a) (negsuc b) h = absurd (true≢false (sym h))
+not-both (negsuc a) (pos b) h = refl
+not-both (negsuc a) (negsuc b) h = le-ltb a b (omega (arith, ltb-true b a h))
+
+pub not-itself : (a : ℤ) → ltZ a a ≡ false
+not-itself (pos a) = le-ltb a a (omega arith)
+not-itself (negsuc a) = le-ltb a a (omega arith)
+
+-- ---- the larger of two
+
+pub larger-second : (a b r : ℤ) → r ≡ b → ltZ a b ≡ true → Larger a b r
+larger-second a b r e t = rw e (record { kept = λ z h. not-below b a z (not-both a b t) h; above = not-itself b })
+
+pub larger-first : (a b r : ℤ) → r ≡ a → ltZ a b ≡ false → Larger a b r
+larger-first a b r e t = rw e (record { kept = λ z h. h; above = t })
+
+-- ---- one vertex
+
+module _ (gains : List ℤ) where
+  pub row-begins : (x : ℕ) (before : ℤ) → RowPeak gains x 0 before before
+  row-begins x before = record { kept = λ z h. h; above = λ b l. absurd (omega arith) }
+
+  pub row-rises : (x j : ℕ) (before peak gain r : ℤ) → RowPeak gains x j before peak → gain ≡ getD gains (16 * x + j) (pos 0) → Larger peak gain r → RowPeak gains x (j + 1) before r
+  row-rises x j before peak gain r h e l = record { kept = λ z q. l .kept z (h .kept z q); above = λ b q. go b q (ℕ-discrete b j) }
+    where
+      go : (b : ℕ) → b < j + 1 → Dec (b ≡ j) → ltZ r (getD gains (16 * x + b) (pos 0)) ≡ false
+      go b q (yes s) = subst (λ (b : ℕ). ltZ r (getD gains (16 * x + b) (pos 0)) ≡ false) (sym s) (subst (λ (z : ℤ). ltZ r z ≡ false) e (l .above))
+      go b q (no s) = l .kept _ (h .above b (omega arith))
+
+  -- ---- one part
+
+  pub part-begins : (from k : ℕ) (r : ℤ) → PartPeak gains from from k r
+  part-begins from k r = record { above = λ x b l u q. absurd (omega arith) }
+
+  pub part-rises : (from x k : ℕ) (peak r : ℤ) → PartPeak gains from x k peak → RowPeak gains x k peak r → PartPeak gains from (x + 1) k r
+  part-rises from x k peak r h p = record { above = λ y b l u q. go y b l u q (ℕ-discrete y x) }
+    where
+      go : (y b : ℕ) → from ≤ y → y < x + 1 → b < k → Dec (y ≡ x) → ltZ r (getD gains (16 * y + b) (pos 0)) ≡ false
+      go y b l u q (yes s) = subst (λ (y : ℕ). ltZ r (getD gains (16 * y + b) (pos 0)) ≡ false) (sym s) (p .above b q)
+      go y b l u q (no s) = p .kept _ (h .above y b l (omega arith) q)
+
+  -- ---- all parts: those before part c are done
+
+  pub record Surveyed (n k c : ℕ) (peaks : List ℤ) : Type 0 where
+    pub len : length peaks ≡ 16
+    pub under : (x b : ℕ) → x < 64 * c → x < n → b < k → Under gains peaks x b
+
+  pub survey-begins : (n k : ℕ) (peaks : List ℤ) → length peaks ≡ 16 → Surveyed n k 0 peaks
+  survey-begins n k peaks h = record { len = h; under = λ x b l u q. absurd (omega arith) }
+
+  pub survey-rises : (n k c to : ℕ) (peaks : List ℤ) (r : ℤ) → c < 16 → to ≡ lesser (64 * c + 64) n → Surveyed n k c peaks → PartPeak gains (64 * c) to k r → Surveyed n k (c + 1) (set peaks c r)
+  survey-rises n k c to peaks r small e h p = record { len = length-set peaks c r ∙ h .len; under = λ x b l u q. go x b l u q (ℕ-discrete (x / 64) c) }
+    where
+      go : (x b : ℕ) → x < 64 * (c + 1) → x < n → b < k → Dec (x / 64 ≡ c) → Under gains (set peaks c r) x b
+      go x b l u q (yes s) =
+          subst (λ (z : ℤ). ltZ z (getD gains (16 * x + b) (pos 0)) ≡ false) (sym (ap (λ (y : ℕ). getD (set peaks c r) y (pos 0)) s ∙ getD-set-same peaks c r (pos 0) (omega (arith, h .len))))
+          (p .above x b (omega arith) (omega arith) q)
+      go x b l u q (no s) =
+          subst (λ (z : ℤ). ltZ z (getD gains (16 * x + b) (pos 0)) ≡ false) (sym (getD-set-other peaks c (x / 64) r (pos 0) s)) (h .under x b (omega arith) u q)
+
+  pub survey-ends : (n k c : ℕ) (peaks : List ℤ) → n ≤ 64 * c → Surveyed n k c peaks → Peaked gains peaks n k
+  survey-ends n k c peaks l h = record { len = h .len; under = λ x b u q. h .under x b (omega arith) u q }
+
+-- ---- one peak raised
+
+pub raised-higher : (l : List ℤ) (c : ℕ) (r : ℤ) → c < length l → ((z : ℤ) → ltZ (getD l c (pos 0)) z ≡ false → ltZ r z ≡ false) → Higher l (set l c r)
+raised-higher l c r u f = record { len = length-set l c r; kept = λ z d h. go z d h (ℕ-discrete d c) }
+  where
+    go : (z : ℤ) (d : ℕ) → ltZ (getD l d (pos 0)) z ≡ false → Dec (d ≡ c) → ltZ (getD (set l c r) d (pos 0)) z ≡ false
+    go z d h (yes s) =
+        subst (λ (y : ℤ). ltZ y z ≡ false) (sym (ap (λ (d : ℕ). getD (set l c r) d (pos 0)) s ∙ getD-set-same l c r (pos 0) u))
+        (f z (subst (λ (d : ℕ). ltZ (getD l d (pos 0)) z ≡ false) s h))
+    go z d h (no s) = subst (λ (y : ℤ). ltZ y z ≡ false) (sym (getD-set-other l c d r (pos 0) s)) h
+
+pub raised-over : (l : List ℤ) (c : ℕ) (r z : ℤ) → c < length l → ltZ r z ≡ false → ltZ (getD (set l c r) c (pos 0)) z ≡ false
+raised-over l c r z u h = subst (λ (y : ℤ). ltZ y z ≡ false) (sym (getD-set-same l c r (pos 0) u)) h
+
+-- the numbers that are passed and written are read back from their bits: p from the peak, g from the gain, w from the larger of the two
+pub entry-raised : (gains l : List ℤ) (x b : ℕ) (p g r w : ℤ) → x / 64 < length l → p ≡ getD l (x / 64) (pos 0) → g ≡ getD gains (16 * x + b) (pos 0) → w ≡ r → Larger p g r
+    → Higher l (set l (x / 64) w) × Under gains (set l (x / 64) w) x b
+entry-raised gains l x b p g r w u ep eg ew h = (
+  raised-higher l (x / 64) w u (λ z q. subst (λ (y : ℤ). ltZ y z ≡ false) (sym ew) (h .kept z (subst (λ (y : ℤ). ltZ y z ≡ false) (sym ep) q))),
+  raised-over l (x / 64) w _ u (subst (λ (y : ℤ). ltZ y (getD gains (16 * x + b) (pos 0)) ≡ false) (sym ew) (subst (λ (y : ℤ). ltZ r y ≡ false) eg (h .above))),
+)
+
+pub row-raised : (gains l : List ℤ) (x k : ℕ) (p r w : ℤ) → x / 64 < length l → p ≡ getD l (x / 64) (pos 0) → w ≡ r → RowPeak gains x k p r
+    → Higher l (set l (x / 64) w) × ((b : ℕ) → b < k → Under gains (set l (x / 64) w) x b)
+row-raised gains l x k p r w u ep ew h = (
+  raised-higher l (x / 64) w u (λ z q. subst (λ (y : ℤ). ltZ y z ≡ false) (sym ew) (h .kept z (subst (λ (y : ℤ). ltZ y z ≡ false) (sym ep) q))),
+  λ b q. raised-over l (x / 64) w _ u (subst (λ (y : ℤ). ltZ y (getD gains (16 * x + b) (pos 0)) ≡ false) (sym ew) (h .above b q)),
+)
