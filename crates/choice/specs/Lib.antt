@@ -2,6 +2,7 @@
 -- Open        the best open pair, as the tables have it
 -- OpenLaw     its laws
 -- Peak        bounds on the gains of each part of 64 vertices, and how they are raised
+-- PeakLaw     a part whose peak is not above the best gain holds no better pair
 -- OpenLink    it is the pair that a walk or a polish of model takes, where the tables hold its state
 -- Rating      ratings, as the tables have them
 -- RatingLaw   ratings added up over the nets of a vertex; no rating passes the sum of the terms of its own nets
@@ -16,6 +17,7 @@
 pub mod Open
 pub mod OpenLaw
 pub mod Peak
+pub mod PeakLaw
 pub mod OpenLink
 pub mod Rating
 pub mod RatingLaw

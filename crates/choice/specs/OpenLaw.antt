@@ -138,9 +138,12 @@ module _ (candidates blocks weights loads : List ℕ) (capacity : ℕ) (worth : 
       let e : v - 1 + 1 ≡ v = omega arith in
       subst (λ (v : ℕ). bestInRow worth (may v) v k b ≡ b) e (shut (v - 1) (h (v - 1) (omega arith) (omega arith)) b))
 
-  pub first-candidate : (i : ℕ) → Next candidates 0 0 n i → none ≡ bestTo may worth k i
+  pub none-seen : none ≡ bestTo may worth k 0
   unfolding bestTo
-  first-candidate i h = sym (skip 0 i (h .low) (h .passed) ∙ foldTo-zero (λ b v. bestInRow worth (may v) v k b) none)
+  none-seen = sym (foldTo-zero (λ b v. bestInRow worth (may v) v k b) none)
+
+  pub first-candidate : (from i : ℕ) → Next candidates 0 from n i → bestTo may worth k from ≡ bestTo may worth k i
+  first-candidate from i h = sym (skip from i (h .low) (h .passed))
 
   -- the pairs of the candidate at place i
   candidate-row : (i : ℕ) → on candidates 0 i ≡ 1 → (before : Best)

@@ -1,16 +1,18 @@
 // The best open pair: the search over the candidates, in increasing order, and over the blocks. Ties go to the lowest vertex, then to the
 // lowest block.
+use crate::numbers::least;
 use crate::numbers::wide;
 use crate::numbers::wide32;
 use incidence::next_net;
 ghost use mathlib.Core.Path.{_≡_};
 ghost use mathlib.Core.Bool.{_&&_, cond};
-ghost use Prim.Native.Nat.{_+_, _-_, _≤_};
+ghost use Prim.Native.Nat.{_+_, _-_, _*_, _≤_, _<_};
 ghost use lib.ListN.{length, getD};
 ghost use lib.Signed.{ltZ};
 ghost use Rattle.incidence.specs.On.{Next};
 ghost use Rattle.model.specs.Search.{Best, bestPair};
-ghost use Rattle.choice.specs.Open.{gainIn, mayGo, openIn, considered, bestInRow, vertexAt, blockAt, pairAt, Leads, Chosen, RowOk, VertexOk, SearchOk};
+ghost use Rattle.choice.specs.Open.{gainIn, mayGo, openIn, considered, bestInRow, bestTo, vertexAt, blockAt, pairAt, Leads, Chosen, RowOk, VertexOk, SearchOk};
+ghost use Rattle.choice.specs.Peak.{lesser, Peaked};
 
 // The open pair to take, or that no pair is open.
 pub enum Pick {
@@ -156,29 +158,106 @@ fn next_candidate(candidates: &[u64], from: usize, n: usize) -> usize
     next_net(candidates, 0, from, n)
 }
 
+// The best of `before` and the open pairs of the candidates at the places from `from` on and before `to`.
+fn best_between(
+    gains: &[i32],
+    blocks: &[u16],
+    weights: &[u32],
+    loads: &[u64; 16],
+    candidates: &[u64],
+    from: usize,
+    to: usize,
+    k: usize,
+    capacity: u64,
+    before: Lead,
+) -> Lead
+    requires { ⌜ SearchOk (length (now gains)) (length (now blocks)) (length (now weights)) (length (now candidates)) to k × (from ≤ to) ⌝ }
+    ensures { λ r. ⌜ (Leads before (bestTo (openIn (now (candidates .entry)) (now (blocks .entry)) (now (weights .entry)) (now (loads .entry)) capacity) (gainIn (now (gains .entry))) k from) → Leads r (bestTo (openIn (now (candidates .entry)) (now (blocks .entry)) (now (weights .entry)) (now (loads .entry)) capacity) (gainIn (now (gains .entry))) k to)) ⌝ }
+{
+    let mut best = before;
+    let mut i = next_candidate(candidates, from, to);
+    while i < to {
+        best = best_with(gains, blocks, weights, loads, i, k, capacity, best);
+        i = next_candidate(candidates, i + 1, to);
+    }
+    best
+}
+
+// The best of `before` and the open pairs of the candidates of part `c`. Where no gain of the part is above that of `before`, none is better,
+// and none is looked at.
+fn best_in_part(
+    gains: &[i32],
+    blocks: &[u16],
+    weights: &[u32],
+    loads: &[u64; 16],
+    candidates: &[u64],
+    peaks: &[i32; 16],
+    c: usize,
+    n: usize,
+    k: usize,
+    capacity: u64,
+    before: Lead,
+) -> Lead
+    requires { ⌜ SearchOk (length (now gains)) (length (now blocks)) (length (now weights)) (length (now candidates)) n k ⌝ }
+    requires { ⌜ Peaked (now gains) (now peaks) n k × (64 * c < n) ⌝ }
+    ensures { λ r. ⌜ (Leads before (bestTo (openIn (now (candidates .entry)) (now (blocks .entry)) (now (weights .entry)) (now (loads .entry)) capacity) (gainIn (now (gains .entry))) k (64 * c)) → Leads r (bestTo (openIn (now (candidates .entry)) (now (blocks .entry)) (now (weights .entry)) (now (loads .entry)) capacity) (gainIn (now (gains .entry))) k (lesser (64 * c + 64) n))) ⌝ }
+{
+    let peak = peaks[c] as i64;
+    let top = before.top;
+    if less(top, peak) {
+        return best_between(
+            gains,
+            blocks,
+            weights,
+            loads,
+            candidates,
+            64 * c,
+            least(64 * c + 64, n),
+            k,
+            capacity,
+            before,
+        );
+    }
+    before
+}
+
 // The open pair of highest gain, then lowest vertex, then lowest block: vertices and blocks count from 1. `loads` are the blocks' weights,
-// `candidates` a row of bits in which vertex v is bit v - 1.
+// `candidates` a row of bits in which vertex v is bit v - 1, `peaks` bounds on the gains of each part of 64 vertices.
 pub fn best_open(
     gains: &[i32],
     blocks: &[u16],
     weights: &[u32],
     loads: &[u64; 16],
     candidates: &[u64],
+    peaks: &[i32; 16],
     n: usize,
     k: usize,
     capacity: u64,
 ) -> Pick
     requires { ⌜ SearchOk (length (now gains)) (length (now blocks)) (length (now weights)) (length (now candidates)) n k ⌝ }
+    requires { ⌜ Peaked (now gains) (now peaks) n k ⌝ }
     ensures { λ r. ⌜ Chosen (gainIn (now (gains .entry))) n k r (bestPair n k (openIn (now (candidates .entry)) (now (blocks .entry)) (now (weights .entry)) (now (loads .entry)) capacity) (gainIn (now (gains .entry)))) ⌝ }
 {
     let mut best = Lead {
         at: 0,
         top: -4294967296,
     };
-    let mut i = next_candidate(candidates, 0, n);
-    while i < n {
-        best = best_with(gains, blocks, weights, loads, i, k, capacity, best);
-        i = next_candidate(candidates, i + 1, n);
+    let mut c: usize = 0;
+    while 64 * c < n {
+        best = best_in_part(
+            gains,
+            blocks,
+            weights,
+            loads,
+            candidates,
+            peaks,
+            c,
+            n,
+            k,
+            capacity,
+            best,
+        );
+        c += 1;
     }
     pair_at(best.at)
 }

@@ -1,0 +1,73 @@
+-- `best_in_part`: the part is searched, or its peak is not above the best gain and it is passed over.
+use mathlib.Core.Path.{sym, _∙_, ap₂, subst}
+use denote.Ref.{now}
+use borrow.Author.Needs.{needs}
+use Prim.Native.Nat.{ℕ}
+use lib.ListN.{getD}
+use lib.IntN.{ℤ, pos}
+use lib.Signed.{ltZ}
+use Rattle.laws.specs.Integer.{read32}
+use Rattle.choice.specs.Open.{Leads, bestTo, gainIn, openIn}
+use Rattle.choice.specs.OpenLaw.{wide-fits, read64}
+use Rattle.choice.specs.PeakLaw.{passed-over}
+use Rattle.choice.proofs.open.best_in_part.Statement.{statement}
+use Rattle.choice.proofs.open.best_in_part.Tie as tie
+
+mul-peak : tie.Need-mul-peak
+mul-peak c = search needs
+
+element-copy-out-peak : tie.Need-element-copy-out-peak
+element-copy-out-peak c = search needs
+
+cast-peak : tie.Need-cast-peak
+cast-peak c =
+    let a = c .before .before .before .before .args in
+    wide-fits (getD (now (a .peaks)) (a .c) (pos 0)) (record { sfits = c .peak .given })
+
+less-requires : tie.Need-less-requires
+less-requires c κs = search needs
+
+mul-best-between : tie.Need-mul-best-between
+mul-best-between c = search needs
+
+mul-least : tie.Need-mul-least
+mul-least c = search needs
+
+add-least : tie.Need-add-least
+add-least c = search needs
+
+least-requires : tie.Need-least-requires
+least-requires c κs = search needs
+
+best-between-requires : tie.Need-best-between-requires
+best-between-requires c κs = search needs
+
+returns : tie.Need-returns
+returns c = λ h.
+    let a = c .before .before .before .before .before .before .before .before .before .args in
+    subst (λ (to : ℕ). Leads (c .best-between .result) (bestTo (openIn (now (a .candidates)) (now (a .blocks)) (now (a .weights)) (now (a .loads)) (a .capacity)) (gainIn (now (a .gains))) (a .k) to))
+    (c .before .least .ensures) (c .best-between .ensures h)
+
+returns-2 : tie.Need-returns-2
+returns-2 c = λ h.
+    let p = c .before .before .before in
+    let s = p .before .before .before .before in
+    let a = s .args in
+    passed-over (openIn (now (a .candidates)) (now (a .blocks)) (now (a .weights)) (now (a .loads)) (a .capacity)) (now (a .gains)) (now (a .peaks)) (a .n) (a .k) (a .c) (a .before) (s .pre .1 .0) (s .pre .1 .1) (p .peak .given)
+    (sym (ap₂ (λ (x y : ℤ). ltZ x y) (read64 (a .before .top) (c .before .before .struct-told .given .1 .0 .1)) (read64 _ (cast-peak p .sfits) ∙ read32 _ (p .peak .given))) ∙ sym (c .before .less .ensures) ∙ c .if1 .left) h
+
+pub best-in-part-spec : {M : Type 1} → statement M
+best-in-part-spec =
+    tie.close
+    (tie.spec
+    mul-peak
+    element-copy-out-peak
+    cast-peak
+    less-requires
+    mul-best-between
+    mul-least
+    add-least
+    least-requires
+    best-between-requires
+    returns
+    returns-2)
