@@ -1,4 +1,4 @@
-// Numbers of the tables, as wide as code counts with them.
+// Numbers of the tables, as wide as code counts with them; the smaller of two numbers.
 ghost use mathlib.Core.Path.{_≡_};
 ghost use Rattle.choice.specs.Peak.{lesser};
 
