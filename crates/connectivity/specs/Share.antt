@@ -2,7 +2,6 @@
 use Prim.Native.Nat.{ℕ, _+_, _≤_}
 use mathlib.Core.Path.{_≡_, refl}
 use native.Mathlib.Omega.{arith}
-use borrow.Author.Tests.{eq-eqb, ne-eqb}
 use mathlib.Core.Bool.{Bool, true, false, cond}
 use mathlib.Core.List.{List}
 use lib.Dec.{eqb}
@@ -19,14 +18,10 @@ unfoldable pub share : List ℕ → ℕ → ℕ → ℕ → ℕ → ℤ
 share counts crow own w x =
     cond (eqb x own) (pos 0) (pos (when (getD counts (crow + own) 0) 1 w) -ℤ pos (when (getD counts (crow + x) 0) 0 w))
 
-pub share-own : (counts : List ℕ) (crow own w x : ℕ) → x ≡ own → pos 0 ≡ share counts crow own w x
+pub share-is : (counts : List ℕ) (crow own w x f d : ℕ) (a b s r : ℤ) → f ≡ when (getD counts (crow + own) 0) 1 w →
+    d ≡ when (getD counts (crow + x) 0) 0 w → a ≡ pos f → b ≡ pos d → s ≡ a -ℤ b → r ≡ cond (eqb x own) (pos 0) s → r ≡ share counts crow own w x
 unfolding share
-share-own counts crow own w x e = rw (eq-eqb x own e)
-
-pub share-off : (counts : List ℕ) (crow own w x f d : ℕ) (a b r : ℤ) → (x ≡ own → ⊥) → f ≡ when (getD counts (crow + own) 0) 1 w →
-    d ≡ when (getD counts (crow + x) 0) 0 w → a ≡ pos f → b ≡ pos d → r ≡ a -ℤ b → r ≡ share counts crow own w x
-unfolding share
-share-off counts crow own w x f d a b r ne ef ed ea eb er = rw (ne-eqb x own ne) (rw (er, ea, eb, ef, ed) refl)
+share-is counts crow own w x f d a b s r ef ed ea eb es er = rw (er, es, ea, eb, ef, ed) refl
 
 pub when-le : (n want w : ℕ) → when n want w ≤ w
 unfolding when

@@ -1,6 +1,7 @@
 // The share of a net in the gains of a vertex, put to the vertex's row of the gain table or taken from it.
 ghost use Prim.Native.Nat.{_+_, _*_, _^_, _<_};
 ghost use mathlib.Core.Path.{_≡_};
+ghost use mathlib.Core.Bool.{cond};
 ghost use lib.ListN.{length, getD, set};
 ghost use lib.IntN.{ℤ, pos, _+ℤ_, _-ℤ_, negℤ};
 ghost use mir.Syntax.{w32};
@@ -49,18 +50,23 @@ fn less(a: i32, b: i32) -> i32
     a - b
 }
 
+// Nothing at a vertex's own block, else the share. Chosen without a branch: behind an early return the tests of the counts become branches
+// too, and a processor can't predict which counts are 0.
+fn unless(own: bool, share: i32) -> i32
+    ensures { λ r. ⌜ r ≡ cond own (pos 0) share ⌝ }
+{
+    if own { 0 } else { share }
+}
+
 // The share of a net of weight `w` in the gain of the block `x` for a vertex of the block `own`.
 fn share_of(counts: &[u16], crow: usize, own: usize, w: u16, x: usize) -> i32
     requires { ⌜ crow + own < length (now counts) ⌝ }
     requires { ⌜ crow + x < length (now counts) ⌝ }
     ensures { λ r. ⌜ r ≡ share (now (counts .entry)) crow own w x ⌝ }
 {
-    if x == own {
-        return 0;
-    }
     let freed = when_is(counts[crow + own], 1, w);
     let drawn = when_is(counts[crow + x], 0, w);
-    less(wide(freed), wide(drawn))
+    unless(x == own, less(wide(freed), wide(drawn)))
 }
 
 // Adds to the `k` gains at `row`, of a vertex of the block `own`, the shares of a net of weight `w` whose counts start at `crow`.

@@ -4,12 +4,9 @@ use native.Mathlib.Omega.{arith}
 use borrow.Author.Needs.{needs}
 use lib.IntN.{pos}
 use Rattle.laws.specs.Integer.{read32, fits32, natAbs-sub}
-use Rattle.connectivity.specs.Share.{share-own, share-off}
+use Rattle.connectivity.specs.Share.{share-is}
 use Rattle.connectivity.proofs.shares.share_of.Statement.{statement}
 use Rattle.connectivity.proofs.shares.share_of.Tie as tie
-
-returns : tie.Need-returns
-returns c = let a = c .before .before .args in share-own (a .counts .now) (a .crow) (a .own) (a .w) (a .x) (c .if1 .taken)
 
 add-when-is : tie.Need-add-when-is
 add-when-is c = search needs
@@ -46,20 +43,23 @@ less-requires c κs =
     rw (read32 (c .before .wide .result) (c .before .wide .ok), read32 (c .wide2 .result) (c .wide2 .ok), c .before .wide .ensures, c .wide2 .ensures)
     (fits32 _ (omega (arith, natAbs-sub (pos (c .before .before .before .before .when-is .result)) (pos (c .before .before .when-is2 .result)), c .before .before .before .before .when-is .ok, c .before .before .when-is2 .ok)))
 
-returns-2 : tie.Need-returns-2
-returns-2 c =
+unless-requires : tie.Need-unless-requires
+unless-requires c κs = search needs
+
+returns : tie.Need-returns
+returns c =
     let a = c .before .before .before .before .before .before .before .before .before .args in
-    read32 _ (c .less .ok) ∙ share-off (a .counts .now) (a .crow) (a .own) (a .w) (a .x) _ _ _ _ _
-    (c .before .before .before .before .before .before .before .if1 .left)
-    (c .before .before .before .before .before .when-is .ensures) (c .before .before .before .when-is2 .ensures)
-    (read32 _ (c .before .before .wide .ok) ∙ c .before .before .wide .ensures) (read32 _ (c .before .wide2 .ok) ∙ c .before .wide2 .ensures)
-    (c .less .ensures)
+    read32 _ (c .unless .ok) ∙ share-is (a .counts .now) (a .crow) (a .own) (a .w) (a .x) _ _ _ _ _ _
+    (c .before .before .before .before .before .before .when-is .ensures) (c .before .before .before .before .when-is2 .ensures)
+    (read32 _ (c .before .before .before .wide .ok) ∙ c .before .before .before .wide .ensures)
+    (read32 _ (c .before .before .wide2 .ok) ∙ c .before .before .wide2 .ensures)
+    (read32 _ (c .before .less .ok) ∙ c .before .less .ensures)
+    (c .unless .ensures)
 
 pub share-of-spec : {M : Type 1} → statement M
 share-of-spec =
     tie.close
     (tie.spec
-    returns
     add-when-is
     mul-when-is
     shared-slice-read-when-is
@@ -71,4 +71,5 @@ share-of-spec =
     wide-requires
     wide-requires-2
     less-requires
-    returns-2)
+    unless-requires
+    returns)
