@@ -58,13 +58,13 @@ fn unless(own: bool, share: i32) -> i32
     if own { 0 } else { share }
 }
 
-// The share of a net of weight `w` in the gain of the block `x` for a vertex of the block `own`.
-fn share_of(counts: &[u16], crow: usize, own: usize, w: u16, x: usize) -> i32
-    requires { ⌜ crow + own < length (now counts) ⌝ }
+// The share of a net of weight `w` in the gain of the block `x` for a vertex of the block `own`. What leaving that block frees is the same for
+// all blocks, and given.
+fn share_of(counts: &[u16], crow: usize, own: usize, w: u16, x: usize, freed: u16) -> i32
     requires { ⌜ crow + x < length (now counts) ⌝ }
+    requires { ⌜ freed ≡ when (getD (now counts) (crow + own) 0) 1 w ⌝ }
     ensures { λ r. ⌜ r ≡ share (now (counts .entry)) crow own w x ⌝ }
 {
-    let freed = when_is(counts[crow + own], 1, w);
     let drawn = when_is(counts[crow + x], 0, w);
     unless(x == own, less(wide(freed), wide(drawn)))
 }
@@ -82,9 +82,10 @@ fn put_share(
     requires { ⌜ Ready (now gains) (now counts) row crow own k w ⌝ }
     ensures { λ _. ⌜ Raised (share (now (counts .entry)) crow own w) row k (now (gains .entry)) (now (gains .exit)) ⌝ }
 {
+    let freed = when_is(counts[crow + own], 1, w);
     let mut x = 0;
     while x < k {
-        let s = share_of(counts, crow, own, w, x);
+        let s = share_of(counts, crow, own, w, x, freed);
         add_at(gains, row + x, s);
         x += 1;
     }
@@ -103,9 +104,10 @@ fn take_share(
     requires { ⌜ Ready (now gains) (now counts) row crow own k w ⌝ }
     ensures { λ _. ⌜ Raised (λ x. negℤ (share (now (counts .entry)) crow own w x)) row k (now (gains .entry)) (now (gains .exit)) ⌝ }
 {
+    let freed = when_is(counts[crow + own], 1, w);
     let mut x = 0;
     while x < k {
-        let s = share_of(counts, crow, own, w, x);
+        let s = share_of(counts, crow, own, w, x, freed);
         sub_at(gains, row + x, s);
         x += 1;
     }

@@ -20,18 +20,6 @@ shared-slice-read-when-is c = search needs
 when-is-requires : tie.Need-when-is-requires
 when-is-requires c κs = search needs
 
-add-when-is-2 : tie.Need-add-when-is-2
-add-when-is-2 c = search needs
-
-mul-when-is-2 : tie.Need-mul-when-is-2
-mul-when-is-2 c = search needs
-
-shared-slice-read-when-is-2 : tie.Need-shared-slice-read-when-is-2
-shared-slice-read-when-is-2 c = search needs
-
-when-is-requires-2 : tie.Need-when-is-requires-2
-when-is-requires-2 c κs = search needs
-
 wide-requires : tie.Need-wide-requires
 wide-requires c κs = search needs
 
@@ -40,17 +28,19 @@ wide-requires-2 c κs = search needs
 
 less-requires : tie.Need-less-requires
 less-requires c κs =
+    let S = c .before .before .before .before .before in
     rw (read32 (c .before .wide .result) (c .before .wide .ok), read32 (c .wide2 .result) (c .wide2 .ok), c .before .wide .ensures, c .wide2 .ensures)
-    (fits32 _ (omega (arith, natAbs-sub (pos (c .before .before .before .before .when-is .result)) (pos (c .before .before .when-is2 .result)), c .before .before .before .before .when-is .ok, c .before .before .when-is2 .ok)))
+    (fits32 _ (omega (arith, natAbs-sub (pos (S .args .freed)) (pos (c .before .before .when-is .result)), S .fits .freed, c .before .before .when-is .ok)))
 
 unless-requires : tie.Need-unless-requires
 unless-requires c κs = search needs
 
 returns : tie.Need-returns
 returns c =
-    let a = c .before .before .before .before .before .before .before .before .before .args in
+    let S = c .before .before .before .before .before .before .before in
+    let a = S .args in
     read32 _ (c .unless .ok) ∙ share-is (a .counts .now) (a .crow) (a .own) (a .w) (a .x) _ _ _ _ _ _
-    (c .before .before .before .before .before .before .when-is .ensures) (c .before .before .before .before .when-is2 .ensures)
+    (S .pre .1) (c .before .before .before .before .when-is .ensures)
     (read32 _ (c .before .before .before .wide .ok) ∙ c .before .before .before .wide .ensures)
     (read32 _ (c .before .before .wide2 .ok) ∙ c .before .before .wide2 .ensures)
     (read32 _ (c .before .less .ok) ∙ c .before .less .ensures)
@@ -64,10 +54,6 @@ share-of-spec =
     mul-when-is
     shared-slice-read-when-is
     when-is-requires
-    add-when-is-2
-    mul-when-is-2
-    shared-slice-read-when-is-2
-    when-is-requires-2
     wide-requires
     wide-requires-2
     less-requires
