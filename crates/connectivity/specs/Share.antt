@@ -1,7 +1,8 @@
 -- What one net adds to the gain of a move, by the table of counts. Blocks count from 0 here. Assumes nothing.
-use Prim.Native.Nat.{ℕ, _+_, _≤_}
-use mathlib.Core.Path.{_≡_, refl}
+use Prim.Native.Nat.{ℕ, zero, suc, _+_, _-_, _*_, _/_, _<_, _≤_}
+use mathlib.Core.Path.{_≡_, refl, ap}
 use native.Mathlib.Omega.{arith}
+use borrow.Author.Tests.{ne-eqb}
 use mathlib.Core.Bool.{Bool, true, false, cond}
 use mathlib.Core.List.{List}
 use lib.Dec.{eqb}
@@ -30,6 +31,12 @@ when-le n want w = by (eqb n want)
     by : (t : Bool) → cond t w 0 ≤ w
     by true = omega arith
     by false = omega arith
+
+-- `when` for the count 0, without a test
+pub when-none : (n w : ℕ) → n < 65536 → (65536 - n) / 65536 * w ≡ when n 0 w
+unfolding when
+when-none zero w h = omega arith
+when-none (suc n) w h = rw (ne-eqb (suc n) 0 (λ q. omega arith)) (omega (arith, ap (λ (t : ℕ). t * w) {x = (65536 - suc n) / 65536} {y = 0} (omega arith)))
 
 pub share-le : (counts : List ℕ) (crow own w x : ℕ) → natAbs (share counts crow own w x) ≤ w
 unfolding share

@@ -17,6 +17,18 @@ fn when_is(n: u16, want: u16, w: u16) -> u16
     if n == want { w } else { 0 }
 }
 
+// The weight `w` if the count `n` is 0, else 0. By arithmetic, since a test becomes a branch where the blocks are few, and a processor can't
+// predict which counts are 0.
+fn when_none(n: u16, w: u16) -> u16
+    ensures { λ r. ⌜ r ≡ when n 0 w ⌝ }
+{
+    let count = n as u32;
+    let weight = w as u32;
+    let none = (65536 - count) / 65536;
+    let given = none * weight;
+    given as u16
+}
+
 // The number as a signed one.
 pub fn wide(x: u16) -> i32
     ensures { λ r. ⌜ r ≡ pos x ⌝ }
@@ -50,8 +62,8 @@ fn less(a: i32, b: i32) -> i32
     a - b
 }
 
-// Nothing at a vertex's own block, else the share. Chosen without a branch: behind an early return the tests of the counts become branches
-// too, and a processor can't predict which counts are 0.
+// Nothing at a vertex's own block, else the share. A choice between two values and no early return, so that the loops over the blocks have no
+// branch.
 fn unless(own: bool, share: i32) -> i32
     ensures { λ r. ⌜ r ≡ cond own (pos 0) share ⌝ }
 {
@@ -65,7 +77,7 @@ fn share_of(counts: &[u16], crow: usize, own: usize, w: u16, x: usize, freed: u1
     requires { ⌜ freed ≡ when (getD (now counts) (crow + own) 0) 1 w ⌝ }
     ensures { λ r. ⌜ r ≡ share (now (counts .entry)) crow own w x ⌝ }
 {
-    let drawn = when_is(counts[crow + x], 0, w);
+    let drawn = when_none(counts[crow + x], w);
     unless(x == own, less(wide(freed), wide(drawn)))
 }
 

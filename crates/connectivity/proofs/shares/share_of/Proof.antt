@@ -8,17 +8,17 @@ use Rattle.connectivity.specs.Share.{share-is}
 use Rattle.connectivity.proofs.shares.share_of.Statement.{statement}
 use Rattle.connectivity.proofs.shares.share_of.Tie as tie
 
-add-when-is : tie.Need-add-when-is
-add-when-is c = search needs
+add-when-none : tie.Need-add-when-none
+add-when-none c = search needs
 
-mul-when-is : tie.Need-mul-when-is
-mul-when-is c = search needs
+mul-when-none : tie.Need-mul-when-none
+mul-when-none c = search needs
 
-shared-slice-read-when-is : tie.Need-shared-slice-read-when-is
-shared-slice-read-when-is c = search needs
+shared-slice-read-when-none : tie.Need-shared-slice-read-when-none
+shared-slice-read-when-none c = search needs
 
-when-is-requires : tie.Need-when-is-requires
-when-is-requires c κs = search needs
+when-none-requires : tie.Need-when-none-requires
+when-none-requires c κs = search needs
 
 wide-requires : tie.Need-wide-requires
 wide-requires c κs = search needs
@@ -30,7 +30,7 @@ less-requires : tie.Need-less-requires
 less-requires c κs =
     let S = c .before .before .before .before .before in
     rw (read32 (c .before .wide .result) (c .before .wide .ok), read32 (c .wide2 .result) (c .wide2 .ok), c .before .wide .ensures, c .wide2 .ensures)
-    (fits32 _ (omega (arith, natAbs-sub (pos (S .args .freed)) (pos (c .before .before .when-is .result)), S .fits .freed, c .before .before .when-is .ok)))
+    (fits32 _ (omega (arith, natAbs-sub (pos (S .args .freed)) (pos (c .before .before .when-none .result)), S .fits .freed, c .before .before .when-none .ok)))
 
 unless-requires : tie.Need-unless-requires
 unless-requires c κs = search needs
@@ -40,7 +40,7 @@ returns c =
     let S = c .before .before .before .before .before .before .before in
     let a = S .args in
     read32 _ (c .unless .ok) ∙ share-is (a .counts .now) (a .crow) (a .own) (a .w) (a .x) _ _ _ _ _ _
-    (S .pre .1) (c .before .before .before .before .when-is .ensures)
+    (S .pre .1) (c .before .before .before .before .when-none .ensures)
     (read32 _ (c .before .before .before .wide .ok) ∙ c .before .before .before .wide .ensures)
     (read32 _ (c .before .before .wide2 .ok) ∙ c .before .before .wide2 .ensures)
     (read32 _ (c .before .less .ok) ∙ c .before .less .ensures)
@@ -50,10 +50,10 @@ pub share-of-spec : {M : Type 1} → statement M
 share-of-spec =
     tie.close
     (tie.spec
-    add-when-is
-    mul-when-is
-    shared-slice-read-when-is
-    when-is-requires
+    add-when-none
+    mul-when-none
+    shared-slice-read-when-none
+    when-none-requires
     wide-requires
     wide-requires-2
     less-requires
