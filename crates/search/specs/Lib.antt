@@ -1,6 +1,7 @@
 -- The searches W and P on the tables of a running sale, each equal to model's. Assumes nothing.
 -- Marks      the candidates as rows of bits, and what marking does to them
 -- Tabled     what sound tables tell a search
+-- Falls      which gains a move can't raise
 -- Back       the way back of a walk
 -- Steps      a walk on its way: what tables and variables are for model's walk; the contracts of W
 -- Taking     one move of a walk
@@ -10,6 +11,7 @@
 -- Polished   P on its way and as a whole; its contracts
 pub mod Marks
 pub mod Tabled
+pub mod Falls
 pub mod Back
 pub mod Steps
 pub mod Taking
