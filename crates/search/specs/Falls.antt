@@ -37,9 +37,6 @@ less-not a b e = le-parts b a (ltZ-no (subst (λ (t : Bool). T (not t)) (sym e) 
 not-less-same : (a b : ℤ) → a ≡ b → ltZ a b ≡ false
 not-less-same a b e = not-less a b (omega (arith, ap up e, ap dn e))
 
-pub not-less-trans : (a b c : ℤ) → ltZ a b ≡ false → ltZ b c ≡ false → ltZ a c ≡ false
-not-less-trans a b c h l = not-less a c (omega (arith, less-not a b h, less-not b c l))
-
 -- terms that are no more, and their sums
 pub sumZ-le : (f g : ℕ → ℤ) (m : ℕ) → ((e : ℕ) → e < m → ltZ (f e) (g e) ≡ false) → ltZ (sumZ f m) (sumZ g m) ≡ false
 unfolding sumZ

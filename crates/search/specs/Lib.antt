@@ -2,6 +2,8 @@
 -- Marks      the candidates as rows of bits, and what marking does to them
 -- Tabled     what sound tables tell a search
 -- Falls      which gains a move can't raise
+-- Peaks      peaks over the gains, kept by a move
+-- Lifting    peaks raised after a move, net by net and pin by pin
 -- Back       the way back of a walk
 -- Steps      a walk on its way: what tables and variables are for model's walk; the contracts of W
 -- Taking     one move of a walk
@@ -12,6 +14,8 @@
 pub mod Marks
 pub mod Tabled
 pub mod Falls
+pub mod Peaks
+pub mod Lifting
 pub mod Back
 pub mod Steps
 pub mod Taking

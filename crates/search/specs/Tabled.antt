@@ -34,7 +34,7 @@ module _ {h : Hypergraph} {cs : List Contraction} {block : ℕ → ℕ} {T : Tab
       go (yes z) = z
       go (no z) = absurd (omega (arith, present-off (loadedPin (netAt h e)) cs x z, present-pin (netAt h e) cs (s .follows .says .sound) x, ap one q))
 
-  bit-is : (u e : ℕ) → u < T .n → e < T .m → above cs (u + 1) ≡ 0 → eqb (on (T .bits) u e) 1 ≡ pin cs (netAt h e) (u + 1)
+  pub bit-is : (u e : ℕ) → u < T .n → e < T .m → above cs (u + 1) ≡ 0 → eqb (on (T .bits) u e) 1 ≡ pin cs (netAt h e) (u + 1)
   bit-is u e lu le q = ap (λ (z : ℕ). eqb z 1) (s .follows .says .board .marked u e lu le ∙ ap one (row-pin (netAt h e) cs (s .follows .says .sound) (u + 1) q)) ∙ one-eqb (pin cs (netAt h e) (u + 1))
 
   both-is : (u x e : ℕ) → u < T .n → e < T .m → above cs (u + 1) ≡ 0

@@ -1,9 +1,10 @@
 // P, a greedy polish: over all vertices on the board, the best open pair is moved while its gain is at least 1.
 use crate::marks::mark_vertex;
 use crate::numbers::index;
-use calls::moves::go;
+use crate::peaks::shift;
 use choice::open::Pick;
 use choice::open::best_open;
+use choice::peaks::survey;
 ghost use mathlib.Core.Path.{_≡_};
 ghost use mathlib.Core.List.{List};
 ghost use Prim.Native.Nat.{ℕ, _+_, _-_, _*_, _<_, _≤_};
@@ -11,6 +12,7 @@ ghost use lib.IntN.{pos};
 ghost use lib.ListN.{length};
 ghost use lib.Signed.{ltZ};
 ghost use Rattle.choice.specs.Open.{SearchOk, Chosen, gainIn};
+ghost use Rattle.choice.specs.Peak.{Peaked};
 ghost use Rattle.search.specs.Marks.{Marked};
 ghost use Rattle.search.specs.Steps.{lent};
 ghost use Rattle.search.specs.Polishing.{sits, placed, RiseOk, riseOf};
@@ -74,14 +76,18 @@ fn next_rise(
     weights: &[u32],
     loads: &[u64; 16],
     marks: &[u64],
+    peaks: &[i32; 16],
     n: usize,
     k: usize,
     capacity: u64,
 ) -> Pick
     requires { ⌜ SearchOk (length (now gains)) (length (now blocks)) (length (now weights)) (length (now marks)) n k ⌝ }
+    requires { ⌜ Peaked (now gains) (now peaks) n k ⌝ }
     ensures { λ r. ⌜ Chosen (gainIn (now (gains .entry))) n k r (riseOf (now (gains .entry)) (now (blocks .entry)) (now (weights .entry)) (now (loads .entry)) (now (marks .entry)) n k capacity) ⌝ }
 {
-    match best_open(gains, blocks, weights, loads, marks, n, k, capacity) {
+    match best_open(
+        gains, blocks, weights, loads, marks, peaks, n, k, capacity,
+    ) {
         Pick::Nothing => Pick::Nothing,
         Pick::Move { vertex, block } => {
             if rises(gains, vertex, block) {
@@ -103,6 +109,7 @@ fn pass(
     blocks: &mut [u16],
     loads: &mut [u64; 16],
     marks: &[u64; 48],
+    peaks: &mut [i32; 16],
     pins: &[u16],
     sizes: &[u16],
     bits: &[u64],
@@ -116,10 +123,14 @@ fn pass(
     p: Passes,
 ) -> Passes
     requires { ⌜ PassOk (lent (now counts) (now visited) (now gains) (now blocks) (now loads) (now pins) (now sizes) (now bits) (now weights) (now netweights) (now firsts) n m k (p .total)) (now marks) (p .left) (p .moves) ⌝ }
+    requires { ⌜ Peaked (now gains) (now peaks) n k ⌝ }
     ensures { λ r. ⌜ ((aboves loaded : List ℕ) → Passed (lent (now (counts .entry)) (now (visited .entry)) (now (gains .entry)) (now (blocks .entry)) (now (loads .entry)) (now (pins .entry)) (now (sizes .entry)) (now (bits .entry)) (now (weights .entry)) (now (netweights .entry)) (now (firsts .entry)) n m k (p .total) aboves loaded) (now (marks .entry)) capacity (p .left) (p .moves)
         (lent (now (counts .exit)) (now (visited .exit)) (now (gains .exit)) (now (blocks .exit)) (now (loads .exit)) (now (pins .exit)) (now (sizes .exit)) (now (bits .exit)) (now (weights .exit)) (now (netweights .exit)) (now (firsts .exit)) n m k (r .total) aboves loaded) (r .left) (r .moves)) ⌝ }
+    ensures { λ _. ⌜ Peaked (now (gains .exit)) (now (peaks .exit)) n k ⌝ }
 {
-    match next_rise(gains, blocks, weights, loads, marks, n, k, capacity) {
+    match next_rise(
+        gains, blocks, weights, loads, marks, peaks, n, k, capacity,
+    ) {
         Pick::Nothing => Passes {
             left: 0,
             moves: p.moves,
@@ -127,12 +138,13 @@ fn pass(
         },
         Pick::Move { vertex, block } => {
             let x = index(vertex) - 1;
-            let total = go(
+            let total = shift(
                 counts,
                 visited,
                 gains,
                 blocks,
                 loads,
+                peaks,
                 pins,
                 sizes,
                 bits,
@@ -180,6 +192,8 @@ pub fn polish(
 {
     let mut marks = [0u64; 48];
     mark_board(&mut marks, blocks, n);
+    let mut peaks = [0i32; 16];
+    survey(&mut peaks, gains, n, k);
     let mut p = Passes {
         left: total,
         moves: 0,
@@ -193,6 +207,7 @@ pub fn polish(
             blocks,
             loads,
             &marks,
+            &mut peaks,
             pins,
             sizes,
             bits,

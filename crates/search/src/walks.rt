@@ -3,10 +3,12 @@
 use crate::marks::mark_vertex;
 use crate::marks::spread;
 use crate::numbers::index;
+use crate::peaks::shift;
 use calls::moves::go;
 use calls::pairs::Journal;
 use choice::open::Pick;
 use choice::open::best_open;
+use choice::peaks::survey;
 ghost use mathlib.Core.Path.{_≡_};
 ghost use mathlib.Core.Bool.{cond};
 ghost use mathlib.Core.List.{List};
@@ -14,6 +16,7 @@ ghost use Prim.Native.Nat.{ℕ, _+_, _-_, _<_, _≤_};
 ghost use lib.Dec.{ltb};
 ghost use lib.ListN.{length};
 ghost use Rattle.choice.specs.Open.{SearchOk, Chosen, gainIn};
+ghost use Rattle.choice.specs.Peak.{Peaked};
 ghost use Rattle.search.specs.Back.{RewindOk, Rewinds};
 ghost use Rattle.search.specs.Steps.{lent, locals, nextOf, TakeOk, Took, TurnOk, Turned, WalkOk, Walks};
 
@@ -62,6 +65,7 @@ fn next_move(
     weights: &[u32],
     loads: &[u64; 16],
     marks: &[u64; 48],
+    peaks: &[i32; 16],
     n: usize,
     k: usize,
     capacity: u64,
@@ -69,12 +73,15 @@ fn next_move(
     kept: usize,
 ) -> Pick
     requires { ⌜ (kept ≤ tried) × (tried ≤ 1024) × SearchOk (length (now gains)) (length (now blocks)) (length (now weights)) (length (now marks)) n k ⌝ }
+    requires { ⌜ Peaked (now gains) (now peaks) n k ⌝ }
     ensures { λ r. ⌜ Chosen (gainIn (now (gains .entry))) n k r (nextOf (now (gains .entry)) (now (blocks .entry)) (now (weights .entry)) (now (loads .entry)) (now (marks .entry)) n k capacity tried kept) ⌝ }
 {
     if kept + 25 <= tried {
         return Pick::Nothing;
     }
-    best_open(gains, blocks, weights, loads, marks, n, k, capacity)
+    best_open(
+        gains, blocks, weights, loads, marks, peaks, n, k, capacity,
+    )
 }
 
 // One more move, put on the journal.
@@ -85,6 +92,7 @@ fn make_move(
     blocks: &mut [u16],
     loads: &mut [u64; 16],
     marks: &mut [u64; 48],
+    peaks: &mut [i32; 16],
     pins: &[u16],
     sizes: &[u16],
     bits: &[u64],
@@ -99,18 +107,21 @@ fn make_move(
     s: Steps,
 ) -> Steps
     requires { ⌜ TakeOk (lent (now counts) (now visited) (now gains) (now blocks) (now loads) (now pins) (now sizes) (now bits) (now weights) (now netweights) (now firsts) n m k (s .total)) (locals (now marks) (s .journal .vertices) (s .journal .blocks) (s .journal .len) (s .kept) (s .low)) (s .turn) v b ⌝ }
+    requires { ⌜ Peaked (now gains) (now peaks) n k ⌝ }
     ensures { λ r. ⌜ ((aboves loaded : List ℕ) → Took (lent (now (counts .entry)) (now (visited .entry)) (now (gains .entry)) (now (blocks .entry)) (now (loads .entry)) (now (pins .entry)) (now (sizes .entry)) (now (bits .entry)) (now (weights .entry)) (now (netweights .entry)) (now (firsts .entry)) n m k (s .total) aboves loaded) (locals (now (marks .entry)) (s .journal .vertices) (s .journal .blocks) (s .journal .len) (s .kept) (s .low)) (s .turn) v b
         (lent (now (counts .exit)) (now (visited .exit)) (now (gains .exit)) (now (blocks .exit)) (now (loads .exit)) (now (pins .exit)) (now (sizes .exit)) (now (bits .exit)) (now (weights .exit)) (now (netweights .exit)) (now (firsts .exit)) n m k (r .total) aboves loaded) (locals (now (marks .exit)) (r .journal .vertices) (r .journal .blocks) (r .journal .len) (r .kept) (r .low)) (r .turn)) ⌝ }
+    ensures { λ _. ⌜ Peaked (now (gains .exit)) (now (peaks .exit)) n k ⌝ }
 {
     let x = index(v) - 1;
     let before = s.journal;
     let journal = before.push(v, blocks[x]);
-    let total = go(
+    let total = shift(
         counts,
         visited,
         gains,
         blocks,
         loads,
+        peaks,
         pins,
         sizes,
         bits,
@@ -143,6 +154,7 @@ fn advance(
     blocks: &mut [u16],
     loads: &mut [u64; 16],
     marks: &mut [u64; 48],
+    peaks: &mut [i32; 16],
     pins: &[u16],
     sizes: &[u16],
     bits: &[u64],
@@ -156,8 +168,10 @@ fn advance(
     s: Steps,
 ) -> Steps
     requires { ⌜ TurnOk (lent (now counts) (now visited) (now gains) (now blocks) (now loads) (now pins) (now sizes) (now bits) (now weights) (now netweights) (now firsts) n m k (s .total)) (locals (now marks) (s .journal .vertices) (s .journal .blocks) (s .journal .len) (s .kept) (s .low)) capacity (s .turn) ⌝ }
+    requires { ⌜ Peaked (now gains) (now peaks) n k ⌝ }
     ensures { λ r. ⌜ ((aboves loaded : List ℕ) → Turned (lent (now (counts .entry)) (now (visited .entry)) (now (gains .entry)) (now (blocks .entry)) (now (loads .entry)) (now (pins .entry)) (now (sizes .entry)) (now (bits .entry)) (now (weights .entry)) (now (netweights .entry)) (now (firsts .entry)) n m k (s .total) aboves loaded) (locals (now (marks .entry)) (s .journal .vertices) (s .journal .blocks) (s .journal .len) (s .kept) (s .low)) capacity (s .turn)
         (lent (now (counts .exit)) (now (visited .exit)) (now (gains .exit)) (now (blocks .exit)) (now (loads .exit)) (now (pins .exit)) (now (sizes .exit)) (now (bits .exit)) (now (weights .exit)) (now (netweights .exit)) (now (firsts .exit)) n m k (r .total) aboves loaded) (locals (now (marks .exit)) (r .journal .vertices) (r .journal .blocks) (r .journal .len) (r .kept) (r .low)) (r .turn)) ⌝ }
+    ensures { λ _. ⌜ Peaked (now (gains .exit)) (now (peaks .exit)) n k ⌝ }
 {
     let journal = s.journal;
     match next_move(
@@ -166,6 +180,7 @@ fn advance(
         weights,
         loads,
         marks,
+        peaks,
         n,
         k,
         capacity,
@@ -186,6 +201,7 @@ fn advance(
             blocks,
             loads,
             marks,
+            peaks,
             pins,
             sizes,
             bits,
@@ -282,6 +298,8 @@ pub fn walk(
     let mut marks = [0u64; 48];
     mark_vertex(&mut marks, u);
     mark_vertex(&mut marks, v);
+    let mut peaks = [0i32; 16];
+    survey(&mut peaks, gains, n, k);
     let mut s = Steps {
         journal: Journal::new(),
         turn: 0,
@@ -297,6 +315,7 @@ pub fn walk(
             blocks,
             loads,
             &mut marks,
+            &mut peaks,
             pins,
             sizes,
             bits,

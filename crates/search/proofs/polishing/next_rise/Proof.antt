@@ -16,16 +16,25 @@ enum-known-vertex : tie.Need-enum-known-vertex
 enum-known-vertex c = search needs
 
 rises-requires : tie.Need-rises-requires
-rises-requires c κs = rise-in (c .before .before .before .before .before .before .before .args .n) (c .before .before .before .before .before .before .before .args .k) _ _ _ (c .before .before .before .best-open .ensures .within) (c .before .vertex .given .1) (c .before .before .before .before .before .before .before .pre .n-to) (c .before .before .before .before .before .before .before .pre .k-to) (c .before .before .before .before .before .before .before .pre .in-gains)
+rises-requires c κs =
+    let a = c .before .before .before .before .before .before .before .args in
+    let ok = c .before .before .before .before .before .before .before .pre .0 in
+    rise-in (a .n) (a .k) _ _ _ (c .before .before .before .best-open .ensures .within) (c .before .vertex .given .1) (ok .n-to) (ok .k-to) (ok .in-gains)
 
 returns : tie.Need-returns
-returns c = rise-yes (gainIn (now (c .before .before .before .before .before .before .before .before .before .args .gains))) (c .before .before .before .before .before .before .before .before .before .args .n) (c .before .before .before .before .before .before .before .before .before .args .k) _ _ (c .before .before .before .before .before .best-open .ensures) (c .before .before .before .vertex .given .1) (sym (c .before .rises .ensures) ∙ c .if1 .taken)
+returns c =
+    let a = c .before .before .before .before .before .before .before .before .before .args in
+    rise-yes (gainIn (now (a .gains))) (a .n) (a .k) _ _ (c .before .before .before .before .before .best-open .ensures) (c .before .before .before .vertex .given .1) (sym (c .before .rises .ensures) ∙ c .if1 .taken)
 
 returns-2 : tie.Need-returns-2
-returns-2 c = rise-none (gainIn (now (c .before .before .before .before .before .before .args .gains))) (c .before .before .before .before .before .before .args .n) (c .before .before .before .before .before .before .args .k) (c .before .before .best-open .ensures) (c .enum-told .given .1)
+returns-2 c =
+    let a = c .before .before .before .before .before .before .args in
+    rise-none (gainIn (now (a .gains))) (a .n) (a .k) (c .before .before .best-open .ensures) (c .enum-told .given .1)
 
 returns-3 : tie.Need-returns-3
-returns-3 c = rise-no (gainIn (now (c .before .before .before .before .before .before .before .before .before .args .gains))) (c .before .before .before .before .before .before .before .before .before .args .n) (c .before .before .before .before .before .before .before .before .before .args .k) _ _ (c .before .before .before .before .before .best-open .ensures) (c .before .before .before .vertex .given .1) (sym (c .before .rises .ensures) ∙ c .if1 .left)
+returns-3 c =
+    let a = c .before .before .before .before .before .before .before .before .before .args in
+    rise-no (gainIn (now (a .gains))) (a .n) (a .k) _ _ (c .before .before .before .before .before .best-open .ensures) (c .before .before .before .vertex .given .1) (sym (c .before .rises .ensures) ∙ c .if1 .left)
 
 pub next-rise-spec : {M : Type 1} → statement M
 next-rise-spec =

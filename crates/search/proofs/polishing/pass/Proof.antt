@@ -9,7 +9,10 @@ use Rattle.search.proofs.polishing.pass.Statement.{statement}
 use Rattle.search.proofs.polishing.pass.Tie as tie
 
 next-rise-requires : tie.Need-next-rise-requires
-next-rise-requires c κs = search-ok (c .before .before .before .before .before .before .before .before .before .before .before .before .before .pre .at .sound) (now (c .before .before .before .before .before .before .before .before .before .before .before .before .before .args .marks)) (omega (arith, c .before .before .before .before .before .before .before .before .before .before .before .before .before .pre .at .marks-fit))
+next-rise-requires c κs =
+    let start = c .before .before .before .before .before .before .before .before .before .before .before .before .before .before .pre in
+    let at = start .0 .at in
+    (search-ok (at .sound) (now (c .before .before .before .before .before .before .before .before .before .before .before .before .before .before .args .marks)) (omega (arith, at .marks-fit)), start .1)
 
 enum-told : tie.Need-enum-told
 enum-told c = search needs
@@ -21,16 +24,19 @@ index-requires : tie.Need-index-requires
 index-requires c κs = search needs
 
 sub-x : tie.Need-sub-x
-sub-x c = omega (arith, pass-in (c .before .before .before .before .before .before .before .before .before .before .before .before .before .before .before .before .before .before .pre) (c .before .before .before .before .before .before .before .before .before .before .before .before .before .before .before .before .before .before .args .capacity) _ _ (c .before .before .before .before .next-rise .ensures) (c .before .before .vertex .given .1), c .index .ensures)
+sub-x c = omega (arith, pass-in (c .before .before .before .before .before .before .before .before .before .before .before .before .before .before .before .before .before .before .before .pre .0) (c .before .before .before .before .before .before .before .before .before .before .before .before .before .before .before .before .before .before .before .args .capacity) _ _ (c .before .before .before .before .next-rise .ensures) (c .before .before .vertex .given .1), c .index .ensures)
 
-go-requires : tie.Need-go-requires
-go-requires c κs = pass-goes (c .before .before .before .before .before .before .before .before .before .before .before .before .before .before .before .before .before .before .before .before .before .before .before .pre) (c .before .before .before .before .before .before .before .before .before .before .before .before .before .before .before .before .before .before .before .before .before .before .before .args .capacity) _ _ (c .before .before .before .before .before .before .before .before .before .next-rise .ensures) (c .before .before .before .before .before .before .before .vertex .given .1) (c .before .before .before .before .before .index .result - 1) (ap (λ (z : ℕ). z - 1) (c .before .before .before .before .before .index .ensures))
+shift-requires : tie.Need-shift-requires
+shift-requires c κs =
+    let start = c .before .before .before .before .before .before .before .before .before .before .before .before .before .before .before .before .before .before .before .before .before .before .before .before .before .pre in
+    let is = c .before .before .before .before .before .before .index in
+    (pass-goes (start .0) (c .before .before .before .before .before .before .before .before .before .before .before .before .before .before .before .before .before .before .before .before .before .before .before .before .before .args .capacity) _ _ (c .before .before .before .before .before .before .before .before .before .before .next-rise .ensures) (c .before .before .before .before .before .before .before .before .vertex .given .1) (is .result - 1) (ap (λ (z : ℕ). z - 1) (is .ensures)), start .1)
 
-sub-t41 : tie.Need-sub-t41
-sub-t41 c = omega (arith, c .before .before .before .before .before .before .before .before .before .before .before .before .before .before .before .before .before .before .before .before .before .before .before .before .before .before .before .before .before .before .before .before .pre .some)
+sub-t44 : tie.Need-sub-t44
+sub-t44 c = omega (arith, c .before .before .before .before .before .before .before .before .before .before .before .before .before .before .before .before .before .before .before .before .before .before .before .before .before .before .before .before .before .before .before .before .before .before .pre .0 .some)
 
-add-t42 : tie.Need-add-t42
-add-t42 c = omega (arith, c .before .before .before .before .before .before .before .before .before .before .before .before .before .before .before .before .before .before .before .before .before .before .before .before .before .before .before .before .before .before .before .before .before .pre .some, c .before .before .before .before .before .before .before .before .before .before .before .before .before .before .before .before .before .before .before .before .before .before .before .before .before .before .before .before .before .before .before .before .before .pre .small)
+add-t45 : tie.Need-add-t45
+add-t45 c = omega (arith, c .before .before .before .before .before .before .before .before .before .before .before .before .before .before .before .before .before .before .before .before .before .before .before .before .before .before .before .before .before .before .before .before .before .before .before .pre .0 .some, c .before .before .before .before .before .before .before .before .before .before .before .before .before .before .before .before .before .before .before .before .before .before .before .before .before .before .before .before .before .before .before .before .before .before .before .pre .0 .small)
 
 same-length : tie.Need-same-length
 same-length c = search needs
@@ -39,7 +45,9 @@ same-length-2 : tie.Need-same-length-2
 same-length-2 c = search needs
 
 returns : tie.Need-returns
-returns c = λ aboves loaded. pass-none _ _ _ _ _ (c .before .before .before .before .before .before .before .before .before .before .before .before .before .before .before .before .pre .some) (c .before .before .next-rise .ensures) (c .enum-told .given .1)
+returns c =
+    let start = c .before .before .before .before .before .before .before .before .before .before .before .before .before .before .before .before .before .pre in
+    (λ aboves loaded. pass-none _ _ _ _ _ (start .0 .some) (c .before .before .next-rise .ensures) (c .enum-told .given .1), start .1)
 
 same-length-3 : tie.Need-same-length-3
 same-length-3 c = search needs
@@ -54,7 +62,15 @@ same-length-6 : tie.Need-same-length-6
 same-length-6 c = search needs
 
 returns-2 : tie.Need-returns-2
-returns-2 c = λ aboves loaded. pass-move _ _ _ _ (c .before .before .before .before .before .before .before .before .before .before .before .before .before .before .before .index .result - 1) _ _ (c .before .before .before .before .before .before .before .before .before .before .before .before .before .before .before .before .before .before .before .before .before .before .before .before .before .before .before .before .before .before .before .before .before .pre .some) refl (c .before .before .before .before .before .before .before .before .before .before .before .before .before .before .before .before .before .before .before .next-rise .ensures) (c .before .before .before .before .before .before .before .before .before .before .before .before .before .before .before .before .before .vertex .given .1) (omega (arith, pass-in (c .before .before .before .before .before .before .before .before .before .before .before .before .before .before .before .before .before .before .before .before .before .before .before .before .before .before .before .before .before .before .before .before .before .pre) (c .before .before .before .before .before .before .before .before .before .before .before .before .before .before .before .before .before .before .before .before .before .before .before .before .before .before .before .before .before .before .before .before .before .args .capacity) _ _ (c .before .before .before .before .before .before .before .before .before .before .before .before .before .before .before .before .before .before .before .next-rise .ensures) (c .before .before .before .before .before .before .before .before .before .before .before .before .before .before .before .before .before .vertex .given .1), c .before .before .before .before .before .before .before .before .before .before .before .before .before .before .before .index .ensures)) (c .before .before .before .before .before .before .before .before .before .go .ensures aboves loaded)
+returns-2 c =
+    let start = c .before .before .before .before .before .before .before .before .before .before .before .before .before .before .before .before .before .before .before .before .before .before .before .before .before .before .before .before .before .before .before .before .before .before .before .pre in
+    let is = c .before .before .before .before .before .before .before .before .before .before .before .before .before .before .before .before .index in
+    let found = c .before .before .before .before .before .before .before .before .before .before .before .before .before .before .before .before .before .before .before .before .next-rise .ensures in
+    let pair = c .before .before .before .before .before .before .before .before .before .before .before .before .before .before .before .before .before .before .vertex .given .1 in
+    let moved = c .before .before .before .before .before .before .before .before .before .shift .ensures in (
+      λ aboves loaded. pass-move _ _ _ _ (is .result - 1) _ _ (start .0 .some) refl found pair (omega (arith, pass-in (start .0) (c .before .before .before .before .before .before .before .before .before .before .before .before .before .before .before .before .before .before .before .before .before .before .before .before .before .before .before .before .before .before .before .before .before .before .before .args .capacity) _ _ found pair, is .ensures)) (moved .0 aboves loaded),
+      moved .1,
+    )
 
 pub pass-spec : {M : Type 1} → statement M
 pass-spec =
@@ -65,9 +81,9 @@ pass-spec =
     enum-known-vertex
     index-requires
     sub-x
-    go-requires
-    sub-t41
-    add-t42
+    shift-requires
+    sub-t44
+    add-t45
     same-length
     same-length-2
     returns

@@ -2,36 +2,59 @@ use native.Mathlib.Omega.{arith}
 use mathlib.Core.Path.{_≡_, refl}
 use Prim.Native.Nat.{ℕ, _≤_, _+_}
 use mathlib.Core.List.{List}
+use lib.IntN.{ℤ, pos}
 use lib.ListN.{length, length-replicate}
+use Rattle.choice.specs.Peak.{Peaked}
 use Rattle.search.specs.Steps.{lent}
 use Rattle.search.specs.Polished.{Passing, passing-none, pass-asks, passing-more, polishes-all}
 use Rattle.search.proofs.polishing.polish.Statement.{statement}
 use Rattle.search.proofs.polishing.polish.Tie as tie
 
 abbrev Inv-loop : tie.InvT-loop
-Inv-loop counts₀ visited₀ gains₀ blocks₀ loads₀ pins sizes bits weights netweights firsts n m k capacity total marks p₀ counts visited gains blocks loads p =
+Inv-loop counts₀ visited₀ gains₀ blocks₀ loads₀ pins sizes bits weights netweights firsts n m k capacity total marks peaks₀ p₀ counts visited gains blocks loads peaks p =
     (p .moves + p .left ≤ total)
     × ((aboves loaded : List ℕ) → Passing (lent counts₀ visited₀ gains₀ blocks₀ loads₀ pins sizes bits weights netweights firsts n m k total aboves loaded) marks capacity (lent counts visited gains blocks loads pins sizes bits weights netweights firsts n m k (p .total) aboves loaded) (p .left) (p .moves))
+    × Peaked gains peaks n k
     × (length counts ≡ length counts₀) × (length visited ≡ length visited₀) × (length gains ≡ length gains₀) × (length blocks ≡ length blocks₀)
 
 abbrev μ-loop : tie.MeasureT-loop
-μ-loop counts₀ visited₀ gains₀ blocks₀ loads₀ pins sizes bits weights netweights firsts n m k capacity total marks p₀ counts visited gains blocks loads p = p .left
+μ-loop counts₀ visited₀ gains₀ blocks₀ loads₀ pins sizes bits weights netweights firsts n m k capacity total marks peaks₀ p₀ counts visited gains blocks loads peaks p = p .left
 
 mark-board-requires : tie.Need-mark-board-requires Inv-loop μ-loop
-mark-board-requires c κs = (length-replicate {A = ℕ} 48 0, c .before .before .before .before .before .before .before .before .before .before .before .pre .sound .follows .room .few-vertices, c .before .before .before .before .before .before .before .before .before .before .before .pre .sound .follows .world .lists .blocks-fit)
+mark-board-requires c κs =
+    let follows = c .before .before .before .before .before .before .before .before .before .before .before .pre .sound .follows in
+    (length-replicate {A = ℕ} 48 0, follows .room .few-vertices, follows .world .lists .blocks-fit)
+
+survey-requires : tie.Need-survey-requires Inv-loop μ-loop
+survey-requires c κs =
+    let frame = c .before .before .before .before .before .before .before .before .before .before .before .before .before .before .pre .sound .follows .world .frame in
+    (length-replicate {A = ℤ} 16 (pos 0), frame .few-vertices, frame .few, frame .gains-fit)
 
 loop-holds : tie.Need-loop-holds Inv-loop μ-loop
-loop-holds c = (omega arith, λ aboves loaded. passing-none _ _ (c .mark-board .ensures), refl, refl, refl, refl)
+loop-holds c = (omega arith, λ aboves loaded. passing-none _ _ (c .before .before .before .mark-board .ensures), c .survey .ensures, refl, refl, refl, refl)
 
 pass-requires : tie.Need-pass-requires Inv-loop μ-loop
-pass-requires c κs = pass-asks (c .before .before .before .before .before .before .before .before .before .before .before .before .before .before .before .before .before .before .before .before .before .pre) (c .before .before .before .before .before .before .before .before .loop .inv .1) (c .before .before .before .before .before .before .if1 .taken) (omega (arith, c .before .before .before .before .before .before .before .before .loop .inv .0, c .before .before .before .before .before .before .before .before .before .before .before .before .before .before .before .before .before .before .before .before .before .fits .total))
+pass-requires c κs =
+    let l = c .before .before .before .before .before .before .before .before .before .loop in
+    (pass-asks (c .before .before .before .before .before .before .before .before .before .before .before .before .before .before .before .before .before .before .before .before .before .before .before .before .before .pre) (l .inv .1) (c .before .before .before .before .before .before .before .if1 .taken) (omega (arith, l .inv .0, c .before .before .before .before .before .before .before .before .before .before .before .before .before .before .before .before .before .before .before .before .before .before .before .before .before .fits .total)), l .inv .2)
 
 loop-less : tie.Need-loop-less Inv-loop μ-loop
-loop-less c = c .before .before .before .before .before .before .before .pass .ensures (c .before .before .before .before .before .before .before .before .before .before .before .before .before .before .before .before .before .before .before .before .before .before .before .before .before .before .before .before .before .pre .aboves) (c .before .before .before .before .before .before .before .before .before .before .before .before .before .before .before .before .before .before .before .before .before .before .before .before .before .before .before .before .before .pre .loaded) .less
+loop-less c = let ok = c .before .before .before .before .before .before .before .before .before .before .before .before .before .before .before .before .before .before .before .before .before .before .before .before .before .before .before .before .before .before .before .before .before .pre in c .before .before .before .before .before .before .before .pass .ensures .0 (ok .aboves) (ok .loaded) .less
 
 loop-again : tie.Need-loop-again Inv-loop μ-loop
 loop-again c =
-    (omega (arith, c .before .before .before .before .before .before .before .before .before .before .before .before .before .before .before .before .loop .inv .0, c .before .before .before .before .before .before .before .pass .ensures (c .before .before .before .before .before .before .before .before .before .before .before .before .before .before .before .before .before .before .before .before .before .before .before .before .before .before .before .before .before .pre .aboves) (c .before .before .before .before .before .before .before .before .before .before .before .before .before .before .before .before .before .before .before .before .before .before .before .before .before .before .before .before .before .pre .loaded) .small), λ aboves loaded. passing-more refl refl refl refl refl (c .before .before .before .before .before .before .before .before .before .before .before .before .before .before .before .before .loop .inv .1 aboves loaded) (c .before .before .before .before .before .before .before .pass .ensures aboves loaded), omega (arith, c .before .before .before .before .before .before .before .before .before .before .before .before .before .before .before .before .loop .inv, c .before .before .before .before .before .before .before .pass .kept), omega (arith, c .before .before .before .before .before .before .before .before .before .before .before .before .before .before .before .before .loop .inv, c .before .before .before .before .before .before .before .pass .kept), omega (arith, c .before .before .before .before .before .before .before .before .before .before .before .before .before .before .before .before .loop .inv, c .before .before .before .before .before .before .before .pass .kept), omega (arith, c .before .before .before .before .before .before .before .before .before .before .before .before .before .before .before .before .loop .inv, c .before .before .before .before .before .before .before .pass .kept))
+    let ok = c .before .before .before .before .before .before .before .before .before .before .before .before .before .before .before .before .before .before .before .before .before .before .before .before .before .before .before .before .before .before .before .before .before .pre in
+    let l = c .before .before .before .before .before .before .before .before .before .before .before .before .before .before .before .before .before .loop in
+    let passed = c .before .before .before .before .before .before .before .pass .ensures in
+    let lengths = c .before .before .before .before .before .before .before .pass .kept in (
+      omega (arith, l .inv .0, passed .0 (ok .aboves) (ok .loaded) .small),
+      λ aboves loaded. passing-more refl refl refl refl refl (l .inv .1 aboves loaded) (passed .0 aboves loaded),
+      passed .1,
+      omega (arith, l .inv, lengths),
+      omega (arith, l .inv, lengths),
+      omega (arith, l .inv, lengths),
+      omega (arith, l .inv, lengths),
+    )
 
 same-length : tie.Need-same-length Inv-loop μ-loop
 same-length c = omega (arith, c .before .before .loop .inv)
@@ -55,6 +78,7 @@ polish-spec =
     Inv-loop
     μ-loop
     mark-board-requires
+    survey-requires
     loop-holds
     pass-requires
     loop-less

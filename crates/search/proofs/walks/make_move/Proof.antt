@@ -10,28 +10,41 @@ index-requires : tie.Need-index-requires
 index-requires c κs = search needs
 
 sub-x : tie.Need-sub-x
-sub-x c = omega (arith, c .before .before .before .before .before .before .before .before .before .before .pre .v-from, c .index .ensures)
+sub-x c = omega (arith, c .before .before .before .before .before .before .before .before .before .before .pre .0 .v-from, c .index .ensures)
 
 mul-push : tie.Need-mul-push
 mul-push c = omega arith
 
 slice-read-push : tie.Need-slice-read-push
-slice-read-push c = omega (arith, c .before .before .before .before .before .before .before .before .before .before .before .before .pre .open-pair .u-in, c .before .before .before .before .before .before .before .before .before .before .before .before .pre .at .sound .follows .world .lists .blocks-fit, c .before .before .index .ensures)
+slice-read-push c =
+    let ok = c .before .before .before .before .before .before .before .before .before .before .before .before .pre .0 in
+    omega (arith, ok .open-pair .u-in, ok .at .sound .follows .world .lists .blocks-fit, c .before .before .index .ensures)
 
 push-requires : tie.Need-push-requires
-push-requires c κs = (omega (arith, c .before .before .before .before .before .before .before .before .before .before .before .before .pre .tried-to, c .before .before .before .before .before .before .before .before .before .before .before .before .pre .turn-to, c .before .before .before .before .before .before .before .before .before .before .before .before .pre .at .sound .follows .room .few-vertices), c .before .before .before .before .before .before .before .before .before .before .before .before .pre .at .vertices-fit, c .before .before .before .before .before .before .before .before .before .before .before .before .pre .at .blocks-fit)
+push-requires c κs =
+    let ok = c .before .before .before .before .before .before .before .before .before .before .before .before .pre .0 in
+    (omega (arith, ok .tried-to, ok .turn-to, ok .at .sound .follows .room .few-vertices), ok .at .vertices-fit, ok .at .blocks-fit)
 
-go-requires : tie.Need-go-requires
-go-requires c κs = take-goes (c .before .before .before .before .before .before .before .before .before .before .before .before .before .before .before .before .before .before .pre) (c .before .before .before .before .before .before .before .before .index .result - 1) (ap (λ (z : ℕ). z - 1) (c .before .before .before .before .before .before .before .before .index .ensures))
+shift-requires : tie.Need-shift-requires
+shift-requires c κs =
+    let start = c .before .before .before .before .before .before .before .before .before .before .before .before .before .before .before .before .before .before .before .pre in
+    (take-goes (start .0) (c .before .before .before .before .before .before .before .before .before .index .result - 1) (ap (λ (z : ℕ). z - 1) (c .before .before .before .before .before .before .before .before .before .index .ensures)), start .1)
 
 spread-requires : tie.Need-spread-requires
-spread-requires c κs = (c .before .before .before .before .before .before .before .before .before .before .before .before .before .before .before .before .before .before .before .before .before .before .before .before .before .before .before .pre .at .marks-fit, omega (arith, c .before .before .before .before .before .before .before .before .before .before .before .before .before .before .before .before .before .before .before .before .before .before .before .before .before .before .before .pre .open-pair .u-in, c .before .before .before .before .before .before .before .before .before .before .before .before .before .before .before .before .before .before .before .before .before .before .before .before .before .before .before .pre .at .sound .follows .room .few-vertices, c .before .before .before .before .before .before .before .before .before .before .before .before .before .before .before .before .before .index .ensures), take-nets (c .before .before .before .before .before .before .before .before .before .before .before .before .before .before .before .before .before .before .before .before .before .before .before .before .before .before .before .pre) (c .before .before .before .before .before .before .before .before .before .before .before .before .before .before .before .before .before .index .result - 1) (ap (λ (z : ℕ). z - 1) (c .before .before .before .before .before .before .before .before .before .before .before .before .before .before .before .before .before .index .ensures)), c .before .before .before .before .before .before .before .before .before .before .before .before .before .before .before .before .before .before .before .before .before .before .before .before .before .before .before .pre .at .covered)
+spread-requires c κs =
+    let ok = c .before .before .before .before .before .before .before .before .before .before .before .before .before .before .before .before .before .before .before .before .before .before .before .before .before .before .before .before .pre .0 in
+    let is = c .before .before .before .before .before .before .before .before .before .before .before .before .before .before .before .before .before .before .index in (
+      ok .at .marks-fit,
+      omega (arith, ok .open-pair .u-in, ok .at .sound .follows .room .few-vertices, is .ensures),
+      take-nets ok (is .result - 1) (ap (λ (z : ℕ). z - 1) (is .ensures)),
+      ok .at .covered,
+    )
 
 lower-requires : tie.Need-lower-requires
 lower-requires c κs = search needs
 
-add-t24 : tie.Need-add-t24
-add-t24 c = omega (arith, c .before .before .before .before .before .before .before .before .before .before .before .before .before .before .before .before .before .before .before .before .before .before .before .before .before .before .before .before .before .before .pre .turn-to, c .before .before .before .before .before .before .before .before .before .before .before .before .before .before .before .before .before .before .before .before .before .before .before .before .before .before .before .before .before .before .pre .at .sound .follows .room .few-vertices)
+add-t25 : tie.Need-add-t25
+add-t25 c = let ok = c .before .before .before .before .before .before .before .before .before .before .before .before .before .before .before .before .before .before .before .before .before .before .before .before .before .before .before .before .before .before .before .pre .0 in omega (arith, ok .turn-to, ok .at .sound .follows .room .few-vertices)
 
 same-length : tie.Need-same-length
 same-length c = search needs
@@ -47,12 +60,22 @@ same-length-4 c = search needs
 
 returns : tie.Need-returns
 returns c =
-    λ aboves loaded. record {
-      is = λ h cs w A. take-law (c .before .before .before .before .before .before .before .before .before .before .before .before .before .before .before .before .before .before .before .before .index .result - 1) A (take-open (c .before .before .before .before .before .before .before .before .before .before .before .before .before .before .before .before .before .before .before .before .before .before .before .before .before .before .before .before .before .before .pre) (c .before .before .before .before .before .before .before .before .before .before .before .before .before .before .before .before .before .before .before .before .index .result - 1) (ap (λ (z : ℕ). z - 1) (c .before .before .before .before .before .before .before .before .before .before .before .before .before .before .before .before .before .before .before .before .index .ensures))) (omega (arith, c .before .before .before .before .before .before .before .before .before .before .before .before .before .before .before .before .before .before .before .before .before .before .before .before .before .before .before .before .before .before .pre .v-from, c .before .before .before .before .before .before .before .before .before .before .before .before .before .before .before .before .before .before .before .before .index .ensures)) (omega (arith, c .before .before .before .before .before .before .before .before .before .before .before .before .before .before .before .before .before .before .before .before .before .before .before .before .before .before .before .before .before .before .pre .tried-to, c .before .before .before .before .before .before .before .before .before .before .before .before .before .before .before .before .before .before .before .before .before .before .before .before .before .before .before .before .before .before .pre .turn-to, c .before .before .before .before .before .before .before .before .before .before .before .before .before .before .before .before .before .before .before .before .before .before .before .before .before .before .before .before .before .before .pre .at .sound .follows .room .few-vertices)) refl (c .before .before .before .before .before .before .before .before .before .before .before .go .ensures aboves loaded) (c .before .before .spread .ensures .0) (c .before .before .spread .ensures .1) (c .before .before .before .before .before .before .before .before .before .before .before .before .before .before .before .before .before .push .ensures) (c .before .lower .ensures .0) (c .before .lower .ensures .1);
-      turn-is = refl;
-      tried-is = c .before .before .before .before .before .before .before .before .before .before .before .before .before .before .before .before .before .push .ensures .len-is;
-      keeps = c .before .before .before .before .before .before .before .before .before .before .before .go .ensures aboves loaded .keeps;
-    }
+    let ok = c .before .before .before .before .before .before .before .before .before .before .before .before .before .before .before .before .before .before .before .before .before .before .before .before .before .before .before .before .before .before .before .pre .0 in
+    let is = c .before .before .before .before .before .before .before .before .before .before .before .before .before .before .before .before .before .before .before .before .before .index in
+    let pushed = c .before .before .before .before .before .before .before .before .before .before .before .before .before .before .before .before .before .before .push .ensures in
+    let moved = c .before .before .before .before .before .before .before .before .before .before .before .shift .ensures in
+    let marked = c .before .before .spread .ensures in
+    let prefix = c .before .lower .ensures in (
+      λ aboves loaded. record {
+        is = λ h cs w A. take-law (is .result - 1) A (take-open ok (is .result - 1) (ap (λ (z : ℕ). z - 1) (is .ensures)))
+            (omega (arith, ok .v-from, is .ensures)) (omega (arith, ok .tried-to, ok .turn-to, ok .at .sound .follows .room .few-vertices)) refl
+            (moved .0 aboves loaded) (marked .0) (marked .1) pushed (prefix .0) (prefix .1);
+        turn-is = refl;
+        tried-is = pushed .len-is;
+        keeps = moved .0 aboves loaded .keeps;
+      },
+      moved .1,
+    )
 
 pub make-move-spec : {M : Type 1} → statement M
 make-move-spec =
@@ -63,10 +86,10 @@ make-move-spec =
     mul-push
     slice-read-push
     push-requires
-    go-requires
+    shift-requires
     spread-requires
     lower-requires
-    add-t24
+    add-t25
     same-length
     same-length-2
     same-length-3

@@ -8,13 +8,17 @@ add-if1 : tie.Need-add-if1
 add-if1 c = search needs
 
 returns : tie.Need-returns
-returns c = next-stop (now (c .before .before .before .args .gains)) (now (c .before .before .before .args .blocks)) (now (c .before .before .before .args .weights)) (now (c .before .before .before .args .loads)) (now (c .before .before .before .args .marks)) (c .before .before .before .args .n) (c .before .before .before .args .k) (c .before .before .before .args .capacity) (c .before .before .before .args .tried) (c .before .before .before .args .kept) (c .if1 .taken)
+returns c =
+    let a = c .before .before .before .args in
+    next-stop (now (a .gains)) (now (a .blocks)) (now (a .weights)) (now (a .loads)) (now (a .marks)) (a .n) (a .k) (a .capacity) (a .tried) (a .kept) (c .if1 .taken)
 
 best-open-requires : tie.Need-best-open-requires
 best-open-requires c κs = search needs
 
 returns-2 : tie.Need-returns-2
-returns-2 c = next-best (now (c .before .before .before .before .before .args .gains)) (now (c .before .before .before .before .before .args .blocks)) (now (c .before .before .before .before .before .args .weights)) (now (c .before .before .before .before .before .args .loads)) (now (c .before .before .before .before .before .args .marks)) (c .before .before .before .before .before .args .n) (c .before .before .before .before .before .args .k) (c .before .before .before .before .before .args .capacity) (c .before .before .before .before .before .args .tried) (c .before .before .before .before .before .args .kept) _ (c .before .before .if1 .left) (c .best-open .ensures)
+returns-2 c =
+    let a = c .before .before .before .before .before .args in
+    next-best (now (a .gains)) (now (a .blocks)) (now (a .weights)) (now (a .loads)) (now (a .marks)) (a .n) (a .k) (a .capacity) (a .tried) (a .kept) _ (c .before .before .if1 .left) (c .best-open .ensures)
 
 pub next-move-spec : {M : Type 1} → statement M
 next-move-spec = tie.close (tie.spec add-if1 returns best-open-requires returns-2)
