@@ -40,7 +40,6 @@ module _ {weights counts counts′ visited visited′ pins blocks blocks′ firs
     (others : (y : ℕ) → y < n → (y ≡ u → ⊥) → getD blocks′ y 0 ≡ getD blocks y 0)
     {bits : List ℕ} (marked : (e : ℕ) → e < m → has pins (getD firsts e 0) (getD sizes e 0) u ≡ true → on bits u e ≡ 1)
     {peaks peaks′ : List ℤ} (p : Peaked gains peaks n k) (l : Lifted gains′ peaks peaks′ counts′ blocks′ pins firsts sizes bits m k u s t) where
-
   -- if the gain of x passed the new peak, no net of u and x would be one for which the peak was lifted
   quiet-over : (x b e : ℕ) → x < n → b < k → (x ≡ u → ⊥) → ltZ (getD peaks′ (x / 64) (pos 0)) (getD gains′ (16 * x + b) (pos 0)) ≡ true → e < m
       → has pins (getD firsts e 0) (getD sizes e 0) u ≡ true → has pins (getD firsts e 0) (getD sizes e 0) x ≡ true → Quiet counts′ blocks s t x b e

@@ -85,9 +85,7 @@ fn next_rise(
     requires { ⌜ Peaked (now gains) (now peaks) n k ⌝ }
     ensures { λ r. ⌜ Chosen (gainIn (now (gains .entry))) n k r (riseOf (now (gains .entry)) (now (blocks .entry)) (now (weights .entry)) (now (loads .entry)) (now (marks .entry)) n k capacity) ⌝ }
 {
-    match best_open(
-        gains, blocks, weights, loads, marks, peaks, n, k, capacity,
-    ) {
+    match best_open(gains, blocks, weights, loads, marks, peaks, n, k, capacity) {
         Pick::Nothing => Pick::Nothing,
         Pick::Move { vertex, block } => {
             if rises(gains, vertex, block) {
@@ -128,9 +126,7 @@ fn pass(
         (lent (now (counts .exit)) (now (visited .exit)) (now (gains .exit)) (now (blocks .exit)) (now (loads .exit)) (now (pins .exit)) (now (sizes .exit)) (now (bits .exit)) (now (weights .exit)) (now (netweights .exit)) (now (firsts .exit)) n m k (r .total) aboves loaded) (r .left) (r .moves)) ⌝ }
     ensures { λ _. ⌜ Peaked (now (gains .exit)) (now (peaks .exit)) n k ⌝ }
 {
-    match next_rise(
-        gains, blocks, weights, loads, marks, peaks, n, k, capacity,
-    ) {
+    match next_rise(gains, blocks, weights, loads, marks, peaks, n, k, capacity) {
         Pick::Nothing => Passes {
             left: 0,
             moves: p.moves,

@@ -79,9 +79,7 @@ fn next_move(
     if kept + 25 <= tried {
         return Pick::Nothing;
     }
-    best_open(
-        gains, blocks, weights, loads, marks, peaks, n, k, capacity,
-    )
+    best_open(gains, blocks, weights, loads, marks, peaks, n, k, capacity)
 }
 
 // One more move, put on the journal.
