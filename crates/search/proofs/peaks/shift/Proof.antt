@@ -1,5 +1,4 @@
 use native.Mathlib.Omega.{arith}
-use denote.Ref.{now}
 use borrow.Author.Needs.{needs}
 use Rattle.search.specs.Peaks.{peaked-move}
 use Rattle.search.specs.Lifting.{lift-asks}
