@@ -10,8 +10,8 @@ use lib.IntN.{ℤ, pos}
 use Rattle.laws.specs.Sum.{foldTo}
 use Rattle.model.specs.Search.{Best, none, best, better, consider, bestPair}
 use Rattle.guarantees.specs.Tops.{Top, best-top}
-use Rattle.choice.specs.JoinLaw.{joined, topTo, joinTo}
-use Rattle.choice.specs.PartnerLaw.{nobody}
+use Rattle.choice.specs.PartnerLaw.{nobody, topTo}
+use Rattle.choice.specs.JoinLaw.{joined, joinTo}
 use Rattle.choice.specs.declared.join.Partner.{Partner}
 use Rattle.choice.specs.declared.join.Join.{Join}
 

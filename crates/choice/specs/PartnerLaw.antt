@@ -1,80 +1,20 @@
--- The best partner of a vertex: the pins of its nets are weighed, and their places in the table cleared, in one pass.
--- Rests on Rating and RatingLaw. Assumes nothing.
+-- The best partner of a vertex: which vertices pass the tests, and the first of the best among those looked at.
+-- Rests on Rating. Assumes nothing.
 use mathlib.Core.Path.{_≡_, refl, sym, ap, ap₂, _∙_, subst}
 use mathlib.Core.Bool.{Bool, true, false, _&&_, and-false, cond}
-use mathlib.Core.Logic.{_⊎_, inl, inr, ⊎-elim}
 use mathlib.Core.List.{List}
-use Prim.Native.Nat.{ℕ, _+_, _-_, _≤_, _<_}
+use Prim.Native.Nat.{ℕ, zero, suc, _+_, _-_, _≤_, _<_}
 use native.Mathlib.Decide.{ℕ-discrete}
 use native.Mathlib.Omega.{arith}
-use borrow.Author.Tests.{eq-eqb, ne-eqb, lt-ltb, le-ltb, lt-leb, le-leb, leb-true, leb-false}
+use borrow.Author.Tests.{eq-eqb, ne-eqb, lt-ltb, le-ltb, ltb-true, ltb-false, lt-leb, le-leb, leb-true, leb-false}
 use lib.Dec.{eqb, ltb, leb}
-use lib.ListN.{length, getD, set, length-set}
-use lib.Seq.{getD-set-same, getD-set-other}
-use Rattle.incidence.specs.On.{on, Next}
+use lib.ListN.{getD}
 use Rattle.laws.specs.Choice.{cond-le}
-use Rattle.laws.specs.Occurrence.{at, same, occ, same-yes, same-no, occ-zero, occ-step}
-use Rattle.choice.specs.Rating.{near, fits, metOf, scoreIn, TakeOk, SelectOk, Swept}
-use Rattle.choice.specs.RatingLaw.{swept-none, swept-more, over-first, over-next}
+use Rattle.choice.specs.Rating.{near, fits, scoreIn}
 use Rattle.choice.specs.declared.join.Partner.{Partner}
 
--- ---- the best partner
+-- ---- the tests of a partner, one by one
 
--- s at y is no better than p: lower, or as high and no earlier
-pub record Ahead (s y : ℕ) (p : Partner) : Type 0 where
-  pub high : s ≤ p .rating
-  pub first : s ≡ p .rating → p .vertex ≤ y
-
-pub record Chose (s y : ℕ) (b r : Partner) : Type 0 where
-  pub from : ((r .rating ≡ s) × (r .vertex ≡ y)) ⊎ ((r .rating ≡ b .rating) × (r .vertex ≡ b .vertex))
-  pub new : Ahead s y r
-  pub old : Ahead (b .rating) (b .vertex) r
-  pub plain : (b .rating ≡ 0 → b .vertex ≡ 0) → r .rating ≡ 0 → r .vertex ≡ 0
-
-ahead-trans : (s y : ℕ) (b r : Partner) → Ahead s y b → Ahead (b .rating) (b .vertex) r → Ahead s y r
-ahead-trans s y b r h k = record { high = omega (arith, h .high, k .high); first = λ q. omega (arith, h .first (omega (arith, h .high, k .high)), k .first (omega (arith, h .high, k .high))) }
-
--- some places of a table of ratings `raw` are cleared, and b is the best of those
-pub record Leading (raw score : ℕ → ℕ) (l : List ℕ) (b : Partner) : Type 0 where
-  pub held : (z : ℕ) → (getD l z 0 ≡ raw z) ⊎ (getD l z 0 ≡ 0)
-  pub ahead : (z : ℕ) → getD l z 0 ≡ 0 → Ahead (score z) z b
-  pub real : b .rating ≡ score (b .vertex)
-  pub plain : b .rating ≡ 0 → b .vertex ≡ 0
-
-pub record FirstMax (score : ℕ → ℕ) (p : Partner) : Type 0 where
-  pub ahead : (z : ℕ) → Ahead (score z) z p
-  pub real : p .rating ≡ score (p .vertex)
-  pub plain : p .rating ≡ 0 → p .vertex ≡ 0
-
-pub cond-none : (b : Bool) → cond {A = ℕ} b 0 0 ≡ 0
-cond-none true = refl
-cond-none false = refl
-
-pub chose-new : (s y : ℕ) (b : Partner) → b .rating < s → Chose s y b (record { rating = s; vertex = y })
-chose-new s y b h = record {
-  from = inl (refl, refl);
-  new = record { high = omega arith; first = λ q. omega arith };
-  old = record { high = omega arith; first = λ q. omega arith };
-  plain = λ k q. omega arith;
-}
-
-pub chose-tie : (s y : ℕ) (b : Partner) → s ≡ b .rating → y < b .vertex → Chose s y b (record { rating = s; vertex = y })
-chose-tie s y b e h = record {
-  from = inl (refl, refl);
-  new = record { high = omega arith; first = λ q. omega arith };
-  old = record { high = omega arith; first = λ q. omega arith };
-  plain = λ k q. omega (arith, k (omega arith));
-}
-
-pub chose-old : (s y : ℕ) (b : Partner) → s ≤ b .rating → (s ≡ b .rating → b .vertex ≤ y) → Chose s y b b
-chose-old s y b e h = record {
-  from = inr (refl, refl);
-  new = record { high = e; first = h };
-  old = record { high = omega arith; first = λ q. omega arith };
-  plain = λ k q. k q;
-}
-
--- the tests of a partner, one by one
 module _ (blocks weights : List ℕ) (u own a limit y : ℕ) where
   abbrev light-enough : Bool
   light-enough = leb (a + getD weights (y - 1) 0) limit
@@ -95,102 +35,82 @@ module _ (blocks weights : List ℕ) (u own a limit y : ℕ) where
       go true q = let k : a + getD weights (y - 1) 0 ≤ limit = leb-true _ _ q in le-leb w (limit - a) (omega arith) ∙ sym q
       go false q = let k : limit < a + getD weights (y - 1) 0 = leb-false _ _ q in lt-leb w (limit - a) (omega arith) ∙ sym q
 
--- the pin y is weighed and its place is cleared
-module _ (test : ℕ → Bool) (raw : ℕ → ℕ) (l : List ℕ) (y : ℕ) (b r : Partner) (h : Leading raw (scoreIn test raw) l b) where
-  abbrev score : ℕ → ℕ
-  score = scoreIn test raw
-
-  leading-more : (l′ : List ℕ) → getD l′ y 0 ≡ 0 → ((z : ℕ) → (z ≡ y → ⊥) → getD l′ z 0 ≡ getD l z 0) → Chose (cond (test y) (getD l y 0) 0) y b r → Leading raw score l′ r
-  leading-more l′ gone rest c = record {
-    held = λ z. held z (ℕ-discrete z y);
-    ahead = λ z q. ahead z q (ℕ-discrete z y);
-    real = ⊎-elim (λ e. real-new e (h .held y)) (λ e. e .0 ∙ h .real ∙ ap score (sym (e .1))) (c .from);
-    plain = c .plain (h .plain);
-  }
-    where
-      held : (z : ℕ) → Dec (z ≡ y) → (getD l′ z 0 ≡ raw z) ⊎ (getD l′ z 0 ≡ 0)
-      held z (yes q) = inr (ap (λ (k : ℕ). getD l′ k 0) q ∙ gone)
-      held z (no n) = rw (rest z n) (h .held z)
-
-      fresh : getD l y 0 ≡ raw y → cond (test y) (getD l y 0) 0 ≡ score y
-      fresh q = ap (λ (k : ℕ). cond (test y) k 0) q
-
-      ahead-y : (getD l y 0 ≡ raw y) ⊎ (getD l y 0 ≡ 0) → Ahead (score y) y r
-      ahead-y (inl q) = subst (λ (k : ℕ). Ahead k y r) (fresh q) (c .new)
-      ahead-y (inr q) = ahead-trans (score y) y b r (h .ahead y q) (c .old)
-
-      ahead : (z : ℕ) → getD l′ z 0 ≡ 0 → Dec (z ≡ y) → Ahead (score z) z r
-      ahead z q (yes e) = subst (λ (k : ℕ). Ahead (score k) k r) (sym e) (ahead-y (h .held y))
-      ahead z q (no n) = ahead-trans (score z) z b r (h .ahead z (sym (rest z n) ∙ q)) (c .old)
-
-      real-new : (r .rating ≡ cond (test y) (getD l y 0) 0) × (r .vertex ≡ y) → (getD l y 0 ≡ raw y) ⊎ (getD l y 0 ≡ 0) → r .rating ≡ score (r .vertex)
-      real-new e (inl q) = e .0 ∙ fresh q ∙ ap score (sym (e .1))
-      real-new e (inr q) =
-          let none : r .rating ≡ 0 = e .0 ∙ ap (λ (k : ℕ). cond (test y) k 0) q ∙ cond-none (test y) in
-          let low : score y ≤ r .rating = ahead-y (inr q) .high in
-          let zero-y : score y ≡ 0 = omega arith in
-          none ∙ sym zero-y ∙ ap score (sym (e .1))
-
-pub swept-set : (l : List ℕ) (y : ℕ) → length l ≡ 1025 → y ≤ 1024 → Swept l (set l y 0) (same y)
-swept-set l y len small = record {
-  gone = λ z q. gone z q (ℕ-discrete y z);
-  rest = λ z q. getD-set-other l y z 0 0 (λ e. omega (arith, same-yes y z (sym e)));
-  len = length-set l y 0 ∙ len;
-}
-  where
-    gone : (z : ℕ) → 1 ≤ same y z → Dec (y ≡ z) → getD (set l y 0) z 0 ≡ 0
-    gone z q (yes e) = rw (← e) (getD-set-same l y 0 0 (omega arith))
-    gone z q (no n) = absurd (omega (arith, same-no y z n))
-
--- what weighing some pins does: whatever the ratings were, the best of the cleared ones is still known
-abbrev pub Weighed : (ℕ → Bool) → List ℕ → List ℕ → Partner → Partner → Type 0
-Weighed test l l′ b r = (raw : ℕ → ℕ) → Leading raw (scoreIn test raw) l b → Leading raw (scoreIn test raw) l′ r
-
-module _ (test : ℕ → Bool) (l : List ℕ) (y : ℕ) (b : Partner) (len : length l ≡ 1025) (small : y ≤ 1024) where
-  weighed-by : (r : Partner) → ((b .rating ≡ 0 → b .vertex ≡ 0) → Chose (cond (test y) (getD l y 0) 0) y b r) → Weighed test l (set l y 0) b r
-  weighed-by r c raw h = leading-more test raw l y b r h (set l y 0) (getD-set-same l y 0 0 (omega arith)) (λ z n. getD-set-other l y z 0 0 n) (c (h .plain))
-
-  -- it rates lower than the best before it
-  pub weighed-low : getD l y 0 < b .rating → Weighed test l (set l y 0) b b
-  weighed-low lt = weighed-by b (λ _. let le : cond (test y) (getD l y 0) 0 ≤ getD l y 0 = cond-le (test y) (getD l y 0) (getD l y 0) (omega arith) in chose-old _ y b (omega arith) (λ q. absurd (omega arith)))
-
-  -- it fails the test
-  pub weighed-unfit : test y ≡ false → Weighed test l (set l y 0) b b
-  weighed-unfit q = weighed-by b (λ plain. subst (λ (t : Bool). Chose (cond t (getD l y 0) 0) y b b) (sym q) (chose-old 0 y b (omega arith) (λ e. omega (arith, plain (sym e)))))
-
-  -- it passes
-  pub weighed-fit : (r : Partner) → test y ≡ true → Chose (getD l y 0) y b r → Weighed test l (set l y 0) b r
-  weighed-fit r q c = weighed-by r (λ _. subst (λ (t : Bool). Chose (cond t (getD l y 0) 0) y b r) (sym q) c)
-
-pub sweep-none : (l pins : List ℕ) (f : ℕ) → length l ≡ 1025 → Swept l l (occ pins f 0)
-sweep-none l pins f h = swept-none l _ h (occ-zero pins f)
-
-pub sweep-more : (l l′ l″ pins : List ℕ) (f i y : ℕ) → Swept l l′ (occ pins f i) → y ≡ at pins f i → Swept l′ l″ (same y) → Swept l l″ (occ pins f (i + 1))
-sweep-more l l′ l″ pins f i y r e h = swept-more l l′ l″ _ _ _ r h (λ z. occ-step pins f i z ∙ ap (λ (k : ℕ). occ pins f i z + same k z) (sym e))
+-- ---- the first of the best
 
 -- no partner
 abbrev pub nobody : Partner
 nobody = record { rating = 0; vertex = 0 }
 
-module _ (bits pins firsts sizes blocks weights : List ℕ) (u m n : ℕ) (ok : SelectOk bits pins firsts sizes blocks weights m n) where
-  abbrev met : ℕ → ℕ → ℕ
-  met = metOf bits pins firsts sizes u
+-- y, of score s, where that is higher than the best before it
+abbrev pub topped : ℕ → ℕ → Partner → Partner
+topped s y b = cond (ltb (b .rating) s) (record { rating = s; vertex = y }) b
 
-  pub met-none : (l : List ℕ) (e : ℕ) → length l ≡ 1025 → Next bits (u - 1) 0 m e → Swept l l (met e)
-  met-none l e h k = swept-none l (met e) h (λ z. over-first bits (u - 1) _ m e k)
+-- the first maximum of score 1 .. score k
+unfoldable pub topTo : (ℕ → ℕ) → ℕ → Partner
+topTo score zero = nobody
+topTo score (suc k) = topped (score (suc k)) (suc k) (topTo score k)
 
-  pub met-stretch : (len e f s : ℕ) → e < m → len ≡ 1025 → f ≡ getD firsts e 0 → s ≡ getD sizes e 0 → TakeOk len pins (length blocks) f s × TakeOk len pins (length weights) f s
-  met-stretch len e f s h full ef es = (within (length blocks) (ok .in-blocks), within (length weights) (ok .in-weights))
-    where
-      within : (other : ℕ) → n ≤ other → TakeOk len pins other f s
-      within other room = subst (λ (k : ℕ). TakeOk len pins other k s) (sym ef) (subst (λ (k : ℕ). TakeOk len pins other (getD firsts e 0) k) (sym es) (record {
-        full = full;
-        stretch = ok .stretch e h;
-        pin = λ i k. (ok .pin e h i k .0, omega (arith, ok .pin e h i k .1, ok .vertices), omega (arith, ok .pin e h i k .1));
-      }))
+-- one more place, as code counts
+pub top-step : (score : ℕ → ℕ) (k : ℕ) → topTo score (k + 1) ≡ topped (score (k + 1)) (k + 1) (topTo score k)
+unfolding topTo
+top-step score k = let e : k + 1 ≡ suc k = omega arith in rw (e)
 
-  pub met-more : (l0 l l′ : List ℕ) (e e′ f s : ℕ) → Swept l0 l (met e) → on bits (u - 1) e ≡ 1 → f ≡ getD firsts e 0 → s ≡ getD sizes e 0 → Swept l l′ (occ pins f s) → Next bits (u - 1) (e + 1) m e′ → Swept l0 l′ (met e′)
-  met-more l0 l l′ e e′ f s r here ef es h k = swept-more l0 l l′ (met e) _ (met e′) r h (λ z. over-next bits (u - 1) _ m e e′ here k ∙ ap (λ (q : ℕ). met e z + q) (same-net z))
-    where
-      same-net : (z : ℕ) → occ pins (getD firsts e 0) (getD sizes e 0) z ≡ occ pins f s z
-      same-net z = rw (ef, es)
+-- by equal scores it is the same, and without any there is nobody
+pub top-ext : (f g : ℕ → ℕ) → ((z : ℕ) → f z ≡ g z) → (k : ℕ) → topTo f k ≡ topTo g k
+unfolding topTo
+top-ext f g h zero = refl
+top-ext f g h (suc k) = ap₂ {A = ℕ} {B = Partner} {C = Partner} (λ s b. topped s (suc k) b) (h (suc k)) (top-ext f g h k)
+
+pub top-nobody : (score : ℕ → ℕ) (k : ℕ) → ((z : ℕ) → z ≤ k → score z ≡ 0) → topTo score k ≡ nobody
+unfolding topTo
+top-nobody score zero h = refl
+top-nobody score (suc k) h = ap₂ {A = ℕ} {B = Partner} {C = Partner} (λ s b. topped s (suc k) b) (h (suc k) (omega arith)) (top-nobody score k (λ z l. h z (omega arith)))
+
+-- no place is over it, and it is under what all places are under
+pub top-over : (score : ℕ → ℕ) (n z : ℕ) → 1 ≤ z → z ≤ n → score z ≤ topTo score n .rating
+unfolding topTo
+top-over score zero z l h = absurd (omega arith)
+top-over score (suc n) z l h = go (top-over score n z l) (ltb (topTo score n .rating) (score (suc n))) refl (ℕ-discrete z (suc n))
+  where
+    go : (z ≤ n → score z ≤ topTo score n .rating) → (b : Bool) → ltb (topTo score n .rating) (score (suc n)) ≡ b → Dec (z ≡ suc n) → score z ≤ cond b (record { rating = score (suc n); vertex = suc n }) (topTo score n) .rating
+    go old true e (yes q) = omega (arith, ap score q)
+    go old true e (no q) = omega (arith, old (omega arith), ltb-true (topTo score n .rating) (score (suc n)) e)
+    go old false e (yes q) = omega (arith, ap score q, ltb-false (topTo score n .rating) (score (suc n)) e)
+    go old false e (no q) = old (omega arith)
+
+pub top-under : (score : ℕ → ℕ) (b n : ℕ) → ((z : ℕ) → 1 ≤ z → z ≤ n → score z ≤ b) → topTo score n .rating ≤ b
+unfolding topTo
+top-under score b zero h = omega arith
+top-under score b (suc n) h = go (top-under score b n (λ z l q. h z l (omega arith))) (ltb (topTo score n .rating) (score (suc n)))
+  where
+    go : topTo score n .rating ≤ b → (t : Bool) → cond t (record { rating = score (suc n); vertex = suc n }) (topTo score n) .rating ≤ b
+    go old true = h (suc n) (omega arith) (omega arith)
+    go old false = old
+
+-- ---- one vertex weighed
+
+module _ (s y : ℕ) (b : Partner) where
+  -- it rates no higher than the best before it
+  pub weighed-low : (t : Bool) → s ≤ b .rating → b ≡ topped (cond t s 0) y b
+  weighed-low t h = sym (ap (λ (p : Bool). cond {A = Partner} p (record { rating = cond t s 0; vertex = y }) b) (le-ltb (b .rating) (cond t s 0) (omega (arith, cond-le t s s (omega arith)))))
+
+  -- it rates higher and passes the tests
+  pub weighed-fit : (t : Bool) → t ≡ true → b .rating < s → record { rating = s; vertex = y } ≡ topped (cond t s 0) y b
+  weighed-fit t q h = subst (λ (t : Bool). record { rating = s; vertex = y } ≡ topped (cond t s 0) y b) (sym q) (sym (ap (λ (p : Bool). cond {A = Partner} p (record { rating = s; vertex = y }) b) (lt-ltb (b .rating) s h)))
+
+  -- it fails one
+  pub weighed-unfit : (t : Bool) → t ≡ false → b ≡ topped (cond t s 0) y b
+  weighed-unfit t q = subst (λ (t : Bool). b ≡ topped (cond t s 0) y b) (sym q) (sym (ap (λ (p : Bool). cond {A = Partner} p (record { rating = 0; vertex = y }) b) (le-ltb (b .rating) 0 (omega arith))))
+
+-- ---- the loop over the vertices after u
+
+module _ (acc blocks weights : List ℕ) (u own a limit : ℕ) where
+  abbrev score : ℕ → ℕ
+  score = scoreIn (fits blocks weights u own a limit) (λ z. getD acc z 0)
+
+  -- none up to u may be the partner
+  pub select-none : nobody ≡ topTo score u
+  select-none = sym (top-nobody score u (λ z l. ap (λ (t : Bool). cond t (getD acc z 0) 0) (sym (fits-early blocks weights u own a limit z l))))
+
+  pub select-more : (y : ℕ) (b r : Partner) → b ≡ topTo score y → r ≡ topped (score (y + 1)) (y + 1) b → r ≡ topTo score (y + 1)
+  select-more y b r e h = h ∙ ap (topped (score (y + 1)) (y + 1)) e ∙ sym (top-step score y)

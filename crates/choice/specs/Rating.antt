@@ -34,10 +34,6 @@ rowOf bits pins firsts sizes netWeights u m z = over bits (u - 1) m (λ e. termO
 abbrev pub ownSum : (bits sizes netWeights : List ℕ) (u m : ℕ) → ℕ
 ownSum bits sizes netWeights u m = over bits (u - 1) m (λ e. termOf (getD netWeights e 0) (getD sizes e 0))
 
--- how often the nets of u below m have the pin z
-abbrev pub metOf : (bits pins firsts sizes : List ℕ) (u m : ℕ) → ℕ → ℕ
-metOf bits pins firsts sizes u m z = over bits (u - 1) m (λ e. occ pins (getD firsts e 0) (getD sizes e 0) z)
-
 -- the rating where z passes the test, else 0
 abbrev pub scoreIn : (ℕ → Bool) → (ℕ → ℕ) → ℕ → ℕ
 scoreIn test raw z = cond (test z) (raw z) 0
@@ -97,30 +93,19 @@ pub record OwnOk (bits sizes netWeights : List ℕ) (u m : ℕ) : Type 0 where
   pub in-netWeights : m ≤ length netWeights
   pub light : (e : ℕ) → e < m → getD netWeights e 0 ≤ 65535
 
--- what the weighing needs of them
-pub record SelectOk (bits pins firsts sizes blocks weights : List ℕ) (m n : ℕ) : Type 0 where
-  pub rows : 16 * n ≤ length bits
-  pub nets : m ≤ 1024
-  pub vertices : n ≤ 1024
-  pub in-firsts : m ≤ length firsts
-  pub in-sizes : m ≤ length sizes
-  pub in-blocks : n ≤ length blocks
-  pub in-weights : n ≤ length weights
-  pub stretch : (e : ℕ) → e < m → getD firsts e 0 + getD sizes e 0 ≤ length pins
-  pub pin : (e : ℕ) → e < m → (i : ℕ) → i < getD sizes e 0 → (1 ≤ at pins (getD firsts e 0) i) × (at pins (getD firsts e 0) i ≤ n)
-
 -- the table of ratings before and after each use: all 0
 pub record Blank (l : List ℕ) : Type 0 where
   pub len : length l ≡ 1025
   pub zeros : (z : ℕ) → getD l z 0 ≡ 0
 
--- ---- the table raised by d, and swept where d is above 0
+-- ---- the table raised by d, and cleared
 
 pub record Raised (l l′ : List ℕ) (d : ℕ → ℕ) : Type 0 where
   pub here : (z : ℕ) → getD l′ z 0 ≡ getD l z 0 + d z
   pub len : length l′ ≡ 1025
 
-pub record Swept (l l′ : List ℕ) (d : ℕ → ℕ) : Type 0 where
-  pub gone : (z : ℕ) → 1 ≤ d z → getD l′ z 0 ≡ 0
-  pub rest : (z : ℕ) → d z ≡ 0 → getD l′ z 0 ≡ getD l z 0
+-- the places 1 .. n are 0, and each that was 0 still is
+pub record Cleared (l l′ : List ℕ) (n : ℕ) : Type 0 where
+  pub gone : (z : ℕ) → 1 ≤ z → z ≤ n → getD l′ z 0 ≡ 0
+  pub still : (z : ℕ) → getD l z 0 ≡ 0 → getD l′ z 0 ≡ 0
   pub len : length l′ ≡ 1025

@@ -1,5 +1,5 @@
--- Laws of the table that ratings are added up in: one pin, one net, all nets of a vertex; and that no rating passes the sum of the
--- vertex's own terms. Rests on Rating. Assumes nothing.
+-- Laws of the table that ratings are added up in: one pin, one net, all nets of a vertex; how it is cleared; and that no rating passes the
+-- sum of the vertex's own terms. Rests on Rating. Assumes nothing.
 use mathlib.Core.Path.{_≡_, refl, sym, ap, _∙_, subst}
 use mathlib.Core.Bool.{Bool, true, false, cond}
 use mathlib.Core.List.{List}
@@ -13,8 +13,8 @@ use lib.ListN.{length, getD, set, length-set}
 use lib.Seq.{getD-set-same, getD-set-other}
 use Rattle.incidence.specs.On.{on, Next}
 use Rattle.laws.specs.Occurrence.{at, same, occ, same-yes, same-no, occ-zero, occ-step, occ-more}
-use Rattle.laws.specs.Sum.{sum, sum-step, sum-nil, sum-mono, sum-skip, term-le}
-use Rattle.choice.specs.Rating.{termOf, over, rowOf, ownSum, StretchOk, TablesOk, RowOk, OwnOk, Blank, Raised, Swept}
+use Rattle.laws.specs.Sum.{sum, sum-step, sum-nil, sum-mono, sum-skip}
+use Rattle.choice.specs.Rating.{termOf, over, rowOf, ownSum, StretchOk, TablesOk, RowOk, OwnOk, Blank, Raised, Cleared}
 
 pub raised-none : (l : List ℕ) (d : ℕ → ℕ) → length l ≡ 1025 → ((z : ℕ) → d z ≡ 0) → Raised l l d
 raised-none l d h k = record { here = λ z. omega (arith, k z); len = h }
@@ -22,19 +22,21 @@ raised-none l d h k = record { here = λ z. omega (arith, k z); len = h }
 pub raised-more : (l l′ l″ : List ℕ) (d d′ d″ : ℕ → ℕ) → Raised l l′ d → Raised l′ l″ d′ → ((z : ℕ) → d″ z ≡ d z + d′ z) → Raised l l″ d″
 raised-more l l′ l″ d d′ d″ r s k = record { here = λ z. omega (arith, r .here z, s .here z, k z); len = s .len }
 
-pub swept-none : (l : List ℕ) (d : ℕ → ℕ) → length l ≡ 1025 → ((z : ℕ) → d z ≡ 0) → Swept l l d
-swept-none l d h k = record { gone = λ z q. absurd (omega (arith, k z)); rest = λ z q. refl; len = h }
+-- ---- the loop that clears
 
-pub swept-more : (l l′ l″ : List ℕ) (d d′ d″ : ℕ → ℕ) → Swept l l′ d → Swept l′ l″ d′ → ((z : ℕ) → d″ z ≡ d z + d′ z) → Swept l l″ d″
-swept-more l l′ l″ d d′ d″ r s k = record {
-  gone = λ z q. go z q (ℕ-discrete (d′ z) 0);
-  rest = λ z q. s .rest z (omega (arith, k z)) ∙ r .rest z (omega (arith, k z));
-  len = s .len;
+pub cleared-none : (l : List ℕ) → length l ≡ 1025 → Cleared l l 0
+cleared-none l len = record { gone = λ z a b. absurd (omega arith); still = λ z q. q; len = len }
+
+pub cleared-more : (l0 l : List ℕ) (i : ℕ) → i < 1024 → Cleared l0 l i → Cleared l0 (set l (i + 1) 0) (i + 1)
+cleared-more l0 l i h c = record {
+  gone = λ z a b. change z (λ n. c .gone z a (omega arith)) (ℕ-discrete z (i + 1));
+  still = λ z q. change z (λ n. c .still z q) (ℕ-discrete z (i + 1));
+  len = length-set l (i + 1) 0 ∙ c .len;
 }
   where
-    go : (z : ℕ) → 1 ≤ d″ z → Dec (d′ z ≡ 0) → getD l″ z 0 ≡ 0
-    go z q (yes e) = s .rest z e ∙ r .gone z (omega (arith, k z))
-    go z q (no e) = s .gone z (omega arith)
+    change : (z : ℕ) → ((z ≡ i + 1 → ⊥) → getD l z 0 ≡ 0) → Dec (z ≡ i + 1) → getD (set l (i + 1) 0) z 0 ≡ 0
+    change z old (yes q) = ap (λ (k : ℕ). getD (set l (i + 1) 0) k 0) q ∙ getD-set-same l (i + 1) 0 0 (omega (arith, c .len))
+    change z old (no q) = getD-set-other l (i + 1) z 0 0 q ∙ old q
 
 -- ---- the term of a net
 
@@ -106,15 +108,7 @@ over-le bits x m G h = sum-45 m _ (λ e q. go (eqb (on bits x e) 1) e q)
     go true e q = h e q
     go false e q = omega arith
 
--- ---- nothing met, nothing added
-
-pub over-off : (bits : List ℕ) (x m : ℕ) (G H : ℕ → ℕ) → ((e : ℕ) → e < m → G e ≡ 0 → H e ≡ 0) → over bits x m G ≡ 0 → over bits x m H ≡ 0
-unfolding over
-over-off bits x m G H k e = sum-nil m _ (λ i h. go i h (eqb (on bits x i) 1) (omega (arith, term-le m i (λ e. cond (eqb (on bits x e) 1) (G e) 0) h)))
-  where
-    go : (i : ℕ) → i < m → (b : Bool) → cond b (G i) 0 ≡ 0 → cond b (H i) 0 ≡ 0
-    go i h true q = k i h q
-    go i h false q = refl
+-- ---- nothing to add
 
 pub over-nil : (bits : List ℕ) (x m : ℕ) (G : ℕ → ℕ) → ((e : ℕ) → e < m → G e ≡ 0) → over bits x m G ≡ 0
 unfolding over

@@ -12,7 +12,8 @@ use lib.ListN.{length, getD, set, length-set}
 use lib.Seq.{getD-set-same, getD-set-other}
 use Rattle.laws.specs.Sum.{sum, sum-change}
 use Rattle.choice.specs.Bound.{Bounded, Highest}
-use Rattle.choice.specs.JoinLaw.{topTo, joinTo, top-over, top-under, join-under, join-at}
+use Rattle.choice.specs.PartnerLaw.{topTo, top-over, top-under}
+use Rattle.choice.specs.JoinLaw.{joinTo, join-under, join-at}
 use Rattle.choice.specs.JoinPair.{BestJoin, joinOf-none, best-join}
 use Rattle.choice.specs.declared.join.Join.{Join}
 

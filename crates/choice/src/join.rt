@@ -2,16 +2,14 @@
 // block. The table `acc` is all 0 between calls; `bounds` spares most vertices the rating.
 use crate::bounds::highest;
 use crate::bounds::lift;
-use crate::numbers::wide;
 use crate::numbers::wide32;
 use crate::rating::accumulate;
-use incidence::next_net;
 ghost use mathlib.Core.Path.{_≡_};
+ghost use mathlib.Core.Bool.{cond};
 ghost use Prim.Native.Nat.{_-_, _≤_};
 ghost use lib.ListN.{length, getD};
-ghost use Rattle.laws.specs.Occurrence.{same, occ};
-ghost use Rattle.choice.specs.Rating.{metOf, fits, scoreOf, Swept, TakeOk, TablesOk, SelectOk, Blank};
-ghost use Rattle.choice.specs.PartnerLaw.{Chose, Weighed, nobody};
+ghost use Rattle.choice.specs.Rating.{fits, scoreIn, scoreOf, TablesOk, Blank, Cleared};
+ghost use Rattle.choice.specs.PartnerLaw.{topped, topTo};
 ghost use Rattle.choice.specs.JoinLaw.{PartnerOf};
 ghost use Rattle.choice.specs.JoinPair.{BestJoin};
 ghost use Rattle.choice.specs.Bound.{Bounded, Planned, riseOf};
@@ -63,33 +61,8 @@ fn may_join(
     wide32(weights[y - 1]) <= limit - a
 }
 
-// The better of `y`, of rating `s`, and the best before it.
-fn choose(s: u64, y: usize, best: Partner) -> Partner
-    ensures { λ r. ⌜ Chose s y best r ⌝ }
-{
-    let rating = best.rating;
-    let vertex = best.vertex;
-    if rating < s {
-        return Partner {
-            rating: s,
-            vertex: y,
-        };
-    }
-    if s < rating {
-        return best;
-    }
-    if vertex <= y {
-        return best;
-    }
-    Partner {
-        rating: s,
-        vertex: y,
-    }
-}
-
-// Weighs the pin `y`, and clears its place. Few pins rate as high as the best before them, so that this is tested first.
-fn take_pin(
-    acc: &mut [u64; 1025],
+// The better of `y`, of rating `s`, and the best before it. Few rate higher than the best before them, so that this is tested first.
+fn weigh_partner(
     blocks: &[u16],
     weights: &[u32],
     u: usize,
@@ -97,79 +70,37 @@ fn take_pin(
     a: u64,
     limit: u64,
     y: usize,
+    s: u64,
     best: Partner,
 ) -> Partner
-    requires { ⌜ (length (now acc) ≡ 1025) × (1 ≤ y) × (y ≤ 1024) × (y ≤ length (now blocks)) × (y ≤ length (now weights)) ⌝ }
-    ensures { λ r. ⌜ Swept (now (acc .entry)) (now (acc .exit)) (same y) ⌝ }
-    ensures { λ r. ⌜ Weighed (fits (now (blocks .entry)) (now (weights .entry)) u own a limit) (now (acc .entry)) (now (acc .exit)) best r ⌝ }
+    requires { ⌜ (1 ≤ y) × (y ≤ length (now blocks)) × (y ≤ length (now weights)) ⌝ }
+    ensures { λ r. ⌜ r ≡ topped (cond (fits (now (blocks .entry)) (now (weights .entry)) u own a limit y) s 0) y best ⌝ }
 {
-    let s = acc[y];
-    acc[y] = 0;
     let high = best.rating;
-    if s < high {
+    if s <= high {
         return best;
     }
     if may_join(blocks, weights, u, own, a, limit, y) {
-        return choose(s, y, best);
+        return Partner {
+            rating: s,
+            vertex: y,
+        };
     }
     best
 }
 
-// Weighs and clears the pins of a net.
-fn take_net(
-    acc: &mut [u64; 1025],
-    pins: &[u16],
-    blocks: &[u16],
-    weights: &[u32],
-    u: usize,
-    own: u16,
-    a: u64,
-    limit: u64,
-    first: usize,
-    n: usize,
-    before: Partner,
-) -> Partner
-    requires { ⌜ TakeOk (length (now acc)) (now pins) (length (now blocks)) first n × TakeOk (length (now acc)) (now pins) (length (now weights)) first n ⌝ }
-    ensures { λ r. ⌜ Swept (now (acc .entry)) (now (acc .exit)) (occ (now (pins .entry)) first n) ⌝ }
-    ensures { λ r. ⌜ Weighed (fits (now (blocks .entry)) (now (weights .entry)) u own a limit) (now (acc .entry)) (now (acc .exit)) before r ⌝ }
-{
-    let mut best = before;
-    let mut i = 0;
-    while i < n {
-        best = take_pin(
-            acc,
-            blocks,
-            weights,
-            u,
-            own,
-            a,
-            limit,
-            wide(pins[first + i]),
-            best,
-        );
-        i += 1;
-    }
-    best
-}
-
-// Weighs the pins of all nets of `u`, and clears the places.
+// The best partner of `u` by the ratings in `acc`: only the vertices after it may be, and of equals the first is kept.
 fn select(
-    acc: &mut [u64; 1025],
-    bits: &[u64],
-    pins: &[u16],
-    firsts: &[u16],
-    sizes: &[u16],
+    acc: &[u64; 1025],
     blocks: &[u16],
     weights: &[u32],
     limit: u64,
     u: usize,
-    m: usize,
     n: usize,
 ) -> Partner
-    requires { ⌜ SelectOk (now bits) (now pins) (now firsts) (now sizes) (now blocks) (now weights) m n ⌝ }
-    requires { ⌜ (length (now acc) ≡ 1025) × (1 ≤ u) × (u ≤ n) ⌝ }
-    ensures { λ r. ⌜ Swept (now (acc .entry)) (now (acc .exit)) (metOf (now (bits .entry)) (now (pins .entry)) (now (firsts .entry)) (now (sizes .entry)) u m) ⌝ }
-    ensures { λ r. ⌜ Weighed (fits (now (blocks .entry)) (now (weights .entry)) u (getD (now (blocks .entry)) (u - 1) 0) (getD (now (weights .entry)) (u - 1) 0) limit) (now (acc .entry)) (now (acc .exit)) nobody r ⌝ }
+    requires { ⌜ (length (now acc) ≡ 1025) × (1 ≤ u) × (u ≤ n) × (n ≤ 1024) ⌝ }
+    requires { ⌜ (n ≤ length (now blocks)) × (n ≤ length (now weights)) ⌝ }
+    ensures { λ r. ⌜ r ≡ topTo (scoreIn (fits (now (blocks .entry)) (now (weights .entry)) u (getD (now (blocks .entry)) (u - 1) 0) (getD (now (weights .entry)) (u - 1) 0) limit) (λ z. getD (now (acc .entry)) z 0)) n ⌝ }
 {
     let own = blocks[u - 1];
     let a = wide32(weights[u - 1]);
@@ -177,24 +108,24 @@ fn select(
         rating: 0,
         vertex: 0,
     };
-    let mut e = next_net(bits, u - 1, 0, m);
-    while e < m {
-        best = take_net(
-            acc,
-            pins,
-            blocks,
-            weights,
-            u,
-            own,
-            a,
-            limit,
-            wide(firsts[e]),
-            wide(sizes[e]),
-            best,
-        );
-        e = next_net(bits, u - 1, e + 1, m);
+    let mut y = u;
+    while y < n {
+        best = weigh_partner(blocks, weights, u, own, a, limit, y + 1, acc[y + 1], best);
+        y += 1;
     }
     best
+}
+
+// Clears the places of the `n` vertices.
+fn clear(acc: &mut [u64; 1025], n: usize)
+    requires { ⌜ (length (now acc) ≡ 1025) × (n ≤ 1024) ⌝ }
+    ensures { λ _. ⌜ Cleared (now (acc .entry)) (now (acc .exit)) n ⌝ }
+{
+    let mut i = 0;
+    while i < n {
+        acc[i + 1] = 0;
+        i += 1;
+    }
 }
 
 // The best partner of `u` among the vertices after it; `acc` is all 0 before and after.
@@ -217,19 +148,9 @@ fn best_partner(
     ensures { λ r. ⌜ PartnerOf (scoreOf (now (bits .entry)) (now (pins .entry)) (now (firsts .entry)) (now (sizes .entry)) (now (netWeights .entry)) (now (blocks .entry)) (now (weights .entry)) m limit u) n (now (acc .exit)) r ⌝ }
 {
     accumulate(acc, bits, pins, firsts, sizes, netWeights, u, m, n);
-    select(
-        acc,
-        bits,
-        pins,
-        firsts,
-        sizes,
-        blocks,
-        weights,
-        limit,
-        u,
-        m,
-        n,
-    )
+    let best = select(acc, blocks, weights, limit, u, n);
+    clear(acc, n);
+    best
 }
 
 // Finds the best partner of `u`; its rating is then u's bound.
