@@ -1,9 +1,10 @@
 -- `select`: the best of the vertices up to y.
 use Prim.Native.Nat.{ℕ, _≤_, _-_}
-use mathlib.Core.Path.{subst, _≡_}
+use mathlib.Core.Path.{_≡_, ap₂, _∙_}
 use lib.ListN.{getD}
 use Rattle.choice.specs.Rating.{fits, scoreIn}
 use Rattle.choice.specs.PartnerLaw.{topTo, select-none, select-more}
+use Rattle.choice.specs.declared.join.Partner.{Partner}
 use native.Mathlib.Omega.{arith}
 use denote.Ref.{now}
 use borrow.Author.Needs.{needs}
@@ -74,8 +75,7 @@ returns c =
     let a = c .before .before .before .before .before .before .before .args in
     let l = c .before .loop in
     let e : l .y ≡ a .n = omega (arith, l .inv .0) in
-    subst (λ (k : ℕ). l .best ≡ topTo (scoreIn (fits (now (a .blocks)) (now (a .weights)) (a .u) (getD (now (a .blocks)) (a .u - 1) 0) k (a .limit)) (λ z. getD (now (a .acc)) z 0)) (a .n)) (c .before .before .wide32 .ensures)
-    (subst (λ (k : ℕ). l .best ≡ topTo (scoreIn (fits (now (a .blocks)) (now (a .weights)) (a .u) (getD (now (a .blocks)) (a .u - 1) 0) (c .before .before .wide32 .result) (a .limit)) (λ z. getD (now (a .acc)) z 0)) k) e (l .inv .1))
+    l .inv .1 ∙ ap₂ {A = ℕ} {B = ℕ} {C = Partner} (λ k i. topTo (scoreIn (fits (now (a .blocks)) (now (a .weights)) (a .u) (getD (now (a .blocks)) (a .u - 1) 0) k (a .limit)) (λ z. getD (now (a .acc)) z 0)) i) (c .before .before .wide32 .ensures) e
 
 pub select-spec : {M : Type 1} → statement M
 select-spec =

@@ -11,7 +11,7 @@ use Rattle.choice.proofs.join.weigh_partner.Tie as tie
 returns : tie.Need-returns
 returns c =
     let a = c .before .before .before .args in
-    weighed-low (a .s) (a .y) (a .best) (fits (now (a .blocks)) (now (a .weights)) (a .u) (a .own) (a .a) (a .limit) (a .y)) (c .if1 .taken)
+    weighed-low (a .s) (a .y) (a .best) (fits (now (a .blocks)) (now (a .weights)) (a .u) (a .own) (a .a) (a .limit) (a .y)) (omega (arith, c .if1 .taken))
 
 may-join-requires : tie.Need-may-join-requires
 may-join-requires c κs = search needs
