@@ -5,7 +5,6 @@ use crate::marks::spread;
 use crate::numbers::index;
 use crate::peaks::shift;
 use calls::moves::go;
-use calls::pairs::Journal;
 use choice::open::Pick;
 use choice::open::best_open;
 use choice::peaks::survey;
@@ -27,10 +26,10 @@ pub struct Walked {
     pub total: u32,
 }
 
-// A walk on its way. `turn` counts the moves made, and is the number of vertices once the walk has ended.
+// A walk on its way. `tried` counts the moves made; `turn` does too, and is the number of vertices once the walk has ended.
 struct Steps {
-    journal: Journal,
     turn: usize,
+    tried: usize,
     kept: usize,
     low: u32,
     total: u32,
@@ -82,7 +81,7 @@ fn next_move(
     best_open(gains, blocks, weights, loads, marks, peaks, n, k, capacity)
 }
 
-// One more move, put on the journal.
+// One more move, put on the journal: `movers[i]` left the block `origins[i]`. The journal is lent, since to copy it with each move takes time.
 fn make_move(
     counts: &mut [u16],
     visited: &mut [u16],
@@ -91,6 +90,8 @@ fn make_move(
     loads: &mut [u64; 16],
     marks: &mut [u64; 48],
     peaks: &mut [i32; 16],
+    movers: &mut [u16; 1024],
+    origins: &mut [u16; 1024],
     pins: &[u16],
     sizes: &[u16],
     bits: &[u64],
@@ -104,15 +105,17 @@ fn make_move(
     b: u16,
     s: Steps,
 ) -> Steps
-    requires { ⌜ TakeOk (lent (now counts) (now visited) (now gains) (now blocks) (now loads) (now pins) (now sizes) (now bits) (now weights) (now netweights) (now firsts) n m k (s .total)) (locals (now marks) (s .journal .vertices) (s .journal .blocks) (s .journal .len) (s .kept) (s .low)) (s .turn) v b ⌝ }
+    requires { ⌜ TakeOk (lent (now counts) (now visited) (now gains) (now blocks) (now loads) (now pins) (now sizes) (now bits) (now weights) (now netweights) (now firsts) n m k (s .total)) (locals (now marks) (now movers) (now origins) (s .tried) (s .kept) (s .low)) (s .turn) v b ⌝ }
     requires { ⌜ Peaked (now gains) (now peaks) n k ⌝ }
-    ensures { λ r. ⌜ ((aboves loaded : List ℕ) → Took (lent (now (counts .entry)) (now (visited .entry)) (now (gains .entry)) (now (blocks .entry)) (now (loads .entry)) (now (pins .entry)) (now (sizes .entry)) (now (bits .entry)) (now (weights .entry)) (now (netweights .entry)) (now (firsts .entry)) n m k (s .total) aboves loaded) (locals (now (marks .entry)) (s .journal .vertices) (s .journal .blocks) (s .journal .len) (s .kept) (s .low)) (s .turn) v b
-        (lent (now (counts .exit)) (now (visited .exit)) (now (gains .exit)) (now (blocks .exit)) (now (loads .exit)) (now (pins .exit)) (now (sizes .exit)) (now (bits .exit)) (now (weights .exit)) (now (netweights .exit)) (now (firsts .exit)) n m k (r .total) aboves loaded) (locals (now (marks .exit)) (r .journal .vertices) (r .journal .blocks) (r .journal .len) (r .kept) (r .low)) (r .turn)) ⌝ }
+    ensures { λ r. ⌜ ((aboves loaded : List ℕ) → Took (lent (now (counts .entry)) (now (visited .entry)) (now (gains .entry)) (now (blocks .entry)) (now (loads .entry)) (now (pins .entry)) (now (sizes .entry)) (now (bits .entry)) (now (weights .entry)) (now (netweights .entry)) (now (firsts .entry)) n m k (s .total) aboves loaded) (locals (now (marks .entry)) (now (movers .entry)) (now (origins .entry)) (s .tried) (s .kept) (s .low)) (s .turn) v b
+        (lent (now (counts .exit)) (now (visited .exit)) (now (gains .exit)) (now (blocks .exit)) (now (loads .exit)) (now (pins .exit)) (now (sizes .exit)) (now (bits .exit)) (now (weights .exit)) (now (netweights .exit)) (now (firsts .exit)) n m k (r .total) aboves loaded) (locals (now (marks .exit)) (now (movers .exit)) (now (origins .exit)) (r .tried) (r .kept) (r .low)) (r .turn)) ⌝ }
     ensures { λ _. ⌜ Peaked (now (gains .exit)) (now (peaks .exit)) n k ⌝ }
 {
     let x = index(v) - 1;
-    let before = s.journal;
-    let journal = before.push(v, blocks[x]);
+    let at = s.tried;
+    let made = at + 1;
+    movers[at] = v;
+    origins[at] = blocks[x];
     let total = shift(
         counts,
         visited,
@@ -134,10 +137,10 @@ fn make_move(
         b,
     );
     spread(marks, bits, pins, firsts, sizes, m, x);
-    let p = lower(journal.len, s.kept, s.low, total);
+    let p = lower(made, s.kept, s.low, total);
     Steps {
-        journal: journal,
         turn: s.turn + 1,
+        tried: made,
         kept: p.kept,
         low: p.low,
         total: total,
@@ -153,6 +156,8 @@ fn advance(
     loads: &mut [u64; 16],
     marks: &mut [u64; 48],
     peaks: &mut [i32; 16],
+    movers: &mut [u16; 1024],
+    origins: &mut [u16; 1024],
     pins: &[u16],
     sizes: &[u16],
     bits: &[u64],
@@ -165,13 +170,12 @@ fn advance(
     capacity: u64,
     s: Steps,
 ) -> Steps
-    requires { ⌜ TurnOk (lent (now counts) (now visited) (now gains) (now blocks) (now loads) (now pins) (now sizes) (now bits) (now weights) (now netweights) (now firsts) n m k (s .total)) (locals (now marks) (s .journal .vertices) (s .journal .blocks) (s .journal .len) (s .kept) (s .low)) capacity (s .turn) ⌝ }
+    requires { ⌜ TurnOk (lent (now counts) (now visited) (now gains) (now blocks) (now loads) (now pins) (now sizes) (now bits) (now weights) (now netweights) (now firsts) n m k (s .total)) (locals (now marks) (now movers) (now origins) (s .tried) (s .kept) (s .low)) capacity (s .turn) ⌝ }
     requires { ⌜ Peaked (now gains) (now peaks) n k ⌝ }
-    ensures { λ r. ⌜ ((aboves loaded : List ℕ) → Turned (lent (now (counts .entry)) (now (visited .entry)) (now (gains .entry)) (now (blocks .entry)) (now (loads .entry)) (now (pins .entry)) (now (sizes .entry)) (now (bits .entry)) (now (weights .entry)) (now (netweights .entry)) (now (firsts .entry)) n m k (s .total) aboves loaded) (locals (now (marks .entry)) (s .journal .vertices) (s .journal .blocks) (s .journal .len) (s .kept) (s .low)) capacity (s .turn)
-        (lent (now (counts .exit)) (now (visited .exit)) (now (gains .exit)) (now (blocks .exit)) (now (loads .exit)) (now (pins .exit)) (now (sizes .exit)) (now (bits .exit)) (now (weights .exit)) (now (netweights .exit)) (now (firsts .exit)) n m k (r .total) aboves loaded) (locals (now (marks .exit)) (r .journal .vertices) (r .journal .blocks) (r .journal .len) (r .kept) (r .low)) (r .turn)) ⌝ }
+    ensures { λ r. ⌜ ((aboves loaded : List ℕ) → Turned (lent (now (counts .entry)) (now (visited .entry)) (now (gains .entry)) (now (blocks .entry)) (now (loads .entry)) (now (pins .entry)) (now (sizes .entry)) (now (bits .entry)) (now (weights .entry)) (now (netweights .entry)) (now (firsts .entry)) n m k (s .total) aboves loaded) (locals (now (marks .entry)) (now (movers .entry)) (now (origins .entry)) (s .tried) (s .kept) (s .low)) capacity (s .turn)
+        (lent (now (counts .exit)) (now (visited .exit)) (now (gains .exit)) (now (blocks .exit)) (now (loads .exit)) (now (pins .exit)) (now (sizes .exit)) (now (bits .exit)) (now (weights .exit)) (now (netweights .exit)) (now (firsts .exit)) n m k (r .total) aboves loaded) (locals (now (marks .exit)) (now (movers .exit)) (now (origins .exit)) (r .tried) (r .kept) (r .low)) (r .turn)) ⌝ }
     ensures { λ _. ⌜ Peaked (now (gains .exit)) (now (peaks .exit)) n k ⌝ }
 {
-    let journal = s.journal;
     match next_move(
         gains,
         blocks,
@@ -182,12 +186,12 @@ fn advance(
         n,
         k,
         capacity,
-        journal.len,
+        s.tried,
         s.kept,
     ) {
         Pick::Nothing => Steps {
-            journal: journal,
             turn: n,
+            tried: s.tried,
             kept: s.kept,
             low: s.low,
             total: s.total,
@@ -200,6 +204,8 @@ fn advance(
             loads,
             marks,
             peaks,
+            movers,
+            origins,
             pins,
             sizes,
             bits,
@@ -229,22 +235,24 @@ fn rewind(
     weights: &[u32],
     netweights: &[u16],
     firsts: &[u16],
+    movers: &[u16; 1024],
+    origins: &[u16; 1024],
     n: usize,
     m: usize,
     k: usize,
     total: u32,
-    journal: Journal,
+    tried: usize,
     kept: usize,
 ) -> u32
-    requires { ⌜ RewindOk (lent (now counts) (now visited) (now gains) (now blocks) (now loads) (now pins) (now sizes) (now bits) (now weights) (now netweights) (now firsts) n m k total) (journal .vertices) (journal .blocks) (journal .len) kept ⌝ }
-    ensures { λ r. ⌜ ((aboves loaded : List ℕ) → Rewinds (lent (now (counts .entry)) (now (visited .entry)) (now (gains .entry)) (now (blocks .entry)) (now (loads .entry)) (now (pins .entry)) (now (sizes .entry)) (now (bits .entry)) (now (weights .entry)) (now (netweights .entry)) (now (firsts .entry)) n m k total aboves loaded) (journal .vertices) (journal .blocks) (journal .len) kept
+    requires { ⌜ RewindOk (lent (now counts) (now visited) (now gains) (now blocks) (now loads) (now pins) (now sizes) (now bits) (now weights) (now netweights) (now firsts) n m k total) (now movers) (now origins) tried kept ⌝ }
+    ensures { λ r. ⌜ ((aboves loaded : List ℕ) → Rewinds (lent (now (counts .entry)) (now (visited .entry)) (now (gains .entry)) (now (blocks .entry)) (now (loads .entry)) (now (pins .entry)) (now (sizes .entry)) (now (bits .entry)) (now (weights .entry)) (now (netweights .entry)) (now (firsts .entry)) n m k total aboves loaded) (now (movers .entry)) (now (origins .entry)) tried kept
         (lent (now (counts .exit)) (now (visited .exit)) (now (gains .exit)) (now (blocks .exit)) (now (loads .exit)) (now (pins .exit)) (now (sizes .exit)) (now (bits .exit)) (now (weights .exit)) (now (netweights .exit)) (now (firsts .exit)) n m k r aboves loaded)) ⌝ }
 {
     let mut t = total;
-    let mut j = journal.len;
+    let mut j = tried;
     while kept < j {
         j -= 1;
-        let x = index(journal.vertices[j]) - 1;
+        let x = index(movers[j]) - 1;
         t = go(
             counts,
             visited,
@@ -262,7 +270,7 @@ fn rewind(
             k,
             t,
             x,
-            journal.blocks[j],
+            origins[j],
         );
     }
     t
@@ -298,9 +306,11 @@ pub fn walk(
     mark_vertex(&mut marks, v);
     let mut peaks = [0i32; 16];
     survey(&mut peaks, gains, n, k);
+    let mut movers = [0u16; 1024];
+    let mut origins = [0u16; 1024];
     let mut s = Steps {
-        journal: Journal::new(),
         turn: 0,
+        tried: 0,
         kept: 0,
         low: total,
         total: total,
@@ -314,6 +324,8 @@ pub fn walk(
             loads,
             &mut marks,
             &mut peaks,
+            &mut movers,
+            &mut origins,
             pins,
             sizes,
             bits,
@@ -327,7 +339,7 @@ pub fn walk(
             s,
         );
     }
-    let j = s.journal;
+    let tried = s.tried;
     let t = rewind(
         counts,
         visited,
@@ -340,15 +352,17 @@ pub fn walk(
         weights,
         netweights,
         firsts,
+        &movers,
+        &origins,
         n,
         m,
         k,
         s.total,
-        j,
+        tried,
         s.kept,
     );
     Walked {
-        tried: j.len,
+        tried: tried,
         kept: s.kept,
         total: t,
     }

@@ -8,9 +8,9 @@ use Rattle.search.proofs.walks.advance.Tie as tie
 
 next-move-requires : tie.Need-next-move-requires
 next-move-requires c κs =
-    let start = c .before .before .before .before .before .before .before .before .before .before .before .before .before .before .before .pre in
+    let start = c .before .before .before .before .before .before .before .before .before .before .before .before .before .before .pre in
     let ok = start .0 in (
-      (ok .at .kept-to, omega (arith, ok .tried-to, ok .turn-to, ok .at .sound .follows .room .few-vertices), search-ok (ok .at .sound) (now (c .before .before .before .before .before .before .before .before .before .before .before .before .before .before .before .args .marks)) (omega (arith, ok .at .marks-fit))),
+      (ok .at .kept-to, omega (arith, ok .tried-to, ok .turn-to, ok .at .sound .follows .room .few-vertices), search-ok (ok .at .sound) (now (c .before .before .before .before .before .before .before .before .before .before .before .before .before .before .args .marks)) (omega (arith, ok .at .marks-fit))),
       start .1,
     )
 
@@ -22,8 +22,8 @@ enum-known-vertex c = search needs
 
 make-move-requires : tie.Need-make-move-requires
 make-move-requires c κs =
-    let start = c .before .before .before .before .before .before .before .before .before .before .before .before .before .before .before .before .before .before .before .before .before .before .before .before .before .before .pre in
-    (take-asks (start .0) _ _ (c .before .before .before .before .before .before .before .before .before .before .next-move .ensures) (c .before .before .before .before .before .before .before .before .vertex .given .1), start .1)
+    let start = c .before .before .before .before .before .before .before .before .before .before .before .before .before .before .before .before .before .before .before .before .before .before .before .before .before .before .before .pre in
+    (take-asks (start .0) _ _ (c .before .before .before .before .before .before .before .before .before .before .before .before .next-move .ensures) (c .before .before .before .before .before .before .before .before .before .before .vertex .given .1), start .1)
 
 same-length : tie.Need-same-length
 same-length c = search needs
@@ -33,7 +33,7 @@ same-length-2 c = search needs
 
 returns : tie.Need-returns
 returns c =
-    let start = c .before .before .before .before .before .before .before .before .before .before .before .before .before .before .before .before .before .before .pre in
+    let start = c .before .before .before .before .before .before .before .before .before .before .before .before .before .before .before .before .before .pre in
     (λ aboves loaded. turn-none _ _ _ _ (start .0 .turn-to) (start .0 .tried-to) (c .before .before .next-move .ensures) (c .enum-told .given .1), start .1)
 
 same-length-3 : tie.Need-same-length-3
@@ -50,9 +50,9 @@ same-length-6 c = search needs
 
 returns-2 : tie.Need-returns-2
 returns-2 c =
-    let ok = c .before .before .before .before .before .before .before .before .before .before .before .before .before .before .before .before .before .before .before .before .before .before .before .before .before .before .before .before .before .before .before .before .before .before .pre .0 in
+    let ok = c .before .before .before .before .before .before .before .before .before .before .before .before .before .before .before .before .before .before .before .before .before .before .before .before .before .before .before .before .before .before .before .before .before .before .before .pre .0 in
     let moved = c .before .before .before .before .before .before .before .make-move .ensures in
-    (λ aboves loaded. turn-move _ _ _ _ _ (ok .turn-to) (ok .tried-to) (c .before .before .before .before .before .before .before .before .before .before .before .before .before .before .before .before .before .before .next-move .ensures) (c .before .before .before .before .before .before .before .before .before .before .before .before .before .before .before .before .vertex .given .1) (moved .0 aboves loaded), moved .1)
+    (λ aboves loaded. turn-move _ _ _ _ _ (ok .turn-to) (ok .tried-to) (c .before .before .before .before .before .before .before .before .before .before .before .before .before .before .before .before .before .before .before .before .next-move .ensures) (c .before .before .before .before .before .before .before .before .before .before .before .before .before .before .before .before .before .before .vertex .given .1) (moved .0 aboves loaded), moved .1)
 
 pub advance-spec : {M : Type 1} → statement M
 advance-spec =

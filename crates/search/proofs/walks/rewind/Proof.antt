@@ -10,13 +10,13 @@ use Rattle.search.proofs.walks.rewind.Statement.{statement}
 use Rattle.search.proofs.walks.rewind.Tie as tie
 
 abbrev Inv-loop : tie.InvT-loop
-Inv-loop counts₀ visited₀ gains₀ blocks₀ loads₀ pins sizes bits weights netweights firsts n m k total kept journal t₀ j₀ counts visited gains blocks loads t j =
-    (kept ≤ j) × (j ≤ journal .len)
-    × ((aboves loaded : List ℕ) → Rewinding (lent counts₀ visited₀ gains₀ blocks₀ loads₀ pins sizes bits weights netweights firsts n m k total aboves loaded) (journal .vertices) (journal .blocks) (journal .len) kept j (lent counts visited gains blocks loads pins sizes bits weights netweights firsts n m k t aboves loaded))
+Inv-loop counts₀ visited₀ gains₀ blocks₀ loads₀ pins sizes bits weights netweights firsts movers origins n m k total tried kept t₀ j₀ counts visited gains blocks loads t j =
+    (kept ≤ j) × (j ≤ tried)
+    × ((aboves loaded : List ℕ) → Rewinding (lent counts₀ visited₀ gains₀ blocks₀ loads₀ pins sizes bits weights netweights firsts n m k total aboves loaded) movers origins tried kept j (lent counts visited gains blocks loads pins sizes bits weights netweights firsts n m k t aboves loaded))
     × (length counts ≡ length counts₀) × (length visited ≡ length visited₀) × (length gains ≡ length gains₀) × (length blocks ≡ length blocks₀)
 
 abbrev μ-loop : tie.MeasureT-loop
-μ-loop counts₀ visited₀ gains₀ blocks₀ loads₀ pins sizes bits weights netweights firsts n m k total kept journal t₀ j₀ counts visited gains blocks loads t j = j
+μ-loop counts₀ visited₀ gains₀ blocks₀ loads₀ pins sizes bits weights netweights firsts movers origins n m k total tried kept t₀ j₀ counts visited gains blocks loads t j = j
 
 loop-holds : tie.Need-loop-holds Inv-loop μ-loop
 loop-holds c = (c .before .before .before .before .before .before .before .before .before .pre .kept-to, omega arith, λ aboves loaded. rewind-none _ _ _ _ _, refl, refl, refl, refl)

@@ -12,14 +12,14 @@ use Rattle.search.proofs.walks.walk.Statement.{statement}
 use Rattle.search.proofs.walks.walk.Tie as tie
 
 abbrev Inv-loop : tie.InvT-loop
-Inv-loop counts₀ visited₀ gains₀ blocks₀ loads₀ pins sizes bits weights netweights firsts n m k capacity total u v marks₀ peaks₀ s₀ counts visited gains blocks loads marks peaks s =
-    (s .turn ≤ n) × (s .journal .len ≤ s .turn)
-    × ((aboves loaded : List ℕ) → Going (lent counts₀ visited₀ gains₀ blocks₀ loads₀ pins sizes bits weights netweights firsts n m k total aboves loaded) capacity u v (s .turn) (lent counts visited gains blocks loads pins sizes bits weights netweights firsts n m k (s .total) aboves loaded) (locals marks (s .journal .vertices) (s .journal .blocks) (s .journal .len) (s .kept) (s .low)))
+Inv-loop counts₀ visited₀ gains₀ blocks₀ loads₀ pins sizes bits weights netweights firsts n m k capacity total u v marks₀ peaks₀ movers₀ origins₀ s₀ counts visited gains blocks loads marks peaks movers origins s =
+    (s .turn ≤ n) × (s .tried ≤ s .turn)
+    × ((aboves loaded : List ℕ) → Going (lent counts₀ visited₀ gains₀ blocks₀ loads₀ pins sizes bits weights netweights firsts n m k total aboves loaded) capacity u v (s .turn) (lent counts visited gains blocks loads pins sizes bits weights netweights firsts n m k (s .total) aboves loaded) (locals marks movers origins (s .tried) (s .kept) (s .low)))
     × Peaked gains peaks n k
     × (length counts ≡ length counts₀) × (length visited ≡ length visited₀) × (length gains ≡ length gains₀) × (length blocks ≡ length blocks₀)
 
 abbrev μ-loop : tie.MeasureT-loop
-μ-loop counts₀ visited₀ gains₀ blocks₀ loads₀ pins sizes bits weights netweights firsts n m k capacity total u v marks₀ peaks₀ s₀ counts visited gains blocks loads marks peaks s = n - s .turn
+μ-loop counts₀ visited₀ gains₀ blocks₀ loads₀ pins sizes bits weights netweights firsts n m k capacity total u v marks₀ peaks₀ movers₀ origins₀ s₀ counts visited gains blocks loads marks peaks movers origins s = n - s .turn
 
 mark-vertex-requires : tie.Need-mark-vertex-requires Inv-loop μ-loop
 mark-vertex-requires c κs =
@@ -36,20 +36,17 @@ survey-requires c κs =
     let frame = c .before .before .before .before .before .before .before .before .before .before .before .before .before .before .before .pre .sound .follows .world .frame in
     (length-replicate {A = ℤ} 16 (pos 0), frame .few-vertices, frame .few, frame .gains-fit)
 
-new-requires : tie.Need-new-requires Inv-loop μ-loop
-new-requires c κs = search needs
-
 loop-holds : tie.Need-loop-holds Inv-loop μ-loop
 loop-holds c =
-    let a = c .before .before .before .before .before .before .before .before .before .before .before .before .before .before .before .before .before .args in
-    let ok = c .before .before .before .before .before .before .before .before .before .before .before .before .before .before .before .before .before .pre in
-    let one = c .before .before .before .before .before .before .mark-vertex .ensures in
-    let two = c .before .before .before .before .mark-vertex2 .ensures in
-    let empty = c .new .ensures in (
+    let a = c .before .before .before .before .before .before .before .before .before .before .before .before .before .before .before .before .args in
+    let ok = c .before .before .before .before .before .before .before .before .before .before .before .before .before .before .before .before .pre in
+    let one = c .before .before .before .before .before .mark-vertex .ensures in
+    let two = c .before .before .before .mark-vertex2 .ensures in
+    let fit = length-replicate {A = ℕ} 1024 0 in (
       omega arith,
-      omega (arith, empty .2),
-      λ aboves loaded. going-none (a .u) (a .v) (one .0) (two .0) (one .1) (two .1) _ _ (ok .u-in) (ok .u-on) (ok .v-in) (ok .v-on) (empty .0) (empty .1) (empty .2),
-      c .before .survey .ensures,
+      omega arith,
+      λ aboves loaded. going-none (a .u) (a .v) (one .0) (two .0) (one .1) (two .1) _ _ (ok .u-in) (ok .u-on) (ok .v-in) (ok .v-on) fit fit refl,
+      c .survey .ensures,
       refl,
       refl,
       refl,
@@ -58,18 +55,18 @@ loop-holds c =
 
 advance-requires : tie.Need-advance-requires Inv-loop μ-loop
 advance-requires c κs =
-    let l = c .before .before .before .before .before .before .before .before .before .loop in
-    (turn-asks (c .before .before .before .before .before .before .before .before .before .before .before .before .before .before .before .before .before .before .before .before .before .before .before .before .before .before .before .pre) (l .inv .2) (c .before .before .before .before .before .before .before .if1 .taken) (l .inv .1), l .inv .3)
+    let l = c .before .before .before .before .before .before .before .before .before .before .before .loop in
+    (turn-asks (c .before .before .before .before .before .before .before .before .before .before .before .before .before .before .before .before .before .before .before .before .before .before .before .before .before .before .before .before .pre) (l .inv .2) (c .before .before .before .before .before .before .before .before .before .if1 .taken) (l .inv .1), l .inv .3)
 
 loop-less : tie.Need-loop-less Inv-loop μ-loop
 loop-less c =
-    let ok = c .before .before .before .before .before .before .before .before .before .before .before .before .before .before .before .before .before .before .before .before .before .before .before .before .before .before .before .before .before .before .before .before .before .before .before .pre in
-    omega (arith, c .before .before .before .before .before .before .before .advance .ensures .0 (ok .aboves) (ok .loaded) .on, c .before .before .before .before .before .before .before .before .before .before .before .before .before .before .before .if1)
+    let ok = c .before .before .before .before .before .before .before .before .before .before .before .before .before .before .before .before .before .before .before .before .before .before .before .before .before .before .before .before .before .before .before .before .before .before .before .before .pre in
+    omega (arith, c .before .before .before .before .before .before .before .advance .ensures .0 (ok .aboves) (ok .loaded) .on, c .before .before .before .before .before .before .before .before .before .before .before .before .before .before .before .before .before .if1)
 
 loop-again : tie.Need-loop-again Inv-loop μ-loop
 loop-again c =
-    let ok = c .before .before .before .before .before .before .before .before .before .before .before .before .before .before .before .before .before .before .before .before .before .before .before .before .before .before .before .before .before .before .before .before .before .before .before .pre in
-    let l = c .before .before .before .before .before .before .before .before .before .before .before .before .before .before .before .before .before .loop in
+    let ok = c .before .before .before .before .before .before .before .before .before .before .before .before .before .before .before .before .before .before .before .before .before .before .before .before .before .before .before .before .before .before .before .before .before .before .before .before .pre in
+    let l = c .before .before .before .before .before .before .before .before .before .before .before .before .before .before .before .before .before .before .before .loop in
     let turned = c .before .before .before .before .before .before .before .advance .ensures in
     let lengths = c .before .before .before .before .before .before .before .advance .kept in
     let e = turned .0 (ok .aboves) (ok .loaded) in (
@@ -84,22 +81,22 @@ loop-again c =
     )
 
 rewind-requires : tie.Need-rewind-requires Inv-loop μ-loop
-rewind-requires c κs = let l = c .before .before .before .before .before .before .before .before .loop in end-asks (c .before .before .before .before .before .before .before .before .before .before .before .before .before .before .before .before .before .before .before .before .before .before .before .before .before .before .pre) (l .inv .2) (l .inv .0) (l .inv .1)
+rewind-requires c κs = let l = c .before .before .before .before .before .before .before .before .before .loop in end-asks (c .before .before .before .before .before .before .before .before .before .before .before .before .before .before .before .before .before .before .before .before .before .before .before .before .before .before .pre) (l .inv .2) (l .inv .0) (l .inv .1)
 
 same-length : tie.Need-same-length Inv-loop μ-loop
-same-length c = omega (arith, c .before .before .before .before .before .before .before .before .before .before .before .before .before .before .before .before .loop .inv, c .before .before .before .before .before .before .before .rewind .kept)
+same-length c = omega (arith, c .before .before .before .before .before .before .before .before .before .before .before .before .before .before .before .before .before .loop .inv, c .before .before .before .before .before .before .before .rewind .kept)
 
 same-length-2 : tie.Need-same-length-2 Inv-loop μ-loop
-same-length-2 c = omega (arith, c .before .before .before .before .before .before .before .before .before .before .before .before .before .before .before .before .loop .inv, c .before .before .before .before .before .before .before .rewind .kept)
+same-length-2 c = omega (arith, c .before .before .before .before .before .before .before .before .before .before .before .before .before .before .before .before .before .loop .inv, c .before .before .before .before .before .before .before .rewind .kept)
 
 same-length-3 : tie.Need-same-length-3 Inv-loop μ-loop
-same-length-3 c = omega (arith, c .before .before .before .before .before .before .before .before .before .before .before .before .before .before .before .before .loop .inv, c .before .before .before .before .before .before .before .rewind .kept)
+same-length-3 c = omega (arith, c .before .before .before .before .before .before .before .before .before .before .before .before .before .before .before .before .before .loop .inv, c .before .before .before .before .before .before .before .rewind .kept)
 
 same-length-4 : tie.Need-same-length-4 Inv-loop μ-loop
-same-length-4 c = omega (arith, c .before .before .before .before .before .before .before .before .before .before .before .before .before .before .before .before .loop .inv, c .before .before .before .before .before .before .before .rewind .kept)
+same-length-4 c = omega (arith, c .before .before .before .before .before .before .before .before .before .before .before .before .before .before .before .before .before .loop .inv, c .before .before .before .before .before .before .before .rewind .kept)
 
 returns : tie.Need-returns Inv-loop μ-loop
-returns c = λ aboves loaded. walks-all refl refl refl refl refl (c .before .before .before .before .before .before .before .before .before .before .before .before .before .before .before .before .loop .inv .2 aboves loaded) (c .before .before .before .before .before .before .before .before .before .before .before .before .before .before .if1 .left) (c .before .before .before .before .before .before .before .rewind .ensures aboves loaded)
+returns c = λ aboves loaded. walks-all refl refl refl refl refl (c .before .before .before .before .before .before .before .before .before .before .before .before .before .before .before .before .before .loop .inv .2 aboves loaded) (c .before .before .before .before .before .before .before .before .before .before .before .before .before .before .before .if1 .left) (c .before .before .before .before .before .before .before .rewind .ensures aboves loaded)
 
 pub walk-spec : {M : Type 1} → statement M
 walk-spec =
@@ -110,7 +107,6 @@ walk-spec =
     mark-vertex-requires
     mark-vertex-requires-2
     survey-requires
-    new-requires
     loop-holds
     advance-requires
     loop-less
