@@ -25,7 +25,9 @@ abbrev μ-loop : tie.MeasureT-loop
     s .left
 
 begin-requires : tie.Need-begin-requires Inv-loop μ-loop
-begin-requires c κs = (tables-ok (c .before .before .before .before .before .before .before .before .before .before .before .before .before .before .before .pre .stands .sound), length-replicate {A = ℕ} 1025 0)
+begin-requires c κs =
+    let start = c .before .before .before .before .before .before .before .before .before .before .before .before .before .before .before in
+    (tables-ok (start .pre .stands .sound), length-replicate {A = ℕ} 1025 0)
 
 excess-requires : tie.Need-excess-requires Inv-loop μ-loop
 excess-requires c κs =
@@ -33,7 +35,9 @@ excess-requires c κs =
     (omega (arith, len-is (p .stands)), p .stands .sound .follows .world .frame .few)
 
 loop-holds : tie.Need-loop-holds Inv-loop μ-loop
-loop-holds c = (λ loads loaded. going-none _ _ _ _ _ _ (c .excess .ensures), blank 1025 refl, bounded-begin _ _ _ _ _ _ _ _ _ _ (tables-ok (c .before .before .before .before .before .before .before .before .before .before .before .before .before .before .before .before .before .pre .stands .sound)) _ (c .before .begin .ensures), refl, refl, refl, refl, refl, refl, refl, refl, refl)
+loop-holds c =
+    let start = c .before .before .before .before .before .before .before .before .before .before .before .before .before .before .before .before .before in
+    (λ loads loaded. going-none _ _ _ _ _ _ (c .excess .ensures), blank 1025 refl, bounded-begin _ _ _ _ _ _ _ _ _ _ (tables-ok (start .pre .stands .sound)) _ (c .before .begin .ensures), refl, refl, refl, refl, refl, refl, refl, refl, refl)
 
 coarsen-once-requires : tie.Need-coarsen-once-requires Inv-loop μ-loop
 coarsen-once-requires c κs =
@@ -41,7 +45,10 @@ coarsen-once-requires c κs =
     (once-asks (c .before .before .before .before .before .before .before .before .before .before .before .before .before .before .before .before .before .before .before .before .before .before .before .before .before .before .before .before .before .before .before .pre) (v .0) (omega (arith, c .before .before .before .before .before .before .before .before .before .before .before .if1 .taken)), (v .1, v .2))
 
 loop-less : tie.Need-loop-less Inv-loop μ-loop
-loop-less c = c .before .before .before .before .before .before .before .before .before .before .before .before .before .before .before .before .before .coarsen-once .ensures .0 (c .before .before .before .before .before .before .before .before .before .before .before .before .before .before .before .before .before .before .before .before .before .before .before .before .before .before .before .before .before .before .before .before .before .before .before .before .before .before .before .before .before .before .before .before .before .before .before .before .before .pre .loads) (c .before .before .before .before .before .before .before .before .before .before .before .before .before .before .before .before .before .before .before .before .before .before .before .before .before .before .before .before .before .before .before .before .before .before .before .before .before .before .before .before .before .before .before .before .before .before .before .before .before .pre .loaded) .less
+loop-less c =
+    let at-coarsen-once = c .before .before .before .before .before .before .before .before .before .before .before .before .before .before .before .before .before in
+    let start = at-coarsen-once .before .before .before .before .before .before .before .before .before .before .before .before .before .before .before .before .before .before .before .before .before .before .before .before .before .before .before .before .before .before .before .before in
+    at-coarsen-once .coarsen-once .ensures .0 (start .pre .loads) (start .pre .loaded) .less
 
 loop-again : tie.Need-loop-again Inv-loop μ-loop
 loop-again c =

@@ -31,8 +31,9 @@ same-length-5 c = search needs
 
 returns : tie.Need-returns
 returns c =
+    let start = c .before .before .before .before .before .before .before .before .before .before .before .before .before .before .before .before .before .before .before .before in
     let j = c .before .before .plan-join in
-    (λ loads loaded. once-none _ _ _ (j .result) (c .before .before .before .before .before .before .before .before .before .before .before .before .before .before .before .before .before .before .before .before .pre .0 .some) (j .ensures .0) (c .if1 .taken), (j .ensures .1 .1, j .ensures .1 .0 .none (c .if1 .taken)))
+    (λ loads loaded. once-none _ _ _ (j .result) (start .pre .0 .some) (j .ensures .0) (c .if1 .taken), (j .ensures .1 .1, j .ensures .1 .0 .none (c .if1 .taken)))
 
 sub-join : tie.Need-sub-join
 sub-join c = omega (arith, c .before .before .before .before .before .before .before .before .before .before .before .plan-join .ensures .0 .within (omega (arith, c .before .before .before .before .before .before .before .before .before .if1 .left)))

@@ -30,9 +30,11 @@ same-length c = search needs
 
 returns-2 : tie.Need-returns-2
 returns-2 c =
-    let S = c .before .before .before .before in
+    let at-if1 = c .before .before .before in
+    let state = at-if1 .before in
+    let S = state in
     let a = S .args in
-    let l = c .before .before .before .if1 .left in
+    let l = at-if1 .if1 .left in
     one-set (a .q) (a .take) (a .f) (a .want) (a .a) (a .w) l (S .pre .1 .1 l) (S .pre .1 .0) (S .pre .0 .few) (S .pre .0 .fit) (c .before .shift-at .ensures)
 
 pub one-entry-spec : {M : Type 1} → statement M

@@ -44,7 +44,8 @@ arrive-requires c κs =
 
 touch-others-requires : tie.Need-touch-others-requires
 touch-others-requires c κs =
-    let A = c .before .before .before .before .before in
+    let state = c .before .before .before .before .before in
+    let A = state in
     let D = A .before .before .before .before .before .before .before in
     let O = D .before .before .before .before in
     let C₂ = O .before .before .before in
@@ -54,7 +55,8 @@ touch-others-requires c κs =
 
 own-row-requires-2 : tie.Need-own-row-requires-2
 own-row-requires-2 c κs =
-    let T = c .before .before .before in
+    let state = c .before .before .before in
+    let T = state in
     let A = T .before .before .before .before .before .before in
     let D = A .before .before .before .before .before .before .before in
     let O = D .before .before .before .before in

@@ -54,7 +54,8 @@ index-requires-2 c κs = search needs
 
 touch-requires : tie.Need-touch-requires Inv-loop μ-loop
 touch-requires c κs =
-    let T = c .before .before .before in
+    let state = c .before .before .before in
+    let T = state in
     let I = T .before .before .before in
     others-touch (I .before .before .before .before .before .pre) (I .loop-test .taken) (T .before .index .ensures) (T .if3 .taken) (c .before .index2 .ensures) (I .before .loop .inv .1)
 

@@ -36,7 +36,13 @@ index-requires-2 : tie.Need-index-requires-2 Inv-loop μ-loop
 index-requires-2 c κs = search needs
 
 fill-net-requires : tie.Need-fill-net-requires Inv-loop μ-loop
-fill-net-requires c κs = filling-net (c .before .before .before .before .before .before .before .before .before .before .before .before .before .before .before .before .before .before .pre) (c .before .before .before .before .before .before .before .before .loop-test .taken) (c .before .before .before .before .before .before .before .before .before .loop .inv .1) (c .before .before .before .before .before .before .index .ensures) (c .before .before .before .before .index2 .ensures)
+fill-net-requires c κs =
+    let at-index2 = c .before .before .before .before in
+    let at-index = at-index2 .before .before in
+    let at-loop-test = at-index .before .before in
+    let at-loop = at-loop-test .before in
+    let start = at-loop .before .before .before .before .before .before .before .before .before in
+    filling-net (start .pre) (at-loop-test .loop-test .taken) (at-loop .loop .inv .1) (at-index .index .ensures) (at-index2 .index2 .ensures)
 
 add-e : tie.Need-add-e Inv-loop μ-loop
 add-e c = omega (arith, c .before .before .before .before .before .before .before .before .before .before .before .before .before .before .before .before .loop-test .taken)

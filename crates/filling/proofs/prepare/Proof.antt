@@ -14,7 +14,12 @@ clear-gains-requires : tie.Need-clear-gains-requires
 clear-gains-requires c κs = search needs
 
 fill-requires : tie.Need-fill-requires
-fill-requires c κs = prepare-fills (c .before .before .before .before .before .before .before .before .before .before .before .before .before .before .before .before .before .before .before .before .before .before .before .pre) (c .before .before .before .before .before .before .before .before .before .before .before .before .before .clear-counts .ensures) (c .before .before .before .before .before .before .before .before .before .clear-row .ensures) (c .before .before .before .before .before .clear-gains .ensures)
+fill-requires c κs =
+    let at-clear-gains = c .before .before .before .before .before in
+    let at-clear-row = at-clear-gains .before .before .before .before in
+    let at-clear-counts = at-clear-row .before .before .before .before in
+    let start = at-clear-counts .before .before .before .before .before .before .before .before .before .before in
+    prepare-fills (start .pre) (at-clear-counts .clear-counts .ensures) (at-clear-row .clear-row .ensures) (at-clear-gains .clear-gains .ensures)
 
 same-length : tie.Need-same-length
 same-length c = search needs
@@ -29,7 +34,13 @@ same-length-4 : tie.Need-same-length-4
 same-length-4 c = search needs
 
 returns : tie.Need-returns
-returns c = prepared (c .before .before .before .before .before .before .before .before .before .before .before .before .before .before .before .before .before .before .before .before .before .before .before .before .before .before .before .before .before .before .before .pre) (c .before .before .before .before .before .before .before .before .before .before .before .before .before .before .before .before .before .before .before .before .before .clear-counts .ensures) (c .before .before .before .before .before .before .before .before .before .before .before .before .before .before .before .before .before .clear-row .ensures) (c .before .before .before .before .before .before .before .before .before .before .before .before .before .clear-gains .ensures) (c .before .before .before .before .before .before .before .fill .ensures)
+returns c =
+    let at-fill = c .before .before .before .before .before .before .before in
+    let at-clear-gains = at-fill .before .before .before .before .before .before in
+    let at-clear-row = at-clear-gains .before .before .before .before in
+    let at-clear-counts = at-clear-row .before .before .before .before in
+    let start = at-clear-counts .before .before .before .before .before .before .before .before .before .before in
+    prepared (start .pre) (at-clear-counts .clear-counts .ensures) (at-clear-row .clear-row .ensures) (at-clear-gains .clear-gains .ensures) (at-fill .fill .ensures)
 
 pub prepare-spec : {M : Type 1} → statement M
 prepare-spec =

@@ -84,7 +84,8 @@ least-requires-2 c κs = search needs
 
 returns-3 : tie.Need-returns-3 Inv-loop μ-loop
 returns-3 c =
-    let s = c .before .before .before .before .before .before .before .before .before .before in
+    let state = c .before .before .before .before .before .before .before .before .before .before in
+    let s = state in
     let l = c .before .before .before .before .before .loop in
     next-word (now (s .args .bits)) (s .args .x) (s .args .from) (l .w) (s .args .m) (c .before .lowest2 .result) (c .least2 .result) (l .inv .0)
     (c .before .before .before .before .loop-test .taken)

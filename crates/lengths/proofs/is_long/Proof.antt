@@ -15,22 +15,45 @@ returns-3 : tie.Need-returns-3
 returns-3 c = by-tests _ (short-yes 60000 _ (c .before .before .if1 .left) (short-yes 1024 _ (c .before .if2 .left) (short-no 1024 _ _ (c .if3 .taken))))
 
 returns-4 : tie.Need-returns-4
-returns-4 c = by-tests _ (short-yes 60000 _ (c .before .before .before .if1 .left) (short-yes 1024 _ (c .before .before .if2 .left) (short-yes 1024 _ (c .before .if3 .left) (short-no 1024 _ _ (c .if4 .taken)))))
+returns-4 c =
+    let at-if1 = c .before .before .before in
+    by-tests _ (short-yes 60000 _ (at-if1 .if1 .left) (short-yes 1024 _ (c .before .before .if2 .left) (short-yes 1024 _ (c .before .if3 .left) (short-no 1024 _ _ (c .if4 .taken)))))
 
 long-requires : tie.Need-long-requires
 long-requires c κs = search needs
 
 returns-5 : tie.Need-returns-5
-returns-5 c = by-tests _ (short-yes 60000 _ (c .before .before .before .before .before .if1 .left) (short-yes 1024 _ (c .before .before .before .before .if2 .left) (short-yes 1024 _ (c .before .before .before .if3 .left) (short-yes 1024 _ (c .before .before .if4 .left) (both-no _ _ (lists-test _ (c .before .long .ensures)) (c .if5 .taken))))))
+returns-5 c =
+    let at-if3 = c .before .before .before in
+    let at-if2 = at-if3 .before in
+    let at-if1 = at-if2 .before in
+    by-tests _ (short-yes 60000 _ (at-if1 .if1 .left) (short-yes 1024 _ (at-if2 .if2 .left) (short-yes 1024 _ (at-if3 .if3 .left) (short-yes 1024 _ (c .before .before .if4 .left) (both-no _ _ (lists-test _ (c .before .long .ensures)) (c .if5 .taken))))))
 
 returns-6 : tie.Need-returns-6
-returns-6 c = by-tests _ (short-yes 60000 _ (c .before .before .before .before .before .before .if1 .left) (short-yes 1024 _ (c .before .before .before .before .before .if2 .left) (short-yes 1024 _ (c .before .before .before .before .if3 .left) (short-yes 1024 _ (c .before .before .before .if4 .left) (both-yes _ _ (lists-test _ (c .before .before .long .ensures)) (c .before .if5 .left) (short-no 16384 _ _ (c .if6 .taken)))))))
+returns-6 c =
+    let at-if4 = c .before .before .before in
+    let at-if3 = at-if4 .before in
+    let at-if2 = at-if3 .before in
+    let at-if1 = at-if2 .before in
+    by-tests _ (short-yes 60000 _ (at-if1 .if1 .left) (short-yes 1024 _ (at-if2 .if2 .left) (short-yes 1024 _ (at-if3 .if3 .left) (short-yes 1024 _ (at-if4 .if4 .left) (both-yes _ _ (lists-test _ (c .before .before .long .ensures)) (c .before .if5 .left) (short-no 16384 _ _ (c .if6 .taken)))))))
 
 returns-7 : tie.Need-returns-7
-returns-7 c = by-tests _ (short-yes 60000 _ (c .before .before .before .before .before .before .before .if1 .left) (short-yes 1024 _ (c .before .before .before .before .before .before .if2 .left) (short-yes 1024 _ (c .before .before .before .before .before .if3 .left) (short-yes 1024 _ (c .before .before .before .before .if4 .left) (both-yes _ _ (lists-test _ (c .before .before .before .long .ensures)) (c .before .before .if5 .left) (short-yes 16384 _ (c .before .if6 .left) (short-no 16384 _ _ (c .if7 .taken))))))))
+returns-7 c =
+    let at-long = c .before .before .before in
+    let at-if4 = at-long .before in
+    let at-if3 = at-if4 .before in
+    let at-if2 = at-if3 .before in
+    let at-if1 = at-if2 .before in
+    by-tests _ (short-yes 60000 _ (at-if1 .if1 .left) (short-yes 1024 _ (at-if2 .if2 .left) (short-yes 1024 _ (at-if3 .if3 .left) (short-yes 1024 _ (at-if4 .if4 .left) (both-yes _ _ (lists-test _ (at-long .long .ensures)) (c .before .before .if5 .left) (short-yes 16384 _ (c .before .if6 .left) (short-no 16384 _ _ (c .if7 .taken))))))))
 
 returns-8 : tie.Need-returns-8
-returns-8 c = by-tests _ (short-yes 60000 _ (c .before .before .before .before .before .before .before .if1 .left) (short-yes 1024 _ (c .before .before .before .before .before .before .if2 .left) (short-yes 1024 _ (c .before .before .before .before .before .if3 .left) (short-yes 1024 _ (c .before .before .before .before .if4 .left) (both-yes _ _ (lists-test _ (c .before .before .before .long .ensures)) (c .before .before .if5 .left) (short-yes 16384 _ (c .before .if6 .left) (short-yes 16384 _ (c .if7 .left) (refl))))))))
+returns-8 c =
+    let at-long = c .before .before .before in
+    let at-if4 = at-long .before in
+    let at-if3 = at-if4 .before in
+    let at-if2 = at-if3 .before in
+    let at-if1 = at-if2 .before in
+    by-tests _ (short-yes 60000 _ (at-if1 .if1 .left) (short-yes 1024 _ (at-if2 .if2 .left) (short-yes 1024 _ (at-if3 .if3 .left) (short-yes 1024 _ (at-if4 .if4 .left) (both-yes _ _ (lists-test _ (at-long .long .ensures)) (c .before .before .if5 .left) (short-yes 16384 _ (c .before .if6 .left) (short-yes 16384 _ (c .if7 .left) (refl))))))))
 
 pub is-long-spec : {M : Type 1} → statement M
 is-long-spec =

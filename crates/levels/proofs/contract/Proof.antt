@@ -6,7 +6,9 @@ use Rattle.levels.proofs.contract.Statement.{statement}
 use Rattle.levels.proofs.contract.Tie as tie
 
 contract-nets-requires : tie.Need-contract-nets-requires
-contract-nets-requires c κs = contract-needs (c .before .before .before .before .before .before .before .before .before .before .before .before .before .before .before .pre)
+contract-nets-requires c κs =
+    let start = c .before .before .before .before .before .before .before .before .before .before .before .before .before .before .before in
+    contract-needs (start .pre)
 
 mul-blocks : tie.Need-mul-blocks
 mul-blocks c = search needs
@@ -36,7 +38,10 @@ same-length-7 : tie.Need-same-length-7
 same-length-7 c = search needs
 
 returns : tie.Need-returns
-returns c = contract-does (c .before .before .before .before .before .before .before .before .before .before .before .before .before .before .before .before .before .before .before .before .before .before .before .before .before .before .before .pre) (c .before .before .before .before .before .before .before .before .before .before .before .contract-nets .ensures)
+returns c =
+    let at-contract-nets = c .before .before .before .before .before .before .before .before .before .before .before in
+    let start = at-contract-nets .before .before .before .before .before .before .before .before .before .before .before .before .before .before .before .before in
+    contract-does (start .pre) (at-contract-nets .contract-nets .ensures)
 
 pub contract-spec : {M : Type 1} → statement M
 contract-spec =

@@ -20,7 +20,9 @@ next-net-requires : tie.Need-next-net-requires Inv-loop μ-loop
 next-net-requires c κs = let S = c .before .before .before .before .before .before .before .before .before in omega (arith, S .pre .room .bits-fit, S .pre .room .few-nets, S .pre .v-in)
 
 loop-holds : tie.Need-loop-holds Inv-loop μ-loop
-loop-holds c = (c .next-net .ensures .high, c .next-net .ensures .found, contracting-none (c .before .before .before .before .before .before .before .before .before .before .pre) (c .next-net .ensures))
+loop-holds c =
+    let start = c .before .before .before .before .before .before .before .before .before .before in
+    (c .next-net .ensures .high, c .next-net .ensures .found, contracting-none (start .pre) (c .next-net .ensures))
 
 mul-index : tie.Need-mul-index Inv-loop μ-loop
 mul-index c = omega arith
@@ -42,9 +44,14 @@ index-requires-2 c κs = search needs
 
 contract-net-requires : tie.Need-contract-net-requires Inv-loop μ-loop
 contract-net-requires c κs =
-    let I = c .before .before .before .before .before .before .before .before .before .before .loop .inv in
-    let test = c .before .before .before .before .before .before .before .before .before .loop-test .taken in
-    contracting-contracts (c .before .before .before .before .before .before .before .before .before .before .before .before .before .before .before .before .before .before .before .before .before .pre) test (I .1 test) (I .2) (c .before .before .before .before .before .before .before .index .ensures) (c .before .before .before .before .before .index2 .ensures)
+    let at-index2 = c .before .before .before .before .before in
+    let at-index = at-index2 .before .before in
+    let at-loop-test = at-index .before .before in
+    let at-loop = at-loop-test .before in
+    let start = at-loop .before .before .before .before .before .before .before .before .before .before .before in
+    let I = at-loop .loop .inv in
+    let test = at-loop-test .loop-test .taken in
+    contracting-contracts (start .pre) test (I .1 test) (I .2) (at-index .index .ensures) (at-index2 .index2 .ensures)
 
 narrow-requires : tie.Need-narrow-requires Inv-loop μ-loop
 narrow-requires c κs = omega (arith, c .before .before .before .before .before .before .before .contract-net .ensures .shorter, c .before .before .before .before .before .before .before .before .before .before .before .before .before .index2 .ensures, c .before .before .before .before .before .before .before .before .before .before .before .before .before .before .slice-known6 .given (c .before .before .before .before .before .before .before .before .before .before .before .before .before .before .before .before .before .before .loop .e))
@@ -66,11 +73,17 @@ loop-less c = omega (arith, c .next-net2 .ensures .low, c .next-net2 .ensures .h
 
 loop-again : tie.Need-loop-again Inv-loop μ-loop
 loop-again c =
-    let I = c .before .before .before .before .before .before .before .before .before .before .before .before .before .before .before .before .before .before .before .before .before .loop .inv in
-    let test = c .before .before .before .before .before .before .before .before .before .before .before .before .before .before .before .before .before .before .before .before .loop-test .taken in (
+    let at-contract-net = c .before .before .before .before .before .before .before .before .before .before in
+    let at-index2 = at-contract-net .before .before .before .before .before .before in
+    let at-index = at-index2 .before .before in
+    let at-loop-test = at-index .before .before in
+    let at-loop = at-loop-test .before in
+    let start = at-loop .before .before .before .before .before .before .before .before .before .before .before in
+    let I = at-loop .loop .inv in
+    let test = at-loop-test .loop-test .taken in (
       c .next-net2 .ensures .high,
       c .next-net2 .ensures .found,
-      rw (c .before .before .narrow .ensures) (contracting-more (c .before .before .before .before .before .before .before .before .before .before .before .before .before .before .before .before .before .before .before .before .before .before .before .before .before .before .before .before .before .before .before .before .pre) test (I .1 test) (I .2) (c .before .before .before .before .before .before .before .before .before .before .before .before .before .before .before .before .before .before .index .ensures) (c .before .before .before .before .before .before .before .before .before .before .before .before .before .before .before .before .index2 .ensures) (c .before .before .before .before .before .before .before .before .before .before .contract-net .ensures) (c .next-net2 .ensures)),
+      rw (c .before .before .narrow .ensures) (contracting-more (start .pre) test (I .1 test) (I .2) (at-index .index .ensures) (at-index2 .index2 .ensures) (at-contract-net .contract-net .ensures) (c .next-net2 .ensures)),
     )
 
 copy-or-requires : tie.Need-copy-or-requires Inv-loop μ-loop

@@ -33,7 +33,9 @@ next-net-requires : tie.Need-next-net-requires Inv-loop μ-loop
 next-net-requires c κs = let S = c .before .before .before .before .before .before .before .before .before .before .before in omega (arith, move-needs (S .pre) .bits-fit, S .pre .follows .room .few-nets)
 
 loop-holds : tie.Need-loop-holds Inv-loop μ-loop
-loop-holds c = (c .next-net .ensures .high, c .next-net .ensures .found, moving-none (move-needs (c .before .before .before .before .before .before .before .before .before .before .before .before .pre)) (c .next-net .ensures))
+loop-holds c =
+    let start = c .before .before .before .before .before .before .before .before .before .before .before .before in
+    (c .next-net .ensures .high, c .next-net .ensures .found, moving-none (move-needs (start .pre)) (c .next-net .ensures))
 
 mul-index-2 : tie.Need-mul-index-2 Inv-loop μ-loop
 mul-index-2 c = omega arith
@@ -55,9 +57,16 @@ index-requires-4 c κs = search needs
 
 set-pin-requires : tie.Need-set-pin-requires Inv-loop μ-loop
 set-pin-requires c κs =
-    let I = c .before .before .before .before .before .before .before .before .before .loop .inv in
-    let test = c .before .before .before .before .before .before .before .before .loop-test .taken in
-    moving-sets (move-needs (c .before .before .before .before .before .before .before .before .before .before .before .before .before .before .before .before .before .before .before .before .before .before .pre)) test (I .1 test) (I .2) (c .before .before .before .before .before .before .index3 .ensures) (c .before .before .before .before .index4 .ensures) (c .before .before .before .before .before .before .before .before .before .before .before .before .index .ensures) (c .before .before .before .before .before .before .before .before .before .before .before .index2 .ensures)
+    let at-index4 = c .before .before .before .before in
+    let at-index3 = at-index4 .before .before in
+    let at-loop-test = at-index3 .before .before in
+    let at-loop = at-loop-test .before in
+    let at-index2 = at-loop .before .before in
+    let at-index = at-index2 .before in
+    let start = at-index .before .before .before .before .before .before .before .before .before .before in
+    let I = at-loop .loop .inv in
+    let test = at-loop-test .loop-test .taken in
+    moving-sets (move-needs (start .pre)) test (I .1 test) (I .2) (at-index3 .index3 .ensures) (at-index4 .index4 .ensures) (at-index .index .ensures) (at-index2 .index2 .ensures)
 
 add-next-net : tie.Need-add-next-net Inv-loop μ-loop
 add-next-net c = omega (arith, c .before .before .before .before .before .before .before .before .before .before .before .before .before .before .loop-test .taken, c .before .before .before .before .before .before .before .before .before .before .before .before .before .before .before .before .before .before .before .before .before .before .before .before .before .before .before .before .pre .follows .room .few-nets)
@@ -70,9 +79,17 @@ loop-less c = omega (arith, c .next-net2 .ensures .low, c .next-net2 .ensures .h
 
 loop-again : tie.Need-loop-again Inv-loop μ-loop
 loop-again c =
-    let I = c .before .before .before .before .before .before .before .before .before .before .before .before .before .before .before .before .loop .inv in
-    let test = c .before .before .before .before .before .before .before .before .before .before .before .before .before .before .before .loop-test .taken in
-    (c .next-net2 .ensures .high, c .next-net2 .ensures .found, moving-more (move-needs (c .before .before .before .before .before .before .before .before .before .before .before .before .before .before .before .before .before .before .before .before .before .before .before .before .before .before .before .before .before .pre)) test (I .1 test) (I .2) (c .before .before .before .before .before .before .before .before .before .before .before .before .before .index3 .ensures) (c .before .before .before .before .before .before .before .before .before .before .before .index4 .ensures) (c .before .before .before .before .before .before .before .before .before .before .before .before .before .before .before .before .before .before .before .index .ensures) (c .before .before .before .before .before .before .before .before .before .before .before .before .before .before .before .before .before .before .index2 .ensures) (c .before .before .before .before .before .before .set-pin .ensures) (c .next-net2 .ensures))
+    let at-set-pin = c .before .before .before .before .before .before in
+    let at-index4 = at-set-pin .before .before .before .before .before in
+    let at-index3 = at-index4 .before .before in
+    let at-loop-test = at-index3 .before .before in
+    let at-loop = at-loop-test .before in
+    let at-index2 = at-loop .before .before in
+    let at-index = at-index2 .before in
+    let start = at-index .before .before .before .before .before .before .before .before .before .before in
+    let I = at-loop .loop .inv in
+    let test = at-loop-test .loop-test .taken in
+    (c .next-net2 .ensures .high, c .next-net2 .ensures .found, moving-more (move-needs (start .pre)) test (I .1 test) (I .2) (at-index3 .index3 .ensures) (at-index4 .index4 .ensures) (at-index .index .ensures) (at-index2 .index2 .ensures) (at-set-pin .set-pin .ensures) (c .next-net2 .ensures))
 
 mul-blocks : tie.Need-mul-blocks Inv-loop μ-loop
 mul-blocks c = omega arith

@@ -18,7 +18,9 @@ slice-write-blocks : tie.Need-slice-write-blocks
 slice-write-blocks c = search needs
 
 uncontract-nets-requires : tie.Need-uncontract-nets-requires
-uncontract-nets-requires c κs = uncontract-needs (c .before .before .before .before .before .before .before .before .before .before .before .before .before .before .before .before .before .pre) _ refl
+uncontract-nets-requires c κs =
+    let start = c .before .before .before .before .before .before .before .before .before .before .before .before .before .before .before .before .before in
+    uncontract-needs (start .pre) _ refl
 
 same-length : tie.Need-same-length
 same-length c = search needs
@@ -42,7 +44,10 @@ same-length-7 : tie.Need-same-length-7
 same-length-7 c = search needs
 
 returns : tie.Need-returns
-returns c = uncontract-does (c .before .before .before .before .before .before .before .before .before .before .before .before .before .before .before .before .before .before .before .before .before .before .before .before .before .before .before .before .before .pre) _ refl (c .before .before .before .before .before .before .before .before .before .before .before .uncontract-nets .ensures)
+returns c =
+    let at-uncontract-nets = c .before .before .before .before .before .before .before .before .before .before .before in
+    let start = at-uncontract-nets .before .before .before .before .before .before .before .before .before .before .before .before .before .before .before .before .before .before in
+    uncontract-does (start .pre) _ refl (at-uncontract-nets .uncontract-nets .ensures)
 
 pub uncontract-spec : {M : Type 1} → statement M
 uncontract-spec =

@@ -20,7 +20,9 @@ next-net-requires : tie.Need-next-net-requires Inv-loop μ-loop
 next-net-requires c κs = omega (arith, c .before .before .before .before .before .before .before .before .before .before .pre .lists .room .bits-fit, c .before .before .before .before .before .before .before .before .before .before .pre .lists .room .few-nets, c .before .before .before .before .before .before .before .before .before .before .pre .lists .v-in)
 
 loop-holds : tie.Need-loop-holds Inv-loop μ-loop
-loop-holds c = (c .next-net .ensures .high, c .next-net .ensures .found, uncontracting-none (c .before .before .before .before .before .before .before .before .before .before .before .pre) (c .next-net .ensures))
+loop-holds c =
+    let start = c .before .before .before .before .before .before .before .before .before .before .before in
+    (c .next-net .ensures .high, c .next-net .ensures .found, uncontracting-none (start .pre) (c .next-net .ensures))
 
 mul-index : tie.Need-mul-index Inv-loop μ-loop
 mul-index c = omega arith
@@ -51,7 +53,13 @@ index-requires-3 c κs = search needs
 
 split-net-requires : tie.Need-split-net-requires Inv-loop μ-loop
 split-net-requires c κs =
-    uncontracting-splits (c .before .before .before .before .before .before .before .before .before .before .before .before .before .before .before .before .before .before .before .before .before .before .before .before .pre) (c .before .before .before .before .before .before .before .before .before .before .before .loop-test .taken) (c .before .before .before .before .before .before .before .before .before .before .before .before .loop .inv .1 (c .before .before .before .before .before .before .before .before .before .before .before .loop-test .taken)) (c .before .before .before .before .before .before .before .before .before .before .before .before .loop .inv .2) (c .before .before .before .before .before .before .before .before .before .index .ensures) (c .before .before .before .before .before .before .before .index2 .ensures) (c .before .before .before .before .before .index3 .ensures)
+    let at-index3 = c .before .before .before .before .before in
+    let at-index2 = at-index3 .before .before in
+    let at-index = at-index2 .before .before in
+    let at-loop-test = at-index .before .before in
+    let at-loop = at-loop-test .before in
+    let start = at-loop .before .before .before .before .before .before .before .before .before .before .before .before in
+    uncontracting-splits (start .pre) (at-loop-test .loop-test .taken) (at-loop .loop .inv .1 (at-loop-test .loop-test .taken)) (at-loop .loop .inv .2) (at-index .index .ensures) (at-index2 .index2 .ensures) (at-index3 .index3 .ensures)
 
 narrow-requires : tie.Need-narrow-requires Inv-loop μ-loop
 narrow-requires c κs = omega (arith, c .before .before .before .before .before .before .before .before .before .split-net .ensures .split .small, c .before .before .before .before .before .before .before .before .before .before .before .before .before .before .before .index3 .ensures, c .before .before .before .before .before .before .before .before .before .before .before .before .before .before .before .before .shared-slice-known6 .given (c .before .before .before .before .before .before .before .before .before .before .before .before .before .before .before .before .before .before .before .before .before .before .loop .e))
@@ -73,7 +81,14 @@ loop-less c = omega (arith, c .next-net2 .ensures .low, c .next-net2 .ensures .h
 
 loop-again : tie.Need-loop-again Inv-loop μ-loop
 loop-again c =
-    (c .next-net2 .ensures .high, c .next-net2 .ensures .found, rw (c .before .before .narrow .ensures) (uncontracting-more (c .before .before .before .before .before .before .before .before .before .before .before .before .before .before .before .before .before .before .before .before .before .before .before .before .before .before .before .before .before .before .before .before .before .before .before .before .before .pre) (c .before .before .before .before .before .before .before .before .before .before .before .before .before .before .before .before .before .before .before .before .before .before .before .before .loop-test .taken) (c .before .before .before .before .before .before .before .before .before .before .before .before .before .before .before .before .before .before .before .before .before .before .before .before .before .loop .inv .1 (c .before .before .before .before .before .before .before .before .before .before .before .before .before .before .before .before .before .before .before .before .before .before .before .before .loop-test .taken)) (c .before .before .before .before .before .before .before .before .before .before .before .before .before .before .before .before .before .before .before .before .before .before .before .before .before .loop .inv .2) (c .before .before .before .before .before .before .before .before .before .before .before .before .before .before .before .before .before .before .before .before .before .before .index .ensures) (c .before .before .before .before .before .before .before .before .before .before .before .before .before .before .before .before .before .before .before .before .index2 .ensures) (c .before .before .before .before .before .before .before .before .before .before .before .before .before .before .before .before .before .before .index3 .ensures) (c .before .before .before .before .before .before .before .before .before .before .before .before .split-net .ensures) (c .next-net2 .ensures)))
+    let at-split-net = c .before .before .before .before .before .before .before .before .before .before .before .before in
+    let at-index3 = at-split-net .before .before .before .before .before .before in
+    let at-index2 = at-index3 .before .before in
+    let at-index = at-index2 .before .before in
+    let at-loop-test = at-index .before .before in
+    let at-loop = at-loop-test .before in
+    let start = at-loop .before .before .before .before .before .before .before .before .before .before .before .before in
+    (c .next-net2 .ensures .high, c .next-net2 .ensures .found, rw (c .before .before .narrow .ensures) (uncontracting-more (start .pre) (at-loop-test .loop-test .taken) (at-loop .loop .inv .1 (at-loop-test .loop-test .taken)) (at-loop .loop .inv .2) (at-index .index .ensures) (at-index2 .index2 .ensures) (at-index3 .index3 .ensures) (at-split-net .split-net .ensures) (c .next-net2 .ensures)))
 
 same-length : tie.Need-same-length Inv-loop μ-loop
 same-length c = c .before .loop .inv .2 .kept .of-tally .counts-len

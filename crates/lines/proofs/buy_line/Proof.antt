@@ -24,7 +24,9 @@ form-requires : tie.Need-form-requires
 form-requires c κs = search needs
 
 returns : tie.Need-returns
-returns c = let a = c .before .before .before .before .before .args in let x = slice (a .at) (a .end) (now (a .s)) in buy-bad (now (a .s)) (a .at) (a .end) (a .vertices) (a .j) (a .first) (now (a .pins)) (now (a .stamps)) (c .before .before .before .before .before .pre .5) (c .before .form .result) word-BUY (c .before .form .ensures) (c .if1 .taken)
+returns c =
+    let start = c .before .before .before .before .before in
+    let a = start .args in let x = slice (a .at) (a .end) (now (a .s)) in buy-bad (now (a .s)) (a .at) (a .end) (a .vertices) (a .j) (a .first) (now (a .pins)) (now (a .stamps)) (start .pre .5) (c .before .form .result) word-BUY (c .before .form .ensures) (c .if1 .taken)
 
 get-requires : tie.Need-get-requires
 get-requires c κs = let a = c .before .before .before .before .before .args in let x = slice (a .at) (a .end) (now (a .s)) in (omega arith, omega arith, numbered (66 ∷ 85 ∷ 89 ∷ []) (fields x) (c .before .form .result - 1) 1 (sym (c .before .form .ensures) ∙ omega arith) (omega arith) (omega arith))

@@ -21,7 +21,9 @@ form-requires : tie.Need-form-requires
 form-requires c κs = search needs
 
 returns : tie.Need-returns
-returns c = let a = c .before .before .before .before .args in let x = slice (a .at) (a .end) (now (a .s)) in λ n k eb. lot-form n k (fields x) (line-no "LOT" (76 ∷ 79 ∷ 84 ∷ []) 2 (c .before .form .result) x word-LOT (c .before .form .ensures) (c .if1 .taken))
+returns c =
+    let start = c .before .before .before .before in
+    let a = start .args in let x = slice (a .at) (a .end) (now (a .s)) in λ n k eb. lot-form n k (fields x) (line-no "LOT" (76 ∷ 79 ∷ 84 ∷ []) 2 (c .before .form .result) x word-LOT (c .before .form .ensures) (c .if1 .taken))
 
 get-requires : tie.Need-get-requires
 get-requires c κs = let a = c .before .before .before .before .args in let x = slice (a .at) (a .end) (now (a .s)) in (omega arith, omega arith, numbered (76 ∷ 79 ∷ 84 ∷ []) (fields x) 2 1 (sym (c .before .form .ensures) ∙ c .if1 .left) (omega arith) (omega arith))
@@ -33,19 +35,38 @@ between-requires : tie.Need-between-requires
 between-requires c κs = search needs
 
 returns-2 : tie.Need-returns-2
-returns-2 c = let a = c .before .before .before .before .before .before .before .before .args in let x = slice (a .at) (a .end) (now (a .s)) in λ n k eb. lot-1 n k (fields x) (line-yes "LOT" (76 ∷ 79 ∷ 84 ∷ []) 2 (c .before .before .before .before .before .form .result) x word-LOT (c .before .before .before .before .before .form .ensures) (c .before .before .before .before .if1 .left)) (c .before .before .before .get .result) (c .before .before .get2 .result) (a .blocks) (c .before .before .before .get .ensures) (c .before .before .get2 .ensures) eb (sym (c .before .between .ensures) ∙ not-true _ (c .if2 .taken))
+returns-2 c =
+    let at-get = c .before .before .before in
+    let at-if1 = at-get .before in
+    let at-form = at-if1 .before in
+    let start = at-form .before .before .before in
+    let a = start .args in let x = slice (a .at) (a .end) (now (a .s)) in λ n k eb. lot-1 n k (fields x) (line-yes "LOT" (76 ∷ 79 ∷ 84 ∷ []) 2 (at-form .form .result) x word-LOT (at-form .form .ensures) (at-if1 .if1 .left)) (at-get .get .result) (c .before .before .get2 .result) (a .blocks) (at-get .get .ensures) (c .before .before .get2 .ensures) eb (sym (c .before .between .ensures) ∙ not-true _ (c .if2 .taken))
 
 between-requires-2 : tie.Need-between-requires-2
 between-requires-2 c κs = search needs
 
 returns-3 : tie.Need-returns-3
-returns-3 c = let a = c .before .before .before .before .before .before .before .before .before .before .args in let x = slice (a .at) (a .end) (now (a .s)) in λ n k eb. lot-2 n k (fields x) (line-yes "LOT" (76 ∷ 79 ∷ 84 ∷ []) 2 (c .before .before .before .before .before .before .before .form .result) x word-LOT (c .before .before .before .before .before .before .before .form .ensures) (c .before .before .before .before .before .before .if1 .left)) (c .before .before .before .before .before .get .result) (c .before .before .before .before .get2 .result) (a .blocks) (c .before .before .before .before .before .get .ensures) (c .before .before .before .before .get2 .ensures) eb (sym (c .before .before .before .between .ensures) ∙ not-false _ (c .before .before .if2 .left)) (sym (c .before .between2 .ensures) ∙ not-true _ (c .if3 .taken))
+returns-3 c =
+    let at-between = c .before .before .before in
+    let at-get2 = at-between .before in
+    let at-get = at-get2 .before in
+    let at-if1 = at-get .before in
+    let at-form = at-if1 .before in
+    let start = at-form .before .before .before in
+    let a = start .args in let x = slice (a .at) (a .end) (now (a .s)) in λ n k eb. lot-2 n k (fields x) (line-yes "LOT" (76 ∷ 79 ∷ 84 ∷ []) 2 (at-form .form .result) x word-LOT (at-form .form .ensures) (at-if1 .if1 .left)) (at-get .get .result) (at-get2 .get2 .result) (a .blocks) (at-get .get .ensures) (at-get2 .get2 .ensures) eb (sym (at-between .between .ensures) ∙ not-false _ (c .before .before .if2 .left)) (sym (c .before .between2 .ensures) ∙ not-true _ (c .if3 .taken))
 
 cast-t14 : tie.Need-cast-t14
 cast-t14 c = omega (arith, leb-true (c .before .before .before .before .get2 .result) (c .before .before .before .before .before .before .before .before .before .before .args .blocks) (and-right (leb 1 (c .before .before .before .before .get2 .result)) _ (sym (c .before .between2 .ensures) ∙ not-false _ (c .if3 .left))))
 
 returns-4 : tie.Need-returns-4
-returns-4 c = let a = c .before .before .before .before .before .before .before .before .before .before .args in let x = slice (a .at) (a .end) (now (a .s)) in λ n k eb. lot-read n k (fields x) (line-yes "LOT" (76 ∷ 79 ∷ 84 ∷ []) 2 (c .before .before .before .before .before .before .before .form .result) x word-LOT (c .before .before .before .before .before .before .before .form .ensures) (c .before .before .before .before .before .before .if1 .left)) (c .before .before .before .before .before .get .result) (c .before .before .before .before .get2 .result) (a .blocks) (c .before .before .before .before .before .get .ensures) (c .before .before .before .before .get2 .ensures) eb (sym (c .before .before .before .between .ensures) ∙ not-false _ (c .before .before .if2 .left)) (sym (c .before .between2 .ensures) ∙ not-false _ (c .if3 .left))
+returns-4 c =
+    let at-between = c .before .before .before in
+    let at-get2 = at-between .before in
+    let at-get = at-get2 .before in
+    let at-if1 = at-get .before in
+    let at-form = at-if1 .before in
+    let start = at-form .before .before .before in
+    let a = start .args in let x = slice (a .at) (a .end) (now (a .s)) in λ n k eb. lot-read n k (fields x) (line-yes "LOT" (76 ∷ 79 ∷ 84 ∷ []) 2 (at-form .form .result) x word-LOT (at-form .form .ensures) (at-if1 .if1 .left)) (at-get .get .result) (at-get2 .get2 .result) (a .blocks) (at-get .get .ensures) (at-get2 .get2 .ensures) eb (sym (at-between .between .ensures) ∙ not-false _ (c .before .before .if2 .left)) (sym (c .before .between2 .ensures) ∙ not-false _ (c .if3 .left))
 
 pub lot-line-spec : {M : Type 1} → statement M
 lot-line-spec =

@@ -23,10 +23,15 @@ get-requires : tie.Need-get-requires Inv-loop μ-loop
 get-requires c κs = let a = c .before .before .before .before .args in let l = c .before .loop in (omega arith, omega arith, first-number (now (a .s)) (l .i) (a .end) (c .find .result) (omega arith) (omega arith) (c .find .ensures) (l .inv .form))
 
 put-pin-requires : tie.Need-put-pin-requires Inv-loop μ-loop
-put-pin-requires c κs = let a = c .before .before .before .before .before .before .before .args in let l = c .before .before .before .before .loop in (l .inv .lots-le, l .inv .wide, l .inv .slen)
+put-pin-requires c κs =
+    let at-loop = c .before .before .before .before in
+    let start = at-loop .before .before .before in
+    let a = start .args in let l = at-loop .loop in (l .inv .lots-le, l .inv .wide, l .inv .slen)
 
 same-length : tie.Need-same-length Inv-loop μ-loop
-same-length c = c .before .before .before .put-pin .ensures .len ∙ c .before .before .before .before .before .before .before .before .loop .inv .len
+same-length c =
+    let at-loop = c .before .before .before .before .before .before .before .before in
+    c .before .before .before .put-pin .ensures .len ∙ at-loop .loop .inv .len
 
 returns : tie.Need-returns Inv-loop μ-loop
 returns c = let a = c .before .before .before .before .before .before .before .before .before .before .before .args in let l = c .before .before .before .before .before .before .before .before .loop in marks-stop (now (a .s)) (a .at) (a .end) (a .vertices) (a .j) (a .first) (now (a .pins)) (l .pins) (l .stamps) (l .i) (l .m) (l .inv) (omega arith) (c .before .before .before .before .before .before .before .find .result) (c .before .before .before .before .before .before .before .find .ensures) (c .before .before .before .before .before .before .get .result) (c .before .before .before .before .before .before .get .ensures) (c .before .before .before .put-pin .result) (c .before .before .before .put-pin .last .1 .1 .1 .1 .0) (c .before .before .before .put-pin .last .1 .1 .1 .1 .1 .0) (c .before .before .before .put-pin .ensures) (c .if1 .taken)
@@ -35,7 +40,10 @@ add-m : tie.Need-add-m Inv-loop μ-loop
 add-m c = omega (arith, c .before .before .before .put-pin .ensures .room (omega arith))
 
 same-length-2 : tie.Need-same-length-2 Inv-loop μ-loop
-same-length-2 c = c .before .before .before .before .put-pin .ensures .len ∙ c .before .before .before .before .before .before .before .before .before .loop .inv .len
+same-length-2 c =
+    let at-put-pin = c .before .before .before .before in
+    let at-loop = at-put-pin .before .before .before .before .before in
+    at-put-pin .put-pin .ensures .len ∙ at-loop .loop .inv .len
 
 returns-2 : tie.Need-returns-2 Inv-loop μ-loop
 returns-2 c = let a = c .before .before .before .before .before .before .before .before .before .before .before .before .args in let l = c .before .before .before .before .before .before .before .before .before .loop in marks-last (now (a .s)) (a .at) (a .end) (a .vertices) (a .j) (a .first) (now (a .pins)) (l .pins) (l .stamps) (l .i) (l .m) (l .inv) (omega arith) (c .before .before .before .before .before .before .before .before .find .result) (c .before .before .before .before .before .before .before .before .find .ensures) (c .before .before .before .before .before .before .before .get .result) (c .before .before .before .before .before .before .before .get .ensures) (c .before .before .before .before .put-pin .result) (c .before .before .before .before .put-pin .last .1 .1 .1 .1 .0) (c .before .before .before .before .put-pin .last .1 .1 .1 .1 .1 .0) (c .before .before .before .before .put-pin .ensures) (c .before .if1 .left) (c .if2 .taken)

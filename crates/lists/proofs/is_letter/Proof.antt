@@ -14,10 +14,14 @@ is-moving-requires : tie.Need-is-moving-requires
 is-moving-requires c κs = search needs
 
 returns-2 : tie.Need-returns-2
-returns-2 c = letter-rest _ _ (c .before .before .before .is-contracting .ensures) (c .before .before .if1 .left) (letter-kind _ _ (c .before .is-moving .ensures) (c .if2 .taken) refl)
+returns-2 c =
+    let at-is-contracting = c .before .before .before in
+    letter-rest _ _ (at-is-contracting .is-contracting .ensures) (c .before .before .if1 .left) (letter-kind _ _ (c .before .is-moving .ensures) (c .if2 .taken) refl)
 
 returns-3 : tie.Need-returns-3
-returns-3 c = letter-rest _ _ (c .before .before .before .is-contracting .ensures) (c .before .before .if1 .left) (letter-rest _ _ (c .before .is-moving .ensures) (c .if2 .left) refl)
+returns-3 c =
+    let at-is-contracting = c .before .before .before in
+    letter-rest _ _ (at-is-contracting .is-contracting .ensures) (c .before .before .if1 .left) (letter-rest _ _ (c .before .is-moving .ensures) (c .if2 .left) refl)
 
 pub is-letter-spec : {M : Type 1} → statement M
 is-letter-spec =

@@ -14,10 +14,14 @@ are-letters-requires : tie.Need-are-letters-requires
 are-letters-requires c κs = search needs
 
 returns-3 : tie.Need-returns-3
-returns-3 c = list-strange _ (c .before .before .before .if1 .left) (c .before .before .if2 .left) (c .before .are-letters .ensures) (not-true _ (c .if3 .taken))
+returns-3 c =
+    let at-if1 = c .before .before .before in
+    list-strange _ (at-if1 .if1 .left) (c .before .before .if2 .left) (c .before .are-letters .ensures) (not-true _ (c .if3 .taken))
 
 returns-4 : tie.Need-returns-4
-returns-4 c = list-good _ (c .before .before .before .if1 .left) (c .before .before .if2 .left) (c .before .are-letters .ensures) (not-false _ (c .if3 .left))
+returns-4 c =
+    let at-if1 = c .before .before .before in
+    list-good _ (at-if1 .if1 .left) (c .before .before .if2 .left) (c .before .are-letters .ensures) (not-false _ (c .if3 .left))
 
 pub list-refusal-spec : {M : Type 1} → statement M
 list-refusal-spec = tie.close (tie.spec returns returns-2 are-letters-requires returns-3 returns-4)

@@ -38,14 +38,17 @@ slice-aggregate-sell c = omega (arith, c .before .before .before .before .before
 
 sell-requires : tie.Need-sell-requires
 sell-requires c κs =
-    let long = c .before .before .before .before .before .before .before .before .before .before .before .before .before .before .before .before .before .before .before .before .before .before .before .before .before .before .before .before .before .before .before .before .before .before .before .before .before .before .before .before .before .before .before .before .before .before .before .before .before .before .before .before .before .before .before .before .pre .0 in
+    let at-z = c .before .before .before .before .before .before .before .before .before .before .before .before .before in
+    let at-load = at-z .before .before .before .before .before .before .before .before .before .before .before .before .before .before .before .before .before .before .before in
+    let start = at-load .before .before .before .before .before .before .before .before .before .before .before .before .before .before .before .before .before .before .before .before .before .before .before .before in
+    let long = start .pre .0 in
     record {
       limits = mainLimits;
       file = _;
       old = _;
       pins = _;
-      catalogued = catalogued long (c .before .before .before .before .before .before .before .before .before .before .before .before .before .before .before .before .before .before .before .before .before .before .before .before .before .before .before .before .before .before .before .before .load .ensures) (c .before .before .before .before .before .before .before .before .before .before .before .before .before .z .given .1);
-      listed = list-listed _ (c .before .before .before .before .before .before .before .before .before .before .before .before .before .before .before .before .before .before .before .before .before .before .before .before .before .before .before .before .before .before .before .before .before .before .before .before .before .before .before .before .before .before .before .before .before .before .before .before .before .before .before .before .before .before .before .before .pre .1) (long .spacious);
+      catalogued = catalogued long (at-load .load .ensures) (at-z .z .given .1);
+      listed = list-listed _ (start .pre .1) (long .spacious);
     }
 
 same-length : tie.Need-same-length
@@ -76,7 +79,12 @@ same-length-9 : tie.Need-same-length-9
 same-length-9 c = search needs
 
 returns : tie.Need-returns
-returns c = list-down (now (c .before .before .before .before .before .before .before .before .before .before .before .before .before .before .before .before .before .before .before .before .before .before .before .before .before .before .before .before .before .before .before .before .before .before .before .before .before .before .before .before .before .before .before .before .before .before .before .before .before .args .list)) _ _ _ _ (c .before .before .before .before .before .before .before .before .before .before .before .before .before .before .before .before .before .before .before .before .before .before .before .before .before .load .ensures) (c .before .before .before .before .before .before .q .given .1) _ (idle _ _ _ _ (c .new .ensures .2) refl) refl (c .before .before .before .refuse .ensures)
+returns c =
+    let at-refuse = c .before .before .before in
+    let at-q = at-refuse .before .before .before in
+    let at-load = at-q .before .before .before .before .before .before .before .before .before .before .before .before .before .before .before .before .before .before .before in
+    let start = at-load .before .before .before .before .before .before .before .before .before .before .before .before .before .before .before .before .before .before .before .before .before .before .before .before in
+    list-down (now (start .args .list)) _ _ _ _ (at-load .load .ensures) (at-q .q .given .1) _ (idle _ _ _ _ (c .new .ensures .2) refl) refl (at-refuse .refuse .ensures)
 
 same-length-10 : tie.Need-same-length-10
 same-length-10 c = search needs
@@ -116,10 +124,14 @@ same-length-21 c = search needs
 
 returns-2 : tie.Need-returns-2
 returns-2 c =
-    let long = c .before .before .before .before .before .before .before .before .before .before .before .before .before .before .before .before .before .before .before .before .before .before .before .before .before .before .before .before .before .before .before .before .before .before .before .before .before .before .before .before .before .before .before .before .before .before .before .before .before .before .before .before .before .before .before .before .before .before .before .before .before .before .before .before .before .before .before .before .before .before .before .before .before .before .before .pre .0 in
-    let loads = c .before .before .before .before .before .before .before .before .before .before .before .before .before .before .before .before .before .before .before .before .before .before .before .before .before .before .before .before .before .before .before .before .before .before .before .before .before .before .before .before .before .before .before .before .before .before .before .before .before .before .before .load .ensures in
-    let accepted = c .before .before .before .before .before .before .before .before .before .before .before .before .before .before .before .before .before .before .before .before .before .before .before .before .before .before .before .before .before .before .before .before .z .given .1 in
-    list-worked (now (c .before .before .before .before .before .before .before .before .before .before .before .before .before .before .before .before .before .before .before .before .before .before .before .before .before .before .before .before .before .before .before .before .before .before .before .before .before .before .before .before .before .before .before .before .before .before .before .before .before .before .before .before .before .before .before .before .before .before .before .before .before .before .before .before .before .before .before .before .before .before .before .before .before .before .before .args .list)) _ _ _ _ loads accepted (c .before .before .before .before .before .before .before .before .before .before .before .before .before .before .before .before .before .before .sell .ensures mainLimits _ _ _ (catalogued long loads accepted) (list-listed _ (c .before .before .before .before .before .before .before .before .before .before .before .before .before .before .before .before .before .before .before .before .before .before .before .before .before .before .before .before .before .before .before .before .before .before .before .before .before .before .before .before .before .before .before .before .before .before .before .before .before .before .before .before .before .before .before .before .before .before .before .before .before .before .before .before .before .before .before .before .before .before .before .before .before .before .before .pre .1) (long .spacious)))
+    let at-sell = c .before .before .before .before .before .before .before .before .before .before .before .before .before .before .before .before .before .before in
+    let at-z = at-sell .before .before .before .before .before .before .before .before .before .before .before .before .before .before in
+    let at-load = at-z .before .before .before .before .before .before .before .before .before .before .before .before .before .before .before .before .before .before .before in
+    let start = at-load .before .before .before .before .before .before .before .before .before .before .before .before .before .before .before .before .before .before .before .before .before .before .before .before in
+    let long = start .pre .0 in
+    let loads = at-load .load .ensures in
+    let accepted = at-z .z .given .1 in
+    list-worked (now (start .args .list)) _ _ _ _ loads accepted (at-sell .sell .ensures mainLimits _ _ _ (catalogued long loads accepted) (list-listed _ (start .pre .1) (long .spacious)))
 
 pub work-list-spec : {M : Type 1} → statement M
 work-list-spec =

@@ -19,7 +19,9 @@ part-result-end : tie.Need-part-result-end
 part-result-end c = search needs
 
 returns : tie.Need-returns
-returns c = let a = c .before .before .before .before .before .args in short-none (now (a .table)) (now (a .firsts)) (now (a .sizes)) (a .long) (a .e) (not-true _ (c .before .if1 .taken))
+returns c =
+    let start = c .before .before .before .before .before in
+    let a = start .args in short-none (now (a .table)) (now (a .firsts)) (now (a .sizes)) (a .long) (a .e) (not-true _ (c .before .if1 .taken))
 
 between-requires : tie.Need-between-requires
 between-requires c κs = search needs
@@ -34,7 +36,9 @@ part-result-end-2 : tie.Need-part-result-end-2
 part-result-end-2 c = search needs
 
 returns-2 : tie.Need-returns-2
-returns-2 c = let a = c .before .before .before .before .before .before .before .args in out-none (now (a .table)) (now (a .firsts)) (now (a .sizes)) (a .long) (a .e) (sym (c .before .before .between .ensures) ∙ not-true _ (c .before .if2 .taken))
+returns-2 c =
+    let start = c .before .before .before .before .before .before .before in
+    let a = start .args in out-none (now (a .table)) (now (a .firsts)) (now (a .sizes)) (a .long) (a .e) (sym (c .before .before .between .ensures) ∙ not-true _ (c .before .if2 .taken))
 
 sub-x : tie.Need-sub-x
 sub-x c = omega (arith, in-range (c .before .before .before .before .before .before .args .e) (sym (c .before .between .ensures) ∙ not-false _ (c .if2 .left)))
@@ -73,7 +77,9 @@ part-result-end-3 : tie.Need-part-result-end-3
 part-result-end-3 c = search needs
 
 returns-3 : tie.Need-returns-3
-returns-3 c = let a = c .before .before .before .before .before .before .before .before .before .before .args in past-none (now (a .table)) (now (a .firsts)) (now (a .sizes)) (a .long) (a .e) (c .before .if3 .taken)
+returns-3 c =
+    let start = c .before .before .before .before .before .before .before .before .before .before in
+    let a = start .args in past-none (now (a .table)) (now (a .firsts)) (now (a .sizes)) (a .long) (a .e) (c .before .if3 .taken)
 
 mul-result : tie.Need-mul-result
 mul-result c = search needs
@@ -88,7 +94,12 @@ part-result-end-4 : tie.Need-part-result-end-4
 part-result-end-4 c = search needs
 
 returns-4 : tie.Need-returns-4
-returns-4 c = let a = c .before .before .before .before .before .before .before .before .before .before .args in part-some (now (a .table)) (now (a .firsts)) (now (a .sizes)) (a .long) (a .e) (not-false _ (c .before .before .before .before .before .before .if1 .left)) (sym (c .before .before .before .before .before .between .ensures) ∙ not-false _ (c .before .before .before .before .if2 .left)) (c .before .if3 .left)
+returns-4 c =
+    let at-if2 = c .before .before .before .before in
+    let at-between = at-if2 .before in
+    let at-if1 = at-between .before in
+    let start = at-if1 .before .before .before .before in
+    let a = start .args in part-some (now (a .table)) (now (a .firsts)) (now (a .sizes)) (a .long) (a .e) (not-false _ (at-if1 .if1 .left)) (sym (at-between .between .ensures) ∙ not-false _ (at-if2 .if2 .left)) (c .before .if3 .left)
 
 pub hand-out-spec : {M : Type 1} → statement M
 hand-out-spec =

@@ -61,14 +61,20 @@ same-length-6 c = search needs
 
 returns : tie.Need-returns
 returns c =
-    let a = c .before .before .before .before .before .before .before .before .before .before .before .before .before .before .before .before .before .before .before .before .before .before .before .before .before .before .before .before .before .before .before .before .before .args in
-    refused (limitsOf (a .vmax) (a .bmax)) (now (a .s)) (c .before .before .before .before .before .before .before .before .before .before .before .before .before .before .before .read .result) (c .before .q .given .0 .0) (c .before .q .given .0 .1 .0) (now (a .weights)) (now (a .draft)) (now (a .aboves)) (now (a .present)) (now (a .counts)) (now (a .firsts)) (now (a .sizes)) (now (a .pins)) _ _ _ _ _ _ _ (c .before .before .before .before .before .before .before .before .before .before .before .before .before .before .before .read .ensures) (c .before .q .given .1)
+    let at-read = c .before .before .before .before .before .before .before .before .before .before .before .before .before .before .before in
+    let start = at-read .before .before .before .before .before .before .before .before .before .before .before .before .before .before .before .before .before .before in
+    let a = start .args in
+    refused (limitsOf (a .vmax) (a .bmax)) (now (a .s)) (at-read .read .result) (c .before .q .given .0 .0) (c .before .q .given .0 .1 .0) (now (a .weights)) (now (a .draft)) (now (a .aboves)) (now (a .present)) (now (a .counts)) (now (a .firsts)) (now (a .sizes)) (now (a .pins)) _ _ _ _ _ _ _ (at-read .read .ensures) (c .before .q .given .1)
 
 same-length-7 : tie.Need-same-length-7
-same-length-7 c = c .before .before .before .before .before .before .before .before .before .before .before .before .before .before .before .before .before .before .before .before .before .before .before .before .before .before .before .before .before .read .kept .1 .1 .1 .0
+same-length-7 c =
+    let at-read = c .before .before .before .before .before .before .before .before .before .before .before .before .before .before .before .before .before .before .before .before .before .before .before .before .before .before .before .before .before in
+    at-read .read .kept .1 .1 .1 .0
 
 same-length-8 : tie.Need-same-length-8
-same-length-8 c = c .before .before .before .before .before .before .before .before .before .before .before .before .before .before .before .before .before .before .before .before .before .before .before .before .before .before .before .before .before .read .kept .1 .1 .1 .1 .0
+same-length-8 c =
+    let at-read = c .before .before .before .before .before .before .before .before .before .before .before .before .before .before .before .before .before .before .before .before .before .before .before .before .before .before .before .before .before in
+    at-read .read .kept .1 .1 .1 .1 .0
 
 same-length-9 : tie.Need-same-length-9
 same-length-9 c = search needs
@@ -80,10 +86,14 @@ same-length-11 : tie.Need-same-length-11
 same-length-11 c = search needs
 
 same-length-12 : tie.Need-same-length-12
-same-length-12 c = c .before .before .before .before .before .before .before .before .before .before .before .before .before .before .before .before .before .before .before .before .before .before .before .before .before .before .before .before .before .read .kept .1 .1 .1 .1 .1 .1 .0
+same-length-12 c =
+    let at-read = c .before .before .before .before .before .before .before .before .before .before .before .before .before .before .before .before .before .before .before .before .before .before .before .before .before .before .before .before .before in
+    at-read .read .kept .1 .1 .1 .1 .1 .1 .0
 
 same-length-13 : tie.Need-same-length-13
-same-length-13 c = c .before .before .before .before .before .before .before .before .before .before .before .before .before .before .before .before .before .before .before .before .before .before .before .before .before .before .before .before .before .read .kept .1 .1 .1 .1 .1 .1 .1 .0
+same-length-13 c =
+    let at-read = c .before .before .before .before .before .before .before .before .before .before .before .before .before .before .before .before .before .before .before .before .before .before .before .before .before .before .before .before .before in
+    at-read .read .kept .1 .1 .1 .1 .1 .1 .1 .0
 
 same-length-14 : tie.Need-same-length-14
 same-length-14 c = search needs
@@ -93,10 +103,14 @@ same-length-15 c = search needs
 
 returns-2 : tie.Need-returns-2
 returns-2 c =
-    let a = c .before .before .before .before .before .before .before .before .before .before .before .before .before .before .before .before .before .before .before .before .before .before .before .before .before .before .before .before .before .before .before .before .before .before .before .before .before .before .before .before .before .before .before .before .before .before .before .args in
-    let p = c .before .before .before .before .before .before .before .before .before .before .before .before .before .before .before .before .before .before .before .before .before .before .before .before .before .before .before .before .before .before .before .before .before .before .before .before .before .before .before .before .before .before .before .before .before .before .before .pre .4 in
-    let e = c .before .before .before .before .before .before .before .before .start .ensures in
-    accepted (limitsOf (a .vmax) (a .bmax)) (now (a .s)) (c .before .before .before .before .before .before .before .before .before .before .before .before .before .before .before .l .given .0 .0) (c .before .before .before .before .before .before .before .before .before .before .before .before .before .before .before .l .given .0 .1 .0) (c .before .before .before .before .before .before .before .before .before .before .before .before .before .before .before .l .given .0 .1 .1 .0) (c .before .before .before .before .before .before .before .before .before .before .before .before .before .before .before .l .given .0 .1 .1 .1 .0) (c .before .before .before .before .before .before .before .before .before .before .before .before .before .before .before .l .given .0 .1 .1 .1 .1 .0) (c .before .before .before .before .before .before .before .before .before .before .before .before .before .before .before .l .given .0 .1 .1 .1 .1 .1 .0) (now (a .weights)) (now (a .draft)) (now (a .aboves)) (now (a .pins)) (now (a .present)) (now (a .firsts)) (now (a .sizes)) (now (a .counts)) _ _ _ _ _ _ _ _ _ _ (c .before .before .before .before .before .before .before .before .before .before .before .before .before .before .before .before .before .before .before .before .before .before .before .before .before .before .before .before .before .read .result) (c .before .before .before .before .before .before .before .before .before .before .before .before .before .before .before .before .before .before .before .before .before .before .before .before .before .before .before .before .before .read .ensures) (c .before .before .before .before .before .before .before .before .before .before .before .before .before .before .before .l .given .1) (c .before .before .before .before .before .before .before .before .before .before .before .before .before .before .before .before .before .before .before .before .before .before .before .before .before .before .before .before .before .before .before .before .before .before .before .before .before .before .before .before .before .before .before .before .before .before .before .pre .0) (c .before .before .before .before .before .before .before .before .before .before .before .before .before .before .before .before .before .before .before .before .before .before .before .before .before .before .before .before .before .read .kept .1 .1 .1 .0) (c .before .before .before .before .before .before .before .before .before .before .before .before .before .before .before .before .before .before .before .before .before .before .before .before .before .before .before .before .before .read .kept .1 .1 .1 .1 .0) (c .before .before .before .before .before .before .before .before .before .before .before .before .before .before .before .before .before .before .before .before .before .before .before .before .before .before .before .before .before .read .kept .1 .1 .1 .1 .1 .1 .1 .1 .0) (c .before .before .before .before .before .before .before .before .before .before .before .before .before .before .before .before .before .before .before .before .before .before .before .before .before .before .before .before .before .read .kept .1 .1 .1 .1 .1 .1 .0) (c .before .before .before .before .before .before .before .before .before .before .before .before .before .before .before .before .before .before .before .before .before .before .before .before .before .before .before .before .before .read .kept .1 .1 .1 .1 .1 .1 .1 .0) (p .weights) (p .blocks) (p .loadedPins) (p .presentPins) (e .0) (e .1) (e .2) (c .measure .result) (c .measure .ensures)
+    let at-start = c .before .before .before .before .before .before .before .before in
+    let at-l = at-start .before .before .before .before .before .before .before in
+    let at-read = at-l .before .before .before .before .before .before .before .before .before .before .before .before .before .before in
+    let start = at-read .before .before .before .before .before .before .before .before .before .before .before .before .before .before .before .before .before .before in
+    let a = start .args in
+    let p = start .pre .4 in
+    let e = at-start .start .ensures in
+    accepted (limitsOf (a .vmax) (a .bmax)) (now (a .s)) (at-l .l .given .0 .0) (at-l .l .given .0 .1 .0) (at-l .l .given .0 .1 .1 .0) (at-l .l .given .0 .1 .1 .1 .0) (at-l .l .given .0 .1 .1 .1 .1 .0) (at-l .l .given .0 .1 .1 .1 .1 .1 .0) (now (a .weights)) (now (a .draft)) (now (a .aboves)) (now (a .pins)) (now (a .present)) (now (a .firsts)) (now (a .sizes)) (now (a .counts)) _ _ _ _ _ _ _ _ _ _ (at-read .read .result) (at-read .read .ensures) (at-l .l .given .1) (start .pre .0) (at-read .read .kept .1 .1 .1 .0) (at-read .read .kept .1 .1 .1 .1 .0) (at-read .read .kept .1 .1 .1 .1 .1 .1 .1 .1 .0) (at-read .read .kept .1 .1 .1 .1 .1 .1 .0) (at-read .read .kept .1 .1 .1 .1 .1 .1 .1 .0) (p .weights) (p .blocks) (p .loadedPins) (p .presentPins) (e .0) (e .1) (e .2) (c .measure .result) (c .measure .ensures)
 
 pub load-spec : {M : Type 1} → statement M
 load-spec =

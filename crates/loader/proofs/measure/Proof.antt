@@ -27,7 +27,9 @@ cast-t12 c =
     omega (arith, c .capacity .ensures, e, mul-le-mul-right {m = 1000 + a .imbalance} {n = 2000} (c .before .average-weight .result) (omega arith))
 
 returns : tie.Need-returns
-returns c = let a = c .before .before .before .args in
+returns c =
+    let start = c .before .before .before in
+    let a = start .args in
     let e = c .before .average-weight .ensures .0 in
     ap (λ (x : ℕ). sizesOf (a .vertices) (a .nets) (a .blocks) (a .imbalance) (a .pins) (a .calls) x (c .capacity .result)) e
     ∙ ap (sizesOf (a .vertices) (a .nets) (a .blocks) (a .imbalance) (a .pins) (a .calls) (averageOf (a .blocks) (take (a .vertices) (now (a .weights))))) (c .capacity .ensures ∙ ap (λ (x : ℕ). (1000 + a .imbalance) * x / 1000) e)

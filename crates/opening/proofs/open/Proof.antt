@@ -5,7 +5,9 @@ use Rattle.opening.proofs.open.Statement.{statement}
 use Rattle.opening.proofs.open.Tie as tie
 
 prepare-requires : tie.Need-prepare-requires
-prepare-requires c κs = prepare-ok (c .before .before .before .before .before .before .before .before .before .before .before .before .before .pre .opens)
+prepare-requires c κs =
+    let start = c .before .before .before .before .before .before .before .before .before .before .before .before .before in
+    prepare-ok (start .pre .opens)
 
 bear-requires : tie.Need-bear-requires
 bear-requires c κs = search needs
@@ -26,7 +28,9 @@ same-length-4 : tie.Need-same-length-4
 same-length-4 c = search needs
 
 returns : tie.Need-returns
-returns c = opened (c .before .before .before .before .before .before .before .before .before .before .before .prepare .ensures) (c .before .before .bear .ensures) (c .metric-of .ensures)
+returns c =
+    let at-prepare = c .before .before .before .before .before .before .before .before .before .before .before in
+    opened (at-prepare .prepare .ensures) (c .before .before .bear .ensures) (c .metric-of .ensures)
 
 pub open-spec : {M : Type 1} → statement M
 open-spec =

@@ -11,7 +11,9 @@ cast-read-vertices : tie.Need-cast-read-vertices
 cast-read-vertices c = search needs
 
 read-vertices-requires : tie.Need-read-vertices-requires
-read-vertices-requires c κs = let p = c .before .before .before .before .before .before .before .before .before .pre in (p .0, p .1 .l-low, p .2 .l-le, p .2 .w-len, p .2 .d-len)
+read-vertices-requires c κs =
+    let start = c .before .before .before .before .before .before .before .before .before in
+    let p = start .pre in (p .0, p .1 .l-low, p .2 .l-le, p .2 .w-len, p .2 .d-len)
 
 enum-known-q : tie.Need-enum-known-q
 enum-known-q c = search needs
@@ -29,7 +31,10 @@ same-length-2 : tie.Need-same-length-2
 same-length-2 c = search needs
 
 returns : tie.Need-returns
-returns c = let a = c .before .before .before .before .before .before .before .before .before .before .before .before .before .before .before .before .before .args in lots-cut (now (a .s)) (a .at) (a .vertices) (a .nets) (a .blocks) (a .imbalance) (now (a .weights)) (now (a .draft)) (now (a .firsts)) (now (a .sizes)) (now (a .pins)) _ _ (c .before .before .before .before .before .before .before .read-vertices .result) (c .before .before .before .before .before .before .before .read-vertices .ensures) (c .before .q .given .0 .0) (c .before .q .given .0 .1 .0) (c .before .q .given .1) (now (a .costs)) (now (a .firsts)) (now (a .sizes)) (now (a .pins)) (now (a .calls))
+returns c =
+    let at-read-vertices = c .before .before .before .before .before .before .before in
+    let start = at-read-vertices .before .before .before .before .before .before .before .before .before .before in
+    let a = start .args in lots-cut (now (a .s)) (a .at) (a .vertices) (a .nets) (a .blocks) (a .imbalance) (now (a .weights)) (now (a .draft)) (now (a .firsts)) (now (a .sizes)) (now (a .pins)) _ _ (at-read-vertices .read-vertices .result) (at-read-vertices .read-vertices .ensures) (c .before .q .given .0 .0) (c .before .q .given .0 .1 .0) (c .before .q .given .1) (now (a .costs)) (now (a .firsts)) (now (a .sizes)) (now (a .pins)) (now (a .calls))
 
 same-length-3 : tie.Need-same-length-3
 same-length-3 c = search needs
@@ -50,7 +55,12 @@ same-length-8 : tie.Need-same-length-8
 same-length-8 c = search needs
 
 returns-2 : tie.Need-returns-2
-returns-2 c = let a = c .before .before .before .before .before .before .before .before .before .before .before .before .before .before .before .before .before .before .before .before .before .before .before .before .before .before .before .before .before .before .before .before .before .before .args in lots-go (now (a .s)) (a .at) (a .vertices) (a .nets) (a .blocks) (a .imbalance) (now (a .weights)) (now (a .draft)) (now (a .firsts)) (now (a .sizes)) (now (a .pins)) _ _ (c .before .before .before .before .before .before .before .before .before .before .before .before .before .before .before .before .before .before .before .before .before .before .before .before .read-vertices .result) (c .before .before .before .before .before .before .before .before .before .before .before .before .before .before .before .before .before .before .before .before .before .before .before .before .read-vertices .ensures) (c .before .before .before .before .before .before .before .before .before .before .before .before .before .before .before .before .before .before .i .given .0 .0) (c .before .before .before .before .before .before .before .before .before .before .before .before .before .before .before .before .before .before .i .given .1) (c .before .before .before .before .before .before .before .before .after-vertices .result) _ _ _ _ _ (c .before .before .before .before .before .before .before .before .after-vertices .ensures)
+returns-2 c =
+    let at-after-vertices = c .before .before .before .before .before .before .before .before in
+    let at-i = at-after-vertices .before .before .before .before .before .before .before .before .before .before in
+    let at-read-vertices = at-i .before .before .before .before .before .before in
+    let start = at-read-vertices .before .before .before .before .before .before .before .before .before .before in
+    let a = start .args in lots-go (now (a .s)) (a .at) (a .vertices) (a .nets) (a .blocks) (a .imbalance) (now (a .weights)) (now (a .draft)) (now (a .firsts)) (now (a .sizes)) (now (a .pins)) _ _ (at-read-vertices .read-vertices .result) (at-read-vertices .read-vertices .ensures) (at-i .i .given .0 .0) (at-i .i .given .1) (at-after-vertices .after-vertices .result) _ _ _ _ _ (at-after-vertices .after-vertices .ensures)
 
 pub after-head-spec : {M : Type 1} → statement M
 after-head-spec =

@@ -8,7 +8,9 @@ use Rattle.reader.proofs.read.Statement.{statement}
 use Rattle.reader.proofs.read.Tie as tie
 
 returns : tie.Need-returns
-returns c = let a = c .before .before .before .before .before .before .before .before .args in too-long (limitsOf (a .vmax) (a .bmax)) (now (a .s)) (now (a .weights)) (now (a .draft)) (now (a .firsts)) (now (a .sizes)) (now (a .pins)) (now (a .costs)) (now (a .calls)) (c .if1 .taken)
+returns c =
+    let start = c .before .before .before .before .before .before .before .before in
+    let a = start .args in too-long (limitsOf (a .vmax) (a .bmax)) (now (a .s)) (now (a .weights)) (now (a .draft)) (now (a .firsts)) (now (a .sizes)) (now (a .pins)) (now (a .costs)) (now (a .calls)) (c .if1 .taken)
 
 find-requires : tie.Need-find-requires
 find-requires c κs = search needs

@@ -18,7 +18,9 @@ add-base : tie.Need-add-base Inv-loop μ-loop
 add-base c = omega arith
 
 loop-holds : tie.Need-loop-holds Inv-loop μ-loop
-loop-holds c = let a = c .before .before .before .before .args in buys-start (now (a .s)) (a .at) (a .vertices) (a .nets) (now (a .costs)) (now (a .firsts)) (now (a .sizes)) (now (a .pins)) (now (a .stamps)) (c .before .before .before .before .pre)
+loop-holds c =
+    let start = c .before .before .before .before in
+    let a = start .args in buys-start (now (a .s)) (a .at) (a .vertices) (a .nets) (now (a .costs)) (now (a .firsts)) (now (a .sizes)) (now (a .pins)) (now (a .stamps)) (start .pre)
 
 find-requires : tie.Need-find-requires Inv-loop μ-loop
 find-requires c κs = (omega arith, omega arith)
@@ -54,13 +56,20 @@ add-t28 : tie.Need-add-t28 Inv-loop μ-loop
 add-t28 c = omega arith
 
 same-length-4 : tie.Need-same-length-4 Inv-loop μ-loop
-same-length-4 c = c .before .before .before .before .before .before .before .before .before .before .before .loop .inv .f-same
+same-length-4 c =
+    let at-loop = c .before .before .before .before .before .before .before .before .before .before .before in
+    at-loop .loop .inv .f-same
 
 same-length-5 : tie.Need-same-length-5 Inv-loop μ-loop
-same-length-5 c = c .before .before .before .before .before .before .before .before .before .before .before .loop .inv .c-same
+same-length-5 c =
+    let at-loop = c .before .before .before .before .before .before .before .before .before .before .before in
+    at-loop .loop .inv .c-same
 
 same-length-6 : tie.Need-same-length-6 Inv-loop μ-loop
-same-length-6 c = c .before .before .before .before .before .buy-line .ensures .len ∙ c .before .before .before .before .before .before .before .before .before .before .before .loop .inv .m-same
+same-length-6 c =
+    let at-buy-line = c .before .before .before .before .before in
+    let at-loop = at-buy-line .before .before .before .before .before .before in
+    at-buy-line .buy-line .ensures .len ∙ at-loop .loop .inv .m-same
 
 returns-2 : tie.Need-returns-2 Inv-loop μ-loop
 returns-2 c = let a = c .before .before .before .before .before .before .before .before .before .before .before .before .before .before .before .before .args in let l = c .before .before .before .before .before .before .before .before .before .before .before .loop in buys-stop (now (a .s)) (a .at) (a .vertices) (a .nets) (now (a .firsts)) (now (a .sizes)) (now (a .pins)) (l .costs) (l .firsts) (l .sizes) (l .pins) (l .stamps) (l .i) (l .j) (l .m) (l .inv) (omega arith) (c .before .before .before .before .before .before .before .before .before .find .result) (c .before .before .before .before .before .before .before .before .before .find .ensures) (omega arith) (c .before .before .before .before .before .buy-line .result) (c .before .before .before .before .before .buy-line .last .1 .1 .1 .1 .1 .1 .0) (c .before .before .before .before .before .buy-line .last .1 .1 .1 .1 .1 .1 .1 .0) (c .before .before .before .before .before .buy-line .ensures) (c .before .q .given .0 .0) (c .before .q .given .1)

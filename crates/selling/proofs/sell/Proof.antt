@@ -26,13 +26,18 @@ slice-aggregate-open : tie.Need-slice-aggregate-open
 slice-aggregate-open c = search needs
 
 open-requires : tie.Need-open-requires
-open-requires c κs = can-open (c .before .before .before .before .before .before .before .before .before .before .before .before .before .before .before .before .before .before .before .before .before .before .before .before .before .before .pre .catalogued) (blank 16384 refl) (length-replicate {A = ℕ} 16 0)
+open-requires c κs =
+    let start = c .before .before .before .before .before .before .before .before .before .before .before .before .before .before .before .before .before .before .before .before .before .before .before .before .before .before in
+    can-open (start .pre .catalogued) (blank 16384 refl) (length-replicate {A = ℕ} 16 0)
 
 slice-aggregate-run-calls : tie.Need-slice-aggregate-run-calls
 slice-aggregate-run-calls c = search needs
 
 run-calls-requires : tie.Need-run-calls-requires
-run-calls-requires c κs = can-run (c .before .before .before .before .before .before .before .before .before .before .before .before .before .before .before .before .before .before .before .before .before .before .before .before .before .before .before .before .before .before .before .before .before .before .before .before .before .before .before .before .before .before .before .before .pre .catalogued) (blank 16384 refl) (c .before .before .before .before .before .before .before .before .before .before .before .before .before .before .before .before .before .«open» .ensures) (c .before .before .before .before .before .before .before .before .before .before .before .before .before .before .before .before .before .before .before .before .before .before .before .before .before .before .before .before .before .before .before .before .before .before .before .before .before .before .before .before .before .before .before .before .pre .listed)
+run-calls-requires c κs =
+    let state = c .before .before .before .before .before .before .before .before .before .before .before .before .before .before .before .before .before in
+    let start = state .before .before .before .before .before .before .before .before .before .before .before .before .before .before .before .before .before .before .before .before .before .before .before .before .before .before .before in
+    can-run (start .pre .catalogued) (blank 16384 refl) (state .«open» .ensures) (start .pre .listed)
 
 same-length : tie.Need-same-length
 same-length c = search needs
@@ -62,7 +67,10 @@ same-length-9 : tie.Need-same-length-9
 same-length-9 c = omega (arith, c .before .before .before .before .before .before .before .before .before .before .before .before .before .before .before .before .before .before .before .before .before .before .before .before .before .before .before .before .before .before .before .before .before .before .before .before .before .«open» .kept, c .before .before .before .before .before .before .before .before .before .before .before .before .before .before .before .before .before .before .before .run-calls .kept)
 
 returns : tie.Need-returns
-returns c = λ limits file pins old g l. sold g (blank 16384 refl) (c .before .before .before .before .before .before .before .before .before .before .before .before .before .before .before .before .before .before .before .before .before .before .before .before .before .before .before .before .before .before .before .before .before .before .before .before .before .«open» .ensures) l (c .before .before .before .before .before .before .before .before .before .before .before .before .before .before .before .before .before .before .before .run-calls .ensures limits _ (begins g (blank 16384 refl) (c .before .before .before .before .before .before .before .before .before .before .before .before .before .before .before .before .before .before .before .before .before .before .before .before .before .before .before .before .before .before .before .before .before .before .before .before .before .«open» .ensures) l))
+returns c =
+    let at-run-calls = c .before .before .before .before .before .before .before .before .before .before .before .before .before .before .before .before .before .before .before in
+    let state = at-run-calls .before .before .before .before .before .before .before .before .before .before .before .before .before .before .before .before .before .before in
+    λ limits file pins old g l. sold g (blank 16384 refl) (state .«open» .ensures) l (at-run-calls .run-calls .ensures limits _ (begins g (blank 16384 refl) (state .«open» .ensures) l))
 
 pub sell-spec : {M : Type 1} → statement M
 sell-spec =

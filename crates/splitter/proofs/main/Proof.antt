@@ -57,10 +57,14 @@ kapokdrill-run-requires : tie.Need-kapokdrill-run-requires
 kapokdrill-run-requires c κs = search needs
 
 array-share-prefix-output : tie.Need-array-share-prefix-output
-array-share-prefix-output c = bytes-in _ _ _ _ _ _ (c .before .before .before .before .before .before .before .before .before .before .before .before .kapokdrill-run .ensures)
+array-share-prefix-output c =
+    let at-kapokdrill-run = c .before .before .before .before .before .before .before .before .before .before .before .before in
+    bytes-in _ _ _ _ _ _ (at-kapokdrill-run .kapokdrill-run .ensures)
 
 slice-aggregate-write-all : tie.Need-slice-aggregate-write-all
-slice-aggregate-write-all c = sym (length-take-le _ _ (bytes-in _ _ _ _ _ _ (c .before .before .before .before .before .before .before .before .before .before .before .before .before .kapokdrill-run .ensures)))
+slice-aggregate-write-all c =
+    let at-kapokdrill-run = c .before .before .before .before .before .before .before .before .before .before .before .before .before in
+    sym (length-take-le _ _ (bytes-in _ _ _ _ _ _ (at-kapokdrill-run .kapokdrill-run .ensures)))
 
 write-all-requires : tie.Need-write-all-requires
 write-all-requires c κs = search needs

@@ -82,9 +82,12 @@ same-length-9 c = search needs
 
 returns : tie.Need-returns
 returns c =
-    let long = c .before .before .before .before .before .before .before .before .before .before .before .before .before .before .before .before .before .before .before .before .before .before .before .before .before .before .before .before .before .before .before .before .before .before .before .before .before .before .before .before .before .before .before .before .before .before .before .pre in
-    let loads = c .before .before .before .before .before .before .before .before .before .before .before .before .before .before .before .before .before .before .before .before .before .before .before .before .load .ensures in
-    let refused = c .before .before .before .before .before .q .given .1 in
+    let at-q = c .before .before .before .before .before in
+    let at-load = at-q .before .before .before .before .before .before .before .before .before .before .before .before .before .before .before .before .before .before .before in
+    let start = at-load .before .before .before .before .before .before .before .before .before .before .before .before .before .before .before .before .before .before .before .before .before .before .before in
+    let long = start .pre in
+    let loads = at-load .load .ensures in
+    let refused = at-q .q .given .1 in
     (turned-down long loads refused refl (c .before .before .refuse .ensures), no-lots long loads refused)
 
 same-length-10 : tie.Need-same-length-10

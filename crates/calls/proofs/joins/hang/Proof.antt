@@ -42,7 +42,9 @@ same-length-2 : tie.Need-same-length-2
 same-length-2 c = search needs
 
 returns : tie.Need-returns
-returns c = (refl, ap (set (c .before .before .before .before .before .args .aboves .now) (c .before .before .before .before .before .args .v)) (c .number .ensures))
+returns c =
+    let start = c .before .before .before .before .before in
+    (refl, ap (set (start .args .aboves .now) (start .args .v)) (c .number .ensures))
 
 pub hang-spec : {M : Type 1} → statement M
 hang-spec =

@@ -4,10 +4,14 @@ use Rattle.calls.proofs.joins.join.Statement.{statement}
 use Rattle.calls.proofs.joins.join.Tie as tie
 
 hang-requires : tie.Need-hang-requires
-hang-requires c κs = hangs-ok (c .before .before .before .before .before .before .before .before .before .before .before .before .pre .sound) (c .before .before .before .before .before .before .before .before .before .before .before .before .pre .pair)
+hang-requires c κs =
+    let start = c .before .before .before .before .before .before .before .before .before .before .before .before in
+    hangs-ok (start .pre .sound) (start .pre .pair)
 
 contract-requires : tie.Need-contract-requires
-contract-requires c κs = contract-ok (c .before .before .before .before .before .before .before .before .before .before .before .before .before .before .before .before .before .before .before .before .before .before .before .before .pre .sound) (c .before .before .before .before .before .before .before .before .before .before .before .before .before .before .before .before .before .before .before .before .before .before .before .before .pre .pair)
+contract-requires c κs =
+    let start = c .before .before .before .before .before .before .before .before .before .before .before .before .before .before .before .before .before .before .before .before .before .before .before .before in
+    contract-ok (start .pre .sound) (start .pre .pair)
 
 same-length : tie.Need-same-length
 same-length c = search needs
@@ -37,7 +41,11 @@ same-length-9 : tie.Need-same-length-9
 same-length-9 c = search needs
 
 returns : tie.Need-returns
-returns c = λ loads loaded. joined _ (c .before .before .before .before .before .before .before .before .before .before .before .before .before .before .before .before .before .before .before .before .before .before .before .before .before .before .before .before .before .before .before .before .before .before .before .before .before .before .pre .pair) (c .before .before .before .before .before .before .before .before .before .before .before .before .before .before .before .before .before .before .before .before .before .before .before .before .before .hang .ensures .0) (c .before .before .before .before .before .before .before .before .before .before .before .before .before .before .before .before .before .before .before .before .before .before .before .before .before .hang .ensures .1) (c .before .before .before .before .before .before .before .before .before .before .before .before .before .contract .ensures)
+returns c =
+    let at-contract = c .before .before .before .before .before .before .before .before .before .before .before .before .before in
+    let at-hang = at-contract .before .before .before .before .before .before .before .before .before .before .before .before in
+    let start = at-hang .before .before .before .before .before .before .before .before .before .before .before .before .before in
+    λ loads loaded. joined _ (start .pre .pair) (at-hang .hang .ensures .0) (at-hang .hang .ensures .1) (at-contract .contract .ensures)
 
 pub join-spec : {M : Type 1} → statement M
 join-spec =

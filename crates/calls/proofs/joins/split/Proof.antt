@@ -4,10 +4,14 @@ use Rattle.calls.proofs.joins.split.Statement.{statement}
 use Rattle.calls.proofs.joins.split.Tie as tie
 
 unhang-requires : tie.Need-unhang-requires
-unhang-requires c κs = unhangs-ok (c .before .before .before .before .before .before .before .before .before .before .before .before .before .args .u) (c .before .before .before .before .before .before .before .before .before .before .before .before .before .args .v) (c .before .before .before .before .before .before .before .before .before .before .before .before .before .pre .splits .sound)
+unhang-requires c κs =
+    let start = c .before .before .before .before .before .before .before .before .before .before .before .before .before in
+    unhangs-ok (start .args .u) (start .args .v) (start .pre .splits .sound)
 
 uncontract-requires : tie.Need-uncontract-requires
-uncontract-requires c κs = uncontract-ok (c .before .before .before .before .before .before .before .before .before .before .before .before .before .before .before .before .before .before .before .before .before .before .before .before .before .args .u) (c .before .before .before .before .before .before .before .before .before .before .before .before .before .before .before .before .before .before .before .before .before .before .before .before .before .args .v) (c .before .before .before .before .before .before .before .before .before .before .before .before .before .before .before .before .before .before .before .before .before .before .before .before .before .pre .splits .sound)
+uncontract-requires c κs =
+    let start = c .before .before .before .before .before .before .before .before .before .before .before .before .before .before .before .before .before .before .before .before .before .before .before .before .before in
+    uncontract-ok (start .args .u) (start .args .v) (start .pre .splits .sound)
 
 same-length : tie.Need-same-length
 same-length c = search needs
@@ -37,7 +41,11 @@ same-length-9 : tie.Need-same-length-9
 same-length-9 c = search needs
 
 returns : tie.Need-returns
-returns c = λ loads. let s = c .before .before .before .before .before .before .before .before .before .before .before .before .before .before .before .before .before .before .before .before .before .before .before .before .before .before .before .before .before .before .before .before .before .before .before .before .before .before .before .pre .splits .sound in split-done _ (u-below (c .before .before .before .before .before .before .before .before .before .before .before .before .before .before .before .before .before .before .before .before .before .before .before .before .before .before .before .before .before .before .before .before .before .before .before .before .before .before .before .args .u) (c .before .before .before .before .before .before .before .before .before .before .before .before .before .before .before .before .before .before .before .before .before .before .before .before .before .before .before .before .before .before .before .before .before .before .before .before .before .before .before .args .v) s) (v-below (c .before .before .before .before .before .before .before .before .before .before .before .before .before .before .before .before .before .before .before .before .before .before .before .before .before .before .before .before .before .before .before .before .before .before .before .before .before .before .before .args .u) (c .before .before .before .before .before .before .before .before .before .before .before .before .before .before .before .before .before .before .before .before .before .before .before .before .before .before .before .before .before .before .before .before .before .before .before .before .before .before .before .args .v) s) (c .before .before .before .before .before .before .before .before .before .before .before .before .before .before .before .before .before .before .before .before .before .before .before .before .before .unhang .ensures .0) (c .before .before .before .before .before .before .before .before .before .before .before .before .before .before .before .before .before .before .before .before .before .before .before .before .before .unhang .ensures .1) (c .before .before .before .before .before .before .before .before .before .before .before .before .before .uncontract .ensures)
+returns c =
+    let at-uncontract = c .before .before .before .before .before .before .before .before .before .before .before .before .before in
+    let at-unhang = at-uncontract .before .before .before .before .before .before .before .before .before .before .before .before in
+    let start = at-unhang .before .before .before .before .before .before .before .before .before .before .before .before .before .before in
+    λ loads. let s = start .pre .splits .sound in split-done _ (u-below (start .args .u) (start .args .v) s) (v-below (start .args .u) (start .args .v) s) (at-unhang .unhang .ensures .0) (at-unhang .unhang .ensures .1) (at-uncontract .uncontract .ensures)
 
 pub split-spec : {M : Type 1} → statement M
 split-spec =

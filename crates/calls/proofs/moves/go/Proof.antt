@@ -31,7 +31,9 @@ slice-copy-out-lower-total : tie.Need-slice-copy-out-lower-total
 slice-copy-out-lower-total c = search needs
 
 lower-total-requires : tie.Need-lower-total-requires
-lower-total-requires c κs = let g = c .before .before .before .before .before .before .before .before .before .before .before .before .before .pre .goes in lower-needs (g .sound) (g .open-pair) (c .before .index2 .result) (c .before .index2 .ensures)
+lower-total-requires c κs =
+    let start = c .before .before .before .before .before .before .before .before .before .before .before .before .before in
+    let g = start .pre .goes in lower-needs (g .sound) (g .open-pair) (c .before .index2 .result) (c .before .index2 .ensures)
 
 mul-wide : tie.Need-mul-wide
 mul-wide c = search needs
@@ -43,10 +45,16 @@ wide-requires : tie.Need-wide-requires
 wide-requires c κs = search needs
 
 shift-load-requires : tie.Need-shift-load-requires
-shift-load-requires c κs = let g = c .before .before .before .before .before .before .before .before .before .before .before .before .before .before .before .before .before .pre .goes in shift-needs (g .sound) (g .open-pair) (c .before .before .before .before .before .before .index .result) (c .before .before .before .before .before .index2 .result) (c .wide .result) (c .before .before .before .before .before .before .index .ensures) (c .before .before .before .before .before .index2 .ensures) (c .wide .ensures)
+shift-load-requires c κs =
+    let at-index2 = c .before .before .before .before .before in
+    let at-index = at-index2 .before in
+    let start = at-index .before .before .before .before .before .before .before .before .before .before .before in
+    let g = start .pre .goes in shift-needs (g .sound) (g .open-pair) (at-index .index .result) (at-index2 .index2 .result) (c .wide .result) (at-index .index .ensures) (at-index2 .index2 .ensures) (c .wide .ensures)
 
 move-vertex-requires : tie.Need-move-vertex-requires
-move-vertex-requires c κs = let g = c .before .before .before .before .before .before .before .before .before .before .before .before .before .before .before .before .before .before .before .before .before .before .pre .goes in moves-ok (g .sound) (c .before .before .before .before .before .before .before .before .before .before .before .before .before .before .before .before .before .before .before .before .before .before .args .u) (c .before .before .before .before .before .before .before .before .before .before .before .before .before .before .before .before .before .before .before .before .before .before .args .t) (g .open-pair)
+move-vertex-requires c κs =
+    let start = c .before .before .before .before .before .before .before .before .before .before .before .before .before .before .before .before .before .before .before .before .before .before in
+    let g = start .pre .goes in moves-ok (g .sound) (start .args .u) (start .args .t) (g .open-pair)
 
 same-length : tie.Need-same-length
 same-length c = search needs
@@ -61,7 +69,15 @@ same-length-4 : tie.Need-same-length-4
 same-length-4 c = search needs
 
 returns : tie.Need-returns
-returns c = λ aboves loaded. let g = c .before .before .before .before .before .before .before .before .before .before .before .before .before .before .before .before .before .before .before .before .before .before .before .before .before .before .before .before .before .before .pre .goes in went _ (g .open-pair) (gain-small (g .sound) (g .open-pair)) (c .before .before .before .before .before .before .before .before .before .before .before .before .before .before .before .before .before .before .before .index .ensures) (c .before .before .before .before .before .before .before .before .before .before .before .before .before .before .before .before .before .before .index2 .ensures) (c .before .before .before .before .before .before .before .before .before .before .before .before .before .wide .ensures) (c .before .before .before .before .before .before .before .move-vertex .ensures) (c .before .before .before .before .before .before .before .before .before .before .before .before .shift-load .ensures) (c .before .before .before .before .before .before .before .before .before .before .before .before .before .before .before .before .lower-total .ensures)
+returns c =
+    let at-move-vertex = c .before .before .before .before .before .before .before in
+    let at-shift-load = at-move-vertex .before .before .before .before .before in
+    let at-wide = at-shift-load .before in
+    let at-lower-total = at-wide .before .before .before in
+    let at-index2 = at-lower-total .before .before in
+    let at-index = at-index2 .before in
+    let start = at-index .before .before .before .before .before .before .before .before .before .before .before in
+    λ aboves loaded. let g = start .pre .goes in went _ (g .open-pair) (gain-small (g .sound) (g .open-pair)) (at-index .index .ensures) (at-index2 .index2 .ensures) (at-wide .wide .ensures) (at-move-vertex .move-vertex .ensures) (at-shift-load .shift-load .ensures) (at-lower-total .lower-total .ensures)
 
 pub go-spec : {M : Type 1} → statement M
 go-spec =

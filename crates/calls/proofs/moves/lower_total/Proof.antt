@@ -10,19 +10,31 @@ enum-known-g : tie.Need-enum-known-g
 enum-known-g c = search needs
 
 sub-result : tie.Need-sub-result
-sub-result c = (plus-side (c .before .before .before .before .args .total) (c .before .before .before .before .args .gain) (c .before .g .given .0 .0) (c .before .before .before .before .pre) (c .before .before .before .before .fits .gain) (c .before .before .before .side .ensures) (c .before .g .given .1)) .0
+sub-result c =
+    let at-side = c .before .before .before in
+    let start = at-side .before in
+    (plus-side (start .args .total) (start .args .gain) (c .before .g .given .0 .0) (start .pre) (start .fits .gain) (at-side .side .ensures) (c .before .g .given .1)) .0
 
 enum-known-g-2 : tie.Need-enum-known-g-2
 enum-known-g-2 c = search needs
 
 add-result : tie.Need-add-result
-add-result c = record { fits = (minus-side (c .before .before .before .before .args .total) (c .before .before .before .before .args .gain) (c .before .g2 .given .0 .0) (c .before .before .before .before .pre) (c .before .before .before .before .fits .gain) (c .before .before .before .side .ensures) (c .before .g2 .given .1)) .0 }
+add-result c =
+    let at-side = c .before .before .before in
+    let start = at-side .before in
+    record { fits = (minus-side (start .args .total) (start .args .gain) (c .before .g2 .given .0 .0) (start .pre) (start .fits .gain) (at-side .side .ensures) (c .before .g2 .given .1)) .0 }
 
 returns : tie.Need-returns
-returns c = (plus-side (c .before .before .before .before .args .total) (c .before .before .before .before .args .gain) (c .before .g .given .0 .0) (c .before .before .before .before .pre) (c .before .before .before .before .fits .gain) (c .before .before .before .side .ensures) (c .before .g .given .1)) .1
+returns c =
+    let at-side = c .before .before .before in
+    let start = at-side .before in
+    (plus-side (start .args .total) (start .args .gain) (c .before .g .given .0 .0) (start .pre) (start .fits .gain) (at-side .side .ensures) (c .before .g .given .1)) .1
 
 returns-2 : tie.Need-returns-2
-returns-2 c = (minus-side (c .before .before .before .before .args .total) (c .before .before .before .before .args .gain) (c .before .g2 .given .0 .0) (c .before .before .before .before .pre) (c .before .before .before .before .fits .gain) (c .before .before .before .side .ensures) (c .before .g2 .given .1)) .1
+returns-2 c =
+    let at-side = c .before .before .before in
+    let start = at-side .before in
+    (minus-side (start .args .total) (start .args .gain) (c .before .g2 .given .0 .0) (start .pre) (start .fits .gain) (at-side .side .ensures) (c .before .g2 .given .1)) .1
 
 pub lower-total-spec : {M : Type 1} → statement M
 lower-total-spec =

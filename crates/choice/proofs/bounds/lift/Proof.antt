@@ -36,7 +36,8 @@ next-net-requires c κs =
 
 loop-holds : tie.Need-loop-holds Inv-loop μ-loop
 loop-holds c =
-    let s = c .before .before .before .before .before .before .before .before in
+    let state = c .before .before .before .before .before .before .before .before in
+    let s = state in
     let a = s .args in
     (c .next-net .ensures .high, c .next-net .ensures .found, nets-none (now (a .bits)) (now (a .pins)) (now (a .firsts)) (now (a .sizes)) (now (a .netWeights)) (now (a .blocks)) (a .m) (a .n) (a .u) (a .v) (s .pre .0) (now (a .bounds)) _ (s .pre .1 .0) (c .next-net .ensures))
 

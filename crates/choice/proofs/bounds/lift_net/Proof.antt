@@ -44,8 +44,9 @@ share-requires c κs = omega (arith, c .before .wide .ensures, c .before .before
 
 raised-requires : tie.Need-raised-requires Inv-loop μ-loop
 raised-requires c κs =
-    let a = c .before .before .before .before .before .before .before .before .args in
-    share-small (now (a .blocks)) (a .u) (a .own) (a .near) (a .far) (c .before .before .wide .result) (c .share .result) (c .before .before .before .before .before .before .before .before .pre .1 .0) (c .before .before .before .before .before .before .before .before .pre .1 .1) (c .share .ensures)
+    let start = c .before .before .before .before .before .before .before .before in
+    let a = start .args in
+    share-small (now (a .blocks)) (a .u) (a .own) (a .near) (a .far) (c .before .before .wide .result) (c .share .result) (start .pre .1 .0) (start .pre .1 .1) (c .share .ensures)
 
 mul-bounds : tie.Need-mul-bounds Inv-loop μ-loop
 mul-bounds c = omega (arith, c .before .before .before .wide .ensures, c .before .before .before .before .before .before .before .before .before .pre .0 .pin (c .before .before .before .before .before .before .loop .i) (omega arith))

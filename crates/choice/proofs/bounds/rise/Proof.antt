@@ -17,7 +17,10 @@ excess-requires : tie.Need-excess-requires
 excess-requires c κs = search needs
 
 returns : tie.Need-returns
-returns c = rise-both _ _ _ (c .before .before .before .before .term .result) (c .before .before .fewer .result) (c .before .term2 .result) _ (c .before .before .before .if1 .taken) (c .before .before .before .before .term .ensures .0) (c .before .before .fewer .ensures) (c .before .term2 .ensures .0) (c .before .term2 .ensures .1) (c .excess .ensures)
+returns c =
+    let at-if1 = c .before .before .before in
+    let at-term = at-if1 .before in
+    rise-both _ _ _ (at-term .term .result) (c .before .before .fewer .result) (c .before .term2 .result) _ (at-if1 .if1 .taken) (at-term .term .ensures .0) (c .before .before .fewer .ensures) (c .before .term2 .ensures .0) (c .before .term2 .ensures .1) (c .excess .ensures)
 
 returns-2 : tie.Need-returns-2
 returns-2 c = rise-one _ _ _ _ (c .if1 .left) (c .before .term .ensures .0) (c .before .term .ensures .1)

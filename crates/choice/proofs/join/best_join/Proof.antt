@@ -12,34 +12,45 @@ abbrev μ-loop : tie.MeasureT-loop
 
 highest-requires : tie.Need-highest-requires Inv-loop μ-loop
 highest-requires c κs =
-    let p = c .before .before .before .before .before .before .before .before .pre in
+    let start = c .before .before .before .before .before .before .before .before in
+    let p = start .pre in
     (p .1 .1 .len, p .1 .0 .1, p .0 .vertices)
 
 rate-requires : tie.Need-rate-requires Inv-loop μ-loop
 rate-requires c κs =
-    let p = c .before .before .before .before .before .before .before .before .before .before .before .pre in
+    let start = c .before .before .before .before .before .before .before .before .before .before .before in
+    let p = start .pre in
     let h = c .before .before .highest .ensures in
     (p .0, (p .1 .0 .0, p .1 .1 .len, h .low, h .high, p .1 .0 .2))
 
 loop-holds : tie.Need-loop-holds Inv-loop μ-loop
 loop-holds c =
-    let p = c .before .before .before .before .before .before .before .before .before .before .before .before .pre in
+    let start = c .before .before .before .before .before .before .before .before .before .before .before .before in
+    let p = start .pre in
     let h = c .before .before .before .highest .ensures in
     (settling (p .1 .1) (h .low) (h .high) (p .0 .vertices) (c .rate .ensures .0), c .rate .ensures .1)
 
 rate-requires-2 : tie.Need-rate-requires-2 Inv-loop μ-loop
 rate-requires-2 c κs =
-    let p = c .before .before .before .before .before .before .before .before .before .before .before .before .before .before .before .before .before .pre in
-    let v = c .before .before .before .before .loop .inv in
+    let at-loop = c .before .before .before .before in
+    let start = at-loop .before .before .before .before .before .before .before .before .before .before .before .before .before in
+    let p = start .pre in
+    let v = at-loop .loop .inv in
     (p .0, (v .1, v .0 .bounded .len, v .0 .high .low, v .0 .high .high, p .1 .0 .2))
 
 loop-less : tie.Need-loop-less Inv-loop μ-loop
-loop-less c = effort-less (c .before .before .before .before .before .before .before .before .before .before .before .before .before .before .before .before .before .before .pre .0 .vertices) (c .before .before .before .before .before .loop .inv .0) (c .before .before .before .if1 .taken) (c .rate2 .ensures .0)
+loop-less c =
+    let at-if1 = c .before .before .before in
+    let at-loop = at-if1 .before .before in
+    let start = at-loop .before .before .before .before .before .before .before .before .before .before .before .before .before in
+    effort-less (start .pre .0 .vertices) (at-loop .loop .inv .0) (at-if1 .if1 .taken) (c .rate2 .ensures .0)
 
 loop-again : tie.Need-loop-again Inv-loop μ-loop
 loop-again c =
-    let p = c .before .before .before .before .before .before .before .before .before .before .before .before .before .before .before .before .before .before .pre in
-    let v = c .before .before .before .before .before .loop .inv .0 in
+    let at-loop = c .before .before .before .before .before in
+    let start = at-loop .before .before .before .before .before .before .before .before .before .before .before .before .before in
+    let p = start .pre in
+    let v = at-loop .loop .inv .0 in
     (settling (v .bounded) (v .high .low) (v .high .high) (p .0 .vertices) (c .rate2 .ensures .0), c .rate2 .ensures .1)
 
 returns : tie.Need-returns Inv-loop μ-loop

@@ -7,11 +7,14 @@ use Rattle.choice.proofs.join.plan_join.Statement.{statement}
 use Rattle.choice.proofs.join.plan_join.Tie as tie
 
 best-join-requires : tie.Need-best-join-requires
-best-join-requires c κs = c .before .before .before .before .before .before .before .before .before .pre
+best-join-requires c κs =
+    let start = c .before .before .before .before .before .before .before .before .before in
+    start .pre
 
 returns : tie.Need-returns
 returns c =
-    let a = c .before .before .before .before .before .before .before .before .before .before .before .args in
+    let start = c .before .before .before .before .before .before .before .before .before .before .before in
+    let a = start .args in
     let b = c .before .best-join in
     (b .ensures .0, (planned-none (riseOf (now (a .bits)) (now (a .pins)) (now (a .firsts)) (now (a .sizes)) (now (a .netWeights)) (now (a .blocks)) (a .m)) (b .result) (c .if1 .taken) (b .ensures .1 .0), b .ensures .1 .1))
 

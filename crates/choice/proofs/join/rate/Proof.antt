@@ -9,7 +9,8 @@ use Rattle.choice.proofs.join.rate.Tie as tie
 
 best-partner-requires : tie.Need-best-partner-requires
 best-partner-requires c κs =
-    let p = c .before .before .before .before .before .before .before .before .pre in
+    let start = c .before .before .before .before .before .before .before .before in
+    let p = start .pre in
     (p .0, (p .1 .0, p .1 .2, p .1 .3, p .1 .4))
 
 mul-bounds : tie.Need-mul-bounds

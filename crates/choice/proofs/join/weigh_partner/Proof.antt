@@ -23,7 +23,8 @@ returns-2 c =
 
 returns-3 : tie.Need-returns-3
 returns-3 c =
-    let a = c .before .before .before .before .before .args in
+    let start = c .before .before .before .before .before in
+    let a = start .args in
     weighed-unfit (a .s) (a .y) (a .best) (fits (now (a .blocks)) (now (a .weights)) (a .u) (a .own) (a .a) (a .limit) (a .y)) (sym (c .before .may-join .ensures) ∙ c .if2 .left)
 
 pub weigh-partner-spec : {M : Type 1} → statement M

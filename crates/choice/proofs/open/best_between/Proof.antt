@@ -23,7 +23,8 @@ next-candidate-requires c κs = search needs
 
 loop-holds : tie.Need-loop-holds Inv-loop μ-loop
 loop-holds c =
-    let a = c .before .before .before .before .args in (
+    let start = c .before .before .before .before in
+    let a = start .args in (
       c .next-candidate .ensures .high,
       c .next-candidate .ensures .found,
       subst (Leads _) (first-candidate (now (a .candidates)) (now (a .blocks)) (now (a .weights)) (now (a .loads)) (a .capacity) (gainIn (now (a .gains))) (a .to) (a .k) (a .from) _ (c .next-candidate .ensures)),

@@ -43,14 +43,18 @@ best-between-requires : tie.Need-best-between-requires
 best-between-requires c κs = search needs
 
 returns : tie.Need-returns
-returns c = λ h.
-    let a = c .before .before .before .before .before .before .before .before .before .args in
+returns c =
+    let start = c .before .before .before .before .before .before .before .before .before in
+    λ h.
+    let a = start .args in
     subst (λ (to : ℕ). Leads (c .best-between .result) (bestTo (openIn (now (a .candidates)) (now (a .blocks)) (now (a .weights)) (now (a .loads)) (a .capacity)) (gainIn (now (a .gains))) (a .k) to))
     (c .before .least .ensures) (c .best-between .ensures h)
 
 returns-2 : tie.Need-returns-2
-returns-2 c = λ h.
-    let p = c .before .before .before in
+returns-2 c =
+    let state = c .before .before .before in
+    λ h.
+    let p = state in
     let s = p .before .before .before .before in
     let a = s .args in
     passed-over (openIn (now (a .candidates)) (now (a .blocks)) (now (a .weights)) (now (a .loads)) (a .capacity)) (now (a .gains)) (now (a .peaks)) (a .n) (a .k) (a .c) (a .before) (s .pre .1 .0) (s .pre .1 .1) (p .peak .given)

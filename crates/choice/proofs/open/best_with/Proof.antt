@@ -38,11 +38,14 @@ best-in-row-requires : tie.Need-best-in-row-requires
 best-in-row-requires c κs = search needs
 
 returns-2 : tie.Need-returns-2
-returns-2 c = λ b h.
-    let a = c .before .before .before .before .before .before .before .before .args in
+returns-2 c =
+    let at-wide32 = c .before .before .before .before in
+    let start = at-wide32 .before .before .before .before in
+    λ b h.
+    let a = start .args in
     subst (λ (x : ℕ). Leads (c .best-in-row .result) (bestInRow (gainIn (now (a .gains))) (λ b. mayGo (getD (now (a .loads)) (b - 1) 0) (getD (now (a .blocks)) (a .i) 0) x (a .capacity) b) (a .i + 1) (a .k) b))
-    (c .before .before .before .before .wide32 .ensures)
-    (subst (λ (x : ℕ). Leads (c .best-in-row .result) (bestInRow (gainIn (now (a .gains))) (λ b. mayGo (getD (now (a .loads)) (b - 1) 0) x (c .before .before .before .before .wide32 .result) (a .capacity) b) (a .i + 1) (a .k) b))
+    (at-wide32 .wide32 .ensures)
+    (subst (λ (x : ℕ). Leads (c .best-in-row .result) (bestInRow (gainIn (now (a .gains))) (λ b. mayGo (getD (now (a .loads)) (b - 1) 0) x (at-wide32 .wide32 .result) (a .capacity) b) (a .i + 1) (a .k) b))
     (c .before .wide .ensures) (c .best-in-row .ensures b h))
 
 pub best-with-spec : {M : Type 1} → statement M

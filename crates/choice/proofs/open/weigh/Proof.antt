@@ -21,11 +21,15 @@ either-gain-requires : tie.Need-either-gain-requires
 either-gain-requires c κs = search needs
 
 returns : tie.Need-returns
-returns c = λ before h.
-    let s = c .before .before .before .before .before in
+returns c =
+    let at-less = c .before .before .before in
+    let at-struct-told = at-less .before in
+    let state = at-struct-told .before in
+    λ before h.
+    let s = state in
     weighed (s .args .may) (s .args .here) (s .args .gain) (s .args .lead) before (s .pre) (s .fits .gain) h
-    (read64 _ (cast-worth s .sfits) ∙ read32 _ (s .fits .gain .sfits)) (read64 (s .args .lead .top) (c .before .before .before .before .struct-told .given .1 .0 .1))
-    (c .before .before .before .less .ensures) (c .before .before .both .ensures) (c .before .either-place .ensures) (read64 _ (c .either-gain .ok) ∙ c .either-gain .ensures)
+    (read64 _ (cast-worth s .sfits) ∙ read32 _ (s .fits .gain .sfits)) (read64 (s .args .lead .top) (at-struct-told .struct-told .given .1 .0 .1))
+    (at-less .less .ensures) (c .before .before .both .ensures) (c .before .either-place .ensures) (read64 _ (c .either-gain .ok) ∙ c .either-gain .ensures)
 
 pub weigh-spec : {M : Type 1} → statement M
 weigh-spec =

@@ -26,8 +26,9 @@ next-net-requires c κs =
 
 loop-holds : tie.Need-loop-holds Inv-loop μ-loop
 loop-holds c =
-    let a = c .before .before .before .before .before .before .args in
-    let p = c .before .before .before .before .before .before .pre in
+    let start = c .before .before .before .before .before .before in
+    let a = start .args in
+    let p = start .pre in
     (c .next-net .ensures .high, c .next-net .ensures .found, row-none (now (a .bits)) (now (a .pins)) (now (a .firsts)) (now (a .sizes)) (now (a .netWeights)) (a .u) (a .m) (a .n) (p .0) (now (a .acc)) _ (p .1 .0) (c .next-net .ensures))
 
 mul-wide : tie.Need-mul-wide Inv-loop μ-loop

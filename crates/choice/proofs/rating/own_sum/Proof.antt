@@ -25,7 +25,8 @@ next-net-requires c κs =
 
 loop-holds : tie.Need-loop-holds Inv-loop μ-loop
 loop-holds c =
-    let a = c .before .before .before .before .args in
+    let start = c .before .before .before .before in
+    let a = start .args in
     (c .next-net .ensures .high, c .next-net .ensures .found, own-none (now (a .bits)) (now (a .sizes)) (now (a .netWeights)) (a .u) (a .m) _ (c .next-net .ensures))
 
 mul-term : tie.Need-mul-term Inv-loop μ-loop

@@ -30,16 +30,20 @@ same-length c = search needs
 
 returns : tie.Need-returns
 returns c =
-    let S = c .before .before .before .before .before in
-    raised-taken (share (now (S .args .counts)) (16 * S .args .e) (S .args .own) (S .args .w)) (S .args .take) (c .before .before .before .if1 .taken) (c .before .take-share .ensures)
+    let at-if1 = c .before .before .before in
+    let state = at-if1 .before .before in
+    let S = state in
+    raised-taken (share (now (S .args .counts)) (16 * S .args .e) (S .args .own) (S .args .w)) (S .args .take) (at-if1 .if1 .taken) (c .before .take-share .ensures)
 
 same-length-2 : tie.Need-same-length-2
 same-length-2 c = search needs
 
 returns-2 : tie.Need-returns-2
 returns-2 c =
-    let S = c .before .before .before .before .before in
-    raised-put (share (now (S .args .counts)) (16 * S .args .e) (S .args .own) (S .args .w)) (S .args .take) (c .before .before .before .if1 .left) (c .before .put-share .ensures)
+    let at-if1 = c .before .before .before in
+    let state = at-if1 .before .before in
+    let S = state in
+    raised-put (share (now (S .args .counts)) (16 * S .args .e) (S .args .own) (S .args .w)) (S .args .take) (at-if1 .if1 .left) (c .before .put-share .ensures)
 
 pub share-row-spec : {M : Type 1} → statement M
 share-row-spec =

@@ -6,10 +6,15 @@ use Rattle.cycle.proofs.refining.refine_once.Statement.{statement}
 use Rattle.cycle.proofs.refining.refine_once.Tie as tie
 
 split-requires : tie.Need-split-requires
-split-requires c κs = let p = c .before .before .before .before .before .before .before .before .before .before .before .before .before .before .before .before .before .before .before .before .pre in record { loads = c .before .before .before .before .before .before .before .before .before .before .before .before .before .before .before .before .before .before .before .before .args .loads .now; splits = record { h = p .h; cs = p .cs; block = p .block; sound = p .sound } }
+split-requires c κs =
+    let start = c .before .before .before .before .before .before .before .before .before .before .before .before .before .before .before .before .before .before .before .before in
+    let p = start .pre in record { loads = start .args .loads .now; splits = record { h = p .h; cs = p .cs; block = p .block; sound = p .sound } }
 
 walk-requires : tie.Need-walk-requires
-walk-requires c κs = walk-asks _ _ _ (c .before .before .before .before .before .before .before .before .before .before .before .before .before .before .before .before .before .before .before .before .before .before .before .before .before .before .before .before .before .before .before .before .before .before .before .before .before .before .before .before .before .before .before .before .before .before .before .pre) (c .before .before .before .before .before .before .before .before .before .before .before .before .before .before .before .before .before .before .before .before .before .before .before .before .before .before .split .ensures _)
+walk-requires c κs =
+    let at-split = c .before .before .before .before .before .before .before .before .before .before .before .before .before .before .before .before .before .before .before .before .before .before .before .before .before .before in
+    let start = at-split .before .before .before .before .before .before .before .before .before .before .before .before .before .before .before .before .before .before .before .before .before in
+    walk-asks _ _ _ (start .pre) (at-split .split .ensures _)
 
 same-length : tie.Need-same-length
 same-length c = search needs
@@ -39,7 +44,10 @@ same-length-9 : tie.Need-same-length-9
 same-length-9 c = search needs
 
 returns : tie.Need-returns
-returns c = parts refl refl refl refl refl (c .before .before .before .before .before .before .before .before .before .before .before .before .before .before .before .before .before .before .before .before .before .before .before .before .before .before .before .before .before .before .before .before .before .before .split .ensures _) (c .before .before .before .before .before .before .before .walk .ensures _ _)
+returns c =
+    let at-walk = c .before .before .before .before .before .before .before in
+    let at-split = at-walk .before .before .before .before .before .before .before .before .before .before .before .before .before .before .before .before .before .before .before .before .before .before .before .before .before .before .before in
+    parts refl refl refl refl refl (at-split .split .ensures _) (at-walk .walk .ensures _ _)
 
 pub refine-once-spec : {M : Type 1} → statement M
 refine-once-spec =

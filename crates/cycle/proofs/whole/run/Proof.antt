@@ -9,7 +9,10 @@ descend-requires : tie.Need-descend-requires
 descend-requires c κs = search needs
 
 polish-requires : tie.Need-polish-requires
-polish-requires c κs = polish-asks _ _ _ (c .before .before .before .before .before .before .before .before .before .before .before .before .before .before .before .before .before .before .before .before .before .before .before .before .before .before .before .before .before .before .before .before .before .before .before .before .before .before .before .before .before .before .before .before .before .before .before .before .pre) (c .before .before .before .before .before .before .before .before .before .before .before .before .before .before .before .before .before .before .before .before .before .before .before .before .before .before .descend .ensures)
+polish-requires c κs =
+    let at-descend = c .before .before .before .before .before .before .before .before .before .before .before .before .before .before .before .before .before .before .before .before .before .before .before .before .before .before in
+    let start = at-descend .before .before .before .before .before .before .before .before .before .before .before .before .before .before .before .before .before .before .before .before .before .before in
+    polish-asks _ _ _ (start .pre) (at-descend .descend .ensures)
 
 same-length : tie.Need-same-length
 same-length c = search needs
@@ -39,7 +42,10 @@ same-length-9 : tie.Need-same-length-9
 same-length-9 c = search needs
 
 returns : tie.Need-returns
-returns c = done refl refl refl refl refl (c .before .before .before .before .before .before .before .before .before .before .before .before .before .before .before .before .before .before .before .before .before .before .before .before .before .before .before .before .before .before .before .before .before .before .descend .ensures) (c .before .before .before .before .before .before .before .polish .ensures _ _)
+returns c =
+    let at-polish = c .before .before .before .before .before .before .before in
+    let at-descend = at-polish .before .before .before .before .before .before .before .before .before .before .before .before .before .before .before .before .before .before .before .before .before .before .before .before .before .before .before in
+    done refl refl refl refl refl (at-descend .descend .ensures) (at-polish .polish .ensures _ _)
 
 pub run-spec : {M : Type 1} → statement M
 run-spec =

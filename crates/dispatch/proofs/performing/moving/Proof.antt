@@ -23,7 +23,11 @@ same-length-4 : tie.Need-same-length-4
 same-length-4 c = search needs
 
 returns : tie.Need-returns
-returns c = λ aboves loaded S h q. called-as (is-M (c .before .before .before .before .before .before .before .before .before .before .before .before .before .before .before .before .before .before .before .before .before .before .before .before .before .before .args .letter) (c .before .before .before .before .before .before .before .before .before .before .before .before .before .before .before .before .before .before .before .before .before .before .before .before .before .before .args .x) (c .before .before .before .before .before .before .before .before .before .before .before .before .before .before .before .before .before .before .before .before .before .before .before .before .before .before .args .y) (c .before .before .before .before .before .before .before .before .before .before .before .before .before .before .before .before .if1 .taken)) (moved-as (c .before .before .before .before .before .before .before .before .before .before .call-move .result .no) _ (c .before .before .before .before .before .before .before .before .before .before .call-move .result .total) (c .before .struct-told .given .1 .1 .0 .1) (c .answer .ensures)) (c .before .before .before .before .before .before .before .before .before .before .call-move .ensures aboves loaded S h q)
+returns c =
+    let at-call-move = c .before .before .before .before .before .before .before .before .before .before in
+    let at-if1 = at-call-move .before .before .before .before .before .before in
+    let start = at-if1 .before .before .before .before .before .before .before .before .before .before in
+    λ aboves loaded S h q. called-as (is-M (start .args .letter) (start .args .x) (start .args .y) (at-if1 .if1 .taken)) (moved-as (at-call-move .call-move .result .no) _ (at-call-move .call-move .result .total) (c .before .struct-told .given .1 .1 .0 .1) (c .answer .ensures)) (at-call-move .call-move .ensures aboves loaded S h q)
 
 call-back-requires : tie.Need-call-back-requires
 call-back-requires c κs = search needs
@@ -44,7 +48,12 @@ same-length-8 : tie.Need-same-length-8
 same-length-8 c = search needs
 
 returns-2 : tie.Need-returns-2
-returns-2 c = λ aboves loaded S h q. called-as (is-B (c .before .before .before .before .before .before .before .before .before .before .before .before .before .before .before .before .before .before .before .before .before .before .before .before .before .before .args .letter) (c .before .before .before .before .before .before .before .before .before .before .before .before .before .before .before .before .before .before .before .before .before .before .before .before .before .before .args .x) (c .before .before .before .before .before .before .before .before .before .before .before .before .before .before .before .before .before .before .before .before .before .before .before .before .before .before .args .y) (c .before .before .before .before .before .before .before .before .before .before .before .before .before .before .before .before .if1 .left) (c .before .before .before .before .before .before .before .before .before .before .before .before .before .before .before .if2 .taken)) (c .answer2 .ensures) (c .before .before .before .before .before .before .before .before .before .call-back .ensures aboves loaded S h)
+returns-2 c =
+    let at-call-back = c .before .before .before .before .before .before .before .before .before in
+    let at-if2 = at-call-back .before .before .before .before .before .before in
+    let at-if1 = at-if2 .before in
+    let start = at-if1 .before .before .before .before .before .before .before .before .before .before in
+    λ aboves loaded S h q. called-as (is-B (start .args .letter) (start .args .x) (start .args .y) (at-if1 .if1 .left) (at-if2 .if2 .taken)) (c .answer2 .ensures) (at-call-back .call-back .ensures aboves loaded S h)
 
 call-walk-requires : tie.Need-call-walk-requires
 call-walk-requires c κs = search needs
@@ -65,7 +74,13 @@ same-length-12 : tie.Need-same-length-12
 same-length-12 c = search needs
 
 returns-3 : tie.Need-returns-3
-returns-3 c = λ aboves loaded S h q. called-as (is-W (c .before .before .before .before .before .before .before .before .before .before .before .before .before .before .before .before .before .before .before .before .before .before .before .before .before .before .before .args .letter) (c .before .before .before .before .before .before .before .before .before .before .before .before .before .before .before .before .before .before .before .before .before .before .before .before .before .before .before .args .x) (c .before .before .before .before .before .before .before .before .before .before .before .before .before .before .before .before .before .before .before .before .before .before .before .before .before .before .before .args .y) (c .before .before .before .before .before .before .before .before .before .before .before .before .before .before .before .before .before .if1 .left) (c .before .before .before .before .before .before .before .before .before .before .before .before .before .before .before .before .if2 .left) (c .before .before .before .before .before .before .before .before .before .before .before .before .before .before .before .if3 .taken)) (c .answer3 .ensures) (c .before .before .before .before .before .before .before .before .before .call-walk .ensures aboves loaded S h q)
+returns-3 c =
+    let at-call-walk = c .before .before .before .before .before .before .before .before .before in
+    let at-if3 = at-call-walk .before .before .before .before .before .before in
+    let at-if2 = at-if3 .before in
+    let at-if1 = at-if2 .before in
+    let start = at-if1 .before .before .before .before .before .before .before .before .before .before in
+    λ aboves loaded S h q. called-as (is-W (start .args .letter) (start .args .x) (start .args .y) (at-if1 .if1 .left) (at-if2 .if2 .left) (at-if3 .if3 .taken)) (c .answer3 .ensures) (at-call-walk .call-walk .ensures aboves loaded S h q)
 
 call-polish-requires : tie.Need-call-polish-requires
 call-polish-requires c κs = search needs
@@ -83,7 +98,13 @@ same-length-16 : tie.Need-same-length-16
 same-length-16 c = search needs
 
 returns-4 : tie.Need-returns-4
-returns-4 c = λ aboves loaded S h q. called-as (is-P (c .before .before .before .before .before .before .before .before .before .before .before .before .before .before .before .before .before .before .before .before .before .before .before .before .before .before .args .letter) (c .before .before .before .before .before .before .before .before .before .before .before .before .before .before .before .before .before .before .before .before .before .before .before .before .before .before .args .x) (c .before .before .before .before .before .before .before .before .before .before .before .before .before .before .before .before .before .before .before .before .before .before .before .before .before .before .args .y) (c .before .before .before .before .before .before .before .before .before .before .before .before .before .before .before .before .if1 .left) (c .before .before .before .before .before .before .before .before .before .before .before .before .before .before .before .if2 .left) (c .before .before .before .before .before .before .before .before .before .before .before .before .before .before .if3 .left)) refl (c .before .before .before .before .before .before .before .before .call-polish .ensures aboves loaded S h q)
+returns-4 c =
+    let at-call-polish = c .before .before .before .before .before .before .before .before in
+    let at-if3 = at-call-polish .before .before .before .before .before .before in
+    let at-if2 = at-if3 .before in
+    let at-if1 = at-if2 .before in
+    let start = at-if1 .before .before .before .before .before .before .before .before .before .before in
+    λ aboves loaded S h q. called-as (is-P (start .args .letter) (start .args .x) (start .args .y) (at-if1 .if1 .left) (at-if2 .if2 .left) (at-if3 .if3 .left)) refl (at-call-polish .call-polish .ensures aboves loaded S h q)
 
 pub moving-spec : {M : Type 1} → statement M
 moving-spec =

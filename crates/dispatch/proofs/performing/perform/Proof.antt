@@ -9,7 +9,9 @@ is-contracting-requires : tie.Need-is-contracting-requires
 is-contracting-requires c κs = search needs
 
 contracting-requires : tie.Need-contracting-requires
-contracting-requires c κs = record { loads = now (c .before .before .before .before .before .before .before .before .before .before .before .before .before .before .before .before .before .before .before .before .before .before .args .loads); ready = c .before .before .before .before .before .before .before .before .before .before .before .before .before .before .before .before .before .before .before .before .before .before .pre .ready }
+contracting-requires c κs =
+    let start = c .before .before .before .before .before .before .before .before .before .before .before .before .before .before .before .before .before .before .before .before .before .before in
+    record { loads = now (start .args .loads); ready = start .pre .ready }
 
 same-length : tie.Need-same-length
 same-length c = search needs
@@ -39,13 +41,20 @@ same-length-9 : tie.Need-same-length-9
 same-length-9 c = search needs
 
 returns : tie.Need-returns
-returns c = λ h p q. called-as (any-contracting (c .before .before .before .before .before .before .before .before .before .before .before .before .before .before .before .before .before .before .before .before .before .before .before .before .before .before .before .before .before .before .before .before .before .before .before .before .before .before .before .before .before .before .args .letter) (c .before .before .before .before .before .before .before .before .before .before .before .before .before .before .before .before .before .before .before .before .before .before .before .before .before .before .before .before .before .before .before .before .before .before .before .before .before .before .before .before .before .before .args .x) (c .before .before .before .before .before .before .before .before .before .before .before .before .before .before .before .before .before .before .before .before .before .before .before .before .before .before .before .before .before .before .before .before .before .before .before .before .before .before .before .before .before .before .args .y) (c .before .before .before .before .before .before .before .before .before .before .before .before .before .before .before .before .before .before .before .before .before .before .before .before .before .before .before .before .before .before .is-contracting .ensures) (c .before .before .before .before .before .before .before .before .before .before .before .before .before .before .before .before .before .before .before .before .before .before .before .before .before .before .before .before .before .if1 .taken)) refl (c .before .before .before .before .before .before .before .before .before .before .before .before .before .before .before .before .before .before .before .contracting .ensures (now (c .before .before .before .before .before .before .before .before .before .before .before .before .before .before .before .before .before .before .before .before .before .before .before .before .before .before .before .before .before .before .before .before .before .before .before .before .before .before .before .before .before .before .args .loads)) h)
+returns c =
+    let at-contracting = c .before .before .before .before .before .before .before .before .before .before .before .before .before .before .before .before .before .before .before in
+    let at-if1 = at-contracting .before .before .before .before .before .before .before .before .before .before in
+    let at-is-contracting = at-if1 .before in
+    let start = at-is-contracting .before .before .before .before .before .before .before .before .before .before .before .before in
+    λ h p q. called-as (any-contracting (start .args .letter) (start .args .x) (start .args .y) (at-is-contracting .is-contracting .ensures) (at-if1 .if1 .taken)) refl (at-contracting .contracting .ensures (now (start .args .loads)) h)
 
 is-moving-requires : tie.Need-is-moving-requires
 is-moving-requires c κs = search needs
 
 moving-requires : tie.Need-moving-requires
-moving-requires c κs = record { aboves = now (c .before .before .before .before .before .before .before .before .before .before .before .before .before .before .before .before .before .before .before .before .before .before .before .before .args .aboves); loaded = now (c .before .before .before .before .before .before .before .before .before .before .before .before .before .before .before .before .before .before .before .before .before .before .before .before .args .loaded); stack = _; ready = c .before .before .before .before .before .before .before .before .before .before .before .before .before .before .before .before .before .before .before .before .before .before .before .before .pre .ready; limit-is = c .before .before .before .before .before .before .before .before .before .before .before .before .before .before .before .before .before .before .before .before .before .before .before .before .pre .limit-is }
+moving-requires c κs =
+    let start = c .before .before .before .before .before .before .before .before .before .before .before .before .before .before .before .before .before .before .before .before .before .before .before .before in
+    record { aboves = now (start .args .aboves); loaded = now (start .args .loaded); stack = _; ready = start .pre .ready; limit-is = start .pre .limit-is }
 
 same-length-10 : tie.Need-same-length-10
 same-length-10 c = search needs
@@ -72,7 +81,14 @@ same-length-17 : tie.Need-same-length-17
 same-length-17 c = search needs
 
 returns-2 : tie.Need-returns-2
-returns-2 c = λ h p q. called-as (any-moving (c .before .before .before .before .before .before .before .before .before .before .before .before .before .before .before .before .before .before .before .before .before .before .before .before .before .before .before .before .before .before .before .before .before .args .letter) (c .before .before .before .before .before .before .before .before .before .before .before .before .before .before .before .before .before .before .before .before .before .before .before .before .before .before .before .before .before .before .before .before .before .args .x) (c .before .before .before .before .before .before .before .before .before .before .before .before .before .before .before .before .before .before .before .before .before .before .before .before .before .before .before .before .before .before .before .before .before .args .y) (c .before .before .before .before .before .before .before .before .before .before .before .before .before .before .before .before .before .before .before .before .before .is-contracting .ensures) (c .before .before .before .before .before .before .before .before .before .before .before .before .before .before .before .before .before .before .before .before .if1 .left) (c .before .before .before .before .before .before .before .before .before .before .before .before .before .before .before .before .before .before .before .is-moving .ensures) (c .before .before .before .before .before .before .before .before .before .before .before .before .before .before .before .before .before .before .if2 .taken)) refl (c .before .before .before .before .before .before .before .before .moving .ensures (now (c .before .before .before .before .before .before .before .before .before .before .before .before .before .before .before .before .before .before .before .before .before .before .before .before .before .before .before .before .before .before .before .before .before .args .aboves)) (now (c .before .before .before .before .before .before .before .before .before .before .before .before .before .before .before .before .before .before .before .before .before .before .before .before .before .before .before .before .before .before .before .before .before .args .loaded)) _ h q)
+returns-2 c =
+    let at-moving = c .before .before .before .before .before .before .before .before in
+    let at-if2 = at-moving .before .before .before .before .before .before .before .before .before .before in
+    let at-is-moving = at-if2 .before in
+    let at-if1 = at-is-moving .before in
+    let at-is-contracting = at-if1 .before in
+    let start = at-is-contracting .before .before .before .before .before .before .before .before .before .before .before .before in
+    λ h p q. called-as (any-moving (start .args .letter) (start .args .x) (start .args .y) (at-is-contracting .is-contracting .ensures) (at-if1 .if1 .left) (at-is-moving .is-moving .ensures) (at-if2 .if2 .taken)) refl (at-moving .moving .ensures (now (start .args .aboves)) (now (start .args .loaded)) _ h q)
 
 call-all-requires : tie.Need-call-all-requires
 call-all-requires c κs = search needs
@@ -108,7 +124,14 @@ same-length-26 : tie.Need-same-length-26
 same-length-26 c = search needs
 
 returns-3 : tie.Need-returns-3
-returns-3 c = λ h p q. called-as (any-all (c .before .before .before .before .before .before .before .before .before .before .before .before .before .before .before .before .before .before .before .before .before .before .before .before .before .before .before .before .before .before .before .before .before .before .before .before .before .before .before .before .before .before .before .before .before .before .args .letter) (c .before .before .before .before .before .before .before .before .before .before .before .before .before .before .before .before .before .before .before .before .before .before .before .before .before .before .before .before .before .before .before .before .before .before .before .before .before .before .before .before .before .before .before .before .before .before .args .x) (c .before .before .before .before .before .before .before .before .before .before .before .before .before .before .before .before .before .before .before .before .before .before .before .before .before .before .before .before .before .before .before .before .before .before .before .before .before .before .before .before .before .before .before .before .before .before .args .y) (c .before .before .before .before .before .before .before .before .before .before .before .before .before .before .before .before .before .before .before .before .before .before .before .before .before .before .before .before .before .before .before .before .before .before .is-contracting .ensures) (c .before .before .before .before .before .before .before .before .before .before .before .before .before .before .before .before .before .before .before .before .before .before .before .before .before .before .before .before .before .before .before .before .before .if1 .left) (c .before .before .before .before .before .before .before .before .before .before .before .before .before .before .before .before .before .before .before .before .before .before .before .before .before .before .before .before .before .before .before .before .is-moving .ensures) (c .before .before .before .before .before .before .before .before .before .before .before .before .before .before .before .before .before .before .before .before .before .before .before .before .before .before .before .before .before .before .before .if2 .left)) (c .answer .ensures) (c .before .before .before .before .before .before .before .before .before .before .before .before .before .before .before .before .before .before .before .before .call-all .ensures h p q)
+returns-3 c =
+    let at-call-all = c .before .before .before .before .before .before .before .before .before .before .before .before .before .before .before .before .before .before .before .before in
+    let at-if2 = at-call-all .before .before .before .before .before .before .before .before .before .before .before in
+    let at-is-moving = at-if2 .before in
+    let at-if1 = at-is-moving .before in
+    let at-is-contracting = at-if1 .before in
+    let start = at-is-contracting .before .before .before .before .before .before .before .before .before .before .before .before in
+    λ h p q. called-as (any-all (start .args .letter) (start .args .x) (start .args .y) (at-is-contracting .is-contracting .ensures) (at-if1 .if1 .left) (at-is-moving .is-moving .ensures) (at-if2 .if2 .left)) (c .answer .ensures) (at-call-all .call-all .ensures h p q)
 
 pub perform-spec : {M : Type 1} → statement M
 perform-spec =

@@ -47,7 +47,10 @@ returns : tie.Need-returns
 returns c = too-short _ _ (c .before .is-long .ensures) (not-true _ (c .if1 .taken))
 
 work-file-requires : tie.Need-work-file-requires
-work-file-requires c κs = long-is _ _ _ _ _ (c .before .before .before .before .before .before .before .before .before .before .before .before .before .is-long .ensures) (not-false _ (c .before .before .before .before .before .before .before .before .before .before .before .before .if1 .left))
+work-file-requires c κs =
+    let at-if1 = c .before .before .before .before .before .before .before .before .before .before .before .before in
+    let at-is-long = at-if1 .before in
+    long-is _ _ _ _ _ (at-is-long .is-long .ensures) (not-false _ (at-if1 .if1 .left))
 
 same-length-13 : tie.Need-same-length-13
 same-length-13 c = search needs
@@ -86,7 +89,11 @@ same-length-24 : tie.Need-same-length-24
 same-length-24 c = search needs
 
 returns-2 : tie.Need-returns-2
-returns-2 c = served _ _ _ (c .before .before .before .before .before .before .before .before .before .before .before .before .before .before .before .before .before .before .before .before .before .before .before .before .before .before .before .before .before .before .before .before .before .before .before .before .before .is-long .ensures) (not-false _ (c .before .before .before .before .before .before .before .before .before .before .before .before .before .before .before .before .before .before .before .before .before .before .before .before .before .before .before .before .before .before .before .before .before .before .before .before .if1 .left)) (c .before .before .before .before .before .before .before .before .before .before .before .before .before .before .before .before .before .before .before .before .before .before .before .work-file .ensures)
+returns-2 c =
+    let at-work-file = c .before .before .before .before .before .before .before .before .before .before .before .before .before .before .before .before .before .before .before .before .before .before .before in
+    let at-if1 = at-work-file .before .before .before .before .before .before .before .before .before .before .before .before .before in
+    let at-is-long = at-if1 .before in
+    served _ _ _ (at-is-long .is-long .ensures) (not-false _ (at-if1 .if1 .left)) (at-work-file .work-file .ensures)
 
 pub serve-spec : {M : Type 1} → statement M
 serve-spec =

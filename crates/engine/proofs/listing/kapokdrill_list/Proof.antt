@@ -95,10 +95,18 @@ same-length-24 : tie.Need-same-length-24
 same-length-24 c = search needs
 
 returns-2 : tie.Need-returns-2
-returns-2 c = untouched-list _ _ _ _ _ _ _ (c .before .before .before .before .is-long .ensures) (not-false _ (c .before .before .before .if1 .left)) (c .before .before .list-refusal .ensures) (c .before .if2 .taken) (c .refused-list2 .ensures .0) (c .refused-list2 .ensures .1) (idle _ _ _ _ (c .refused-list2 .ensures .2) (c .refused-list2 .ensures .3))
+returns-2 c =
+    let at-if1 = c .before .before .before in
+    let at-is-long = at-if1 .before in
+    untouched-list _ _ _ _ _ _ _ (at-is-long .is-long .ensures) (not-false _ (at-if1 .if1 .left)) (c .before .before .list-refusal .ensures) (c .before .if2 .taken) (c .refused-list2 .ensures .0) (c .refused-list2 .ensures .1) (idle _ _ _ _ (c .refused-list2 .ensures .2) (c .refused-list2 .ensures .3))
 
 work-list-requires : tie.Need-work-list-requires
-work-list-requires c κs = (long-is _ _ _ _ _ (c .before .before .before .before .before .before .before .before .before .before .before .before .before .before .before .is-long .ensures) (not-false _ (c .before .before .before .before .before .before .before .before .before .before .before .before .before .before .if1 .left)), sym (c .before .before .before .before .before .before .before .before .before .before .before .before .before .list-refusal .ensures) ∙ c .before .before .before .before .before .before .before .before .before .before .before .before .if2 .left)
+work-list-requires c κs =
+    let at-if2 = c .before .before .before .before .before .before .before .before .before .before .before .before in
+    let at-list-refusal = at-if2 .before in
+    let at-if1 = at-list-refusal .before in
+    let at-is-long = at-if1 .before in
+    (long-is _ _ _ _ _ (at-is-long .is-long .ensures) (not-false _ (at-if1 .if1 .left)), sym (at-list-refusal .list-refusal .ensures) ∙ at-if2 .if2 .left)
 
 same-length-25 : tie.Need-same-length-25
 same-length-25 c = search needs
@@ -137,7 +145,13 @@ same-length-36 : tie.Need-same-length-36
 same-length-36 c = search needs
 
 returns-3 : tie.Need-returns-3
-returns-3 c = list-served _ _ _ _ _ _ _ _ (c .before .before .before .before .before .before .before .before .before .before .before .before .before .before .before .before .before .before .before .before .before .before .before .before .before .before .before .before .before .before .before .before .before .before .before .before .before .before .before .is-long .ensures) (not-false _ (c .before .before .before .before .before .before .before .before .before .before .before .before .before .before .before .before .before .before .before .before .before .before .before .before .before .before .before .before .before .before .before .before .before .before .before .before .before .before .if1 .left)) (sym (c .before .before .before .before .before .before .before .before .before .before .before .before .before .before .before .before .before .before .before .before .before .before .before .before .before .before .before .before .before .before .before .before .before .before .before .before .before .list-refusal .ensures) ∙ c .before .before .before .before .before .before .before .before .before .before .before .before .before .before .before .before .before .before .before .before .before .before .before .before .before .before .before .before .before .before .before .before .before .before .before .before .if2 .left) (c .before .before .before .before .before .before .before .before .before .before .before .before .before .before .before .before .before .before .before .before .before .before .before .work-list .ensures)
+returns-3 c =
+    let at-work-list = c .before .before .before .before .before .before .before .before .before .before .before .before .before .before .before .before .before .before .before .before .before .before .before in
+    let at-if2 = at-work-list .before .before .before .before .before .before .before .before .before .before .before .before .before in
+    let at-list-refusal = at-if2 .before in
+    let at-if1 = at-list-refusal .before in
+    let at-is-long = at-if1 .before in
+    list-served _ _ _ _ _ _ _ _ (at-is-long .is-long .ensures) (not-false _ (at-if1 .if1 .left)) (sym (at-list-refusal .list-refusal .ensures) ∙ at-if2 .if2 .left) (at-work-list .work-list .ensures)
 
 pub kapokdrill-list-spec : {M : Type 1} → statement M
 kapokdrill-list-spec =

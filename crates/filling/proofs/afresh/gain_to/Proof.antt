@@ -29,9 +29,11 @@ sub-result c =
 
 returns-2 : tie.Need-returns-2
 returns-2 c =
-    let a = c .before .before .before .before .before .before .before .args in
-    gainTo-other (now (a .counts)) (now (a .bits)) (now (a .netweights)) (a .v) (a .own) (a .m) (a .j) (c .before .before .before .if1 .left)
-    (c .before .before .before .before .before .before .before .pre .3) (c .before .before .weight-where .ensures .0)
+    let at-if1 = c .before .before .before in
+    let start = at-if1 .before .before .before .before in
+    let a = start .args in
+    gainTo-other (now (a .counts)) (now (a .bits)) (now (a .netweights)) (a .v) (a .own) (a .m) (a .j) (at-if1 .if1 .left)
+    (start .pre .3) (c .before .before .weight-where .ensures .0)
     (less-gives (c .before .signed .result) (c .signed2 .result) _ _ _ (c .before .signed .ok) (c .signed2 .ok) (sub-result c .sfits) (c .before .signed .ensures) (c .signed2 .ensures) refl)
 
 pub gain-to-spec : {M : Type 1} → statement M

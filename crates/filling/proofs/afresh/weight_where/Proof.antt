@@ -20,7 +20,8 @@ next-net-requires c κs = search needs
 
 loop-holds : tie.Need-loop-holds Inv-loop μ-loop
 loop-holds c =
-    let a = c .before .before .before .before .args in
+    let start = c .before .before .before .before in
+    let a = start .args in
     (c .next-net .ensures .high, c .next-net .ensures .found, where-none (now (a .counts)) (now (a .bits)) (now (a .netweights)) (a .v) (a .j) (a .want) (c .next-net .ensures))
 
 mul-weight-if : tie.Need-mul-weight-if Inv-loop μ-loop

@@ -17,7 +17,10 @@ index-requires : tie.Need-index-requires
 index-requires c κs = search needs
 
 set-pin-requires : tie.Need-set-pin-requires
-set-pin-requires c κs = contract-sets (c .before .before .before .before .before .before .before .before .before .before .before .before .pre) (c .before .before .before .before .index .ensures)
+set-pin-requires c κs =
+    let at-index = c .before .before .before .before in
+    let start = at-index .before .before .before .before .before .before .before .before in
+    contract-sets (start .pre) (at-index .index .ensures)
 
 is-pin-requires : tie.Need-is-pin-requires
 is-pin-requires c κs = search needs

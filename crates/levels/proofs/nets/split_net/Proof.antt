@@ -15,10 +15,15 @@ index-requires : tie.Need-index-requires
 index-requires c κs = search needs
 
 set-pin-requires : tie.Need-set-pin-requires
-set-pin-requires c κs = split-sets (c .before .before .before .before .before .before .before .before .before .before .before .before .pre) (c .before .before .before .before .index .ensures)
+set-pin-requires c κs =
+    let at-index = c .before .before .before .before in
+    let start = at-index .before .before .before .before .before .before .before .before in
+    split-sets (start .pre) (at-index .index .ensures)
 
 uncontract-net-requires : tie.Need-uncontract-net-requires
-uncontract-net-requires c κs = c .before .before .before .before .before .before .before .before .before .before .before .before .before .before .before .before .before .before .before .before .pre .splits
+uncontract-net-requires c κs =
+    let start = c .before .before .before .before .before .before .before .before .before .before .before .before .before .before .before .before .before .before .before .before in
+    start .pre .splits
 
 same-length : tie.Need-same-length
 same-length c = search needs

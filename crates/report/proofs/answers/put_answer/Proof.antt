@@ -41,8 +41,9 @@ enum-known-a-3 c = search needs
 put-move-requires : tie.Need-put-move-requires
 unfolding answerRow
 put-move-requires c κs =
+    let start = c .before .before .before .before .before in
     let e : signed (toZ w32 (ofZ w32 (c .before .before .a3 .given .0 .0))) ≡ signed (c .before .before .a3 .given .0 .0) = ap signed (toZ-ofZ w32 (c .before .before .a3 .given .0 .0) (search needs)) in
-    rw e (rw (c .before .before .a3 .given .1) at (c .before .before .before .before .before .pre))
+    rw e (rw (c .before .before .a3 .given .1) at (start .pre))
 
 enum-known-a-4 : tie.Need-enum-known-a-4
 enum-known-a-4 c = search needs
@@ -129,8 +130,9 @@ same-length-3 c = search needs
 returns-3 : tie.Need-returns-3
 unfolding answerRow
 returns-3 c =
-    let e : signed (toZ w32 (ofZ w32 (c .before .before .before .before .before .a3 .given .0 .0))) ≡ signed (c .before .before .before .before .before .a3 .given .0 .0) = ap signed (toZ-ofZ w32 (c .before .before .before .before .before .a3 .given .0 .0) (search needs)) in
-    rw (c .before .before .before .before .before .a3 .given .1) (rw e at (c .before .before .put-move .ensures))
+    let at-a3 = c .before .before .before .before .before in
+    let e : signed (toZ w32 (ofZ w32 (at-a3 .a3 .given .0 .0))) ≡ signed (at-a3 .a3 .given .0 .0) = ap signed (toZ-ofZ w32 (at-a3 .a3 .given .0 .0) (search needs)) in
+    rw (at-a3 .a3 .given .1) (rw e at (c .before .before .put-move .ensures))
 
 same-length-4 : tie.Need-same-length-4
 same-length-4 c = search needs

@@ -32,7 +32,9 @@ put-tail-requires c κs =
     omega (arith, move-length (c .before .before .before .before .before .before .before .args .gain) (c .before .before .before .before .before .before .before .args .total), ap length e, c .before .before .before .before .put-signed-field .ensures .ends, c .before .before .before .before .put-signed-field .kept .0, length-set (now (c .before .before .before .before .before .before .before .args .out)) (c .before .before .before .before .before .before .before .args .at) 77)
 
 same-length : tie.Need-same-length
-same-length c = c .before .before .put-tail .kept .0 ∙ c .before .before .before .before .before .before .before .put-signed-field .kept .0 ∙ simp length-set
+same-length c =
+    let at-put-signed-field = c .before .before .before .before .before .before .before in
+    c .before .before .put-tail .kept .0 ∙ at-put-signed-field .put-signed-field .kept .0 ∙ simp length-set
 
 returns : tie.Need-returns
 returns c =

@@ -22,7 +22,9 @@ field-requires : tie.Need-field-requires
 field-requires c κs = search needs
 
 returns : tie.Need-returns
-returns c = λ h s n t u. c .field .ensures ∙ block-is t (c .before .before .before .before .before .args .v) (c .before .before .before .before .before .pre .low) u (c .before .before .representative .result) (c .before .before .representative .ensures (s .stack) n (t .hangs) u)
+returns c =
+    let start = c .before .before .before .before .before in
+    λ h s n t u. c .field .ensures ∙ block-is t (start .args .v) (start .pre .low) u (c .before .before .representative .result) (c .before .before .representative .ensures (s .stack) n (t .hangs) u)
 
 pub block-of-spec : {M : Type 1} → statement M
 block-of-spec =

@@ -19,14 +19,21 @@ slice-aggregate-put-row-2 c = search needs
 
 put-row-requires : tie.Need-put-row-requires
 unfolding row bytes
-put-row-requires c κs = rw (c .before .before .before .before .number .ensures, c .before .before .before .set-bits .ensures) (c .before .before .before .before .before .before .pre .1)
+put-row-requires c κs =
+    let at-set-bits = c .before .before .before in
+    let at-number = at-set-bits .before in
+    let start = at-number .before .before in
+    rw (at-number .number .ensures, at-set-bits .set-bits .ensures) (start .pre .1)
 
 same-length : tie.Need-same-length
 same-length c = search needs
 
 returns : tie.Need-returns
 unfolding row bytes
-returns c = rw (c .before .before .before .before .before .before .before .number .ensures, c .before .before .before .before .before .before .set-bits .ensures) at (c .before .before .put-row .ensures)
+returns c =
+    let at-set-bits = c .before .before .before .before .before .before in
+    let at-number = at-set-bits .before in
+    rw (at-number .number .ensures, at-set-bits .set-bits .ensures) at (c .before .before .put-row .ensures)
 
 pub put-net-spec : {M : Type 1} → statement M
 put-net-spec =

@@ -9,7 +9,9 @@ is-pin-requires : tie.Need-is-pin-requires
 is-pin-requires c κs = search needs
 
 returns : tie.Need-returns
-returns c = (net-again (c .before .before .before .before .before .before .before .args .e) (c .before .before .before .before .before .before .before .pre .1) (c .before .before .before .before .before .before .before .pre .5) (sym (c .before .is-pin .ensures) ∙ c .if1 .taken), c .before .before .before .before .before .before .before .pre .5)
+returns c =
+    let start = c .before .before .before .before .before .before .before in
+    (net-again (start .args .e) (start .pre .1) (start .pre .5) (sym (c .before .is-pin .ensures) ∙ c .if1 .taken), start .pre .5)
 
 mul-index : tie.Need-mul-index
 mul-index c = search needs
@@ -30,13 +32,19 @@ index-requires-2 : tie.Need-index-requires-2
 index-requires-2 c κs = search needs
 
 mark-pins-requires : tie.Need-mark-pins-requires
-mark-pins-requires c κs = (c .before .before .before .before .before .before .before .before .before .before .before .before .pre .0, rw (c .before .before .index .ensures, c .index2 .ensures) (c .before .before .before .before .before .before .before .before .before .before .before .before .pre .4))
+mark-pins-requires c κs =
+    let start = c .before .before .before .before .before .before .before .before .before .before .before .before in
+    (start .pre .0, rw (c .before .before .index .ensures, c .index2 .ensures) (start .pre .4))
 
 put-requires : tie.Need-put-requires
 put-requires c κs = search needs
 
 returns-2 : tie.Need-returns-2
-returns-2 c = (net-marked (now (c .before .before .before .before .before .before .before .before .before .before .before .before .before .before .before .args .pins)) (now (c .before .before .before .before .before .before .before .before .before .before .before .before .before .before .before .args .firsts)) (now (c .before .before .before .before .before .before .before .before .before .before .before .before .before .before .before .args .sizes)) (c .before .before .before .before .before .before .before .before .before .before .before .before .before .before .before .args .e) (c .before .before .before .before .before .index .result) (c .before .before .before .index2 .result) (c .before .before .before .before .before .index .ensures) (c .before .before .before .index2 .ensures) (c .before .before .mark-pins .ensures .0) (c .put .ensures), net-covered (now (c .before .before .before .before .before .before .before .before .before .before .before .before .before .before .before .args .pins)) (now (c .before .before .before .before .before .before .before .before .before .before .before .before .before .before .before .args .firsts)) (now (c .before .before .before .before .before .before .before .before .before .before .before .before .before .before .before .args .sizes)) (c .before .before .before .before .before .before .before .before .before .before .before .before .before .before .before .args .e) (c .before .before .before .before .before .index .result) (c .before .before .before .index2 .result) (c .before .before .before .before .before .index .ensures) (c .before .before .before .index2 .ensures) (c .before .before .mark-pins .ensures .0) (c .put .ensures) (c .before .before .mark-pins .ensures .1) (c .before .before .before .before .before .before .before .before .before .before .before .before .before .before .before .pre .5))
+returns-2 c =
+    let at-index2 = c .before .before .before in
+    let at-index = at-index2 .before .before in
+    let start = at-index .before .before .before .before .before .before .before .before .before .before in
+    (net-marked (now (start .args .pins)) (now (start .args .firsts)) (now (start .args .sizes)) (start .args .e) (at-index .index .result) (at-index2 .index2 .result) (at-index .index .ensures) (at-index2 .index2 .ensures) (c .before .before .mark-pins .ensures .0) (c .put .ensures), net-covered (now (start .args .pins)) (now (start .args .firsts)) (now (start .args .sizes)) (start .args .e) (at-index .index .result) (at-index2 .index2 .result) (at-index .index .ensures) (at-index2 .index2 .ensures) (c .before .before .mark-pins .ensures .0) (c .put .ensures) (c .before .before .mark-pins .ensures .1) (start .pre .5))
 
 pub mark-net-spec : {M : Type 1} → statement M
 mark-net-spec =

@@ -18,7 +18,9 @@ next-net-requires : tie.Need-next-net-requires Inv-loop μ-loop
 next-net-requires c κs = search needs
 
 loop-holds : tie.Need-loop-holds Inv-loop μ-loop
-loop-holds c = (c .next-net .ensures .high, c .next-net .ensures .found, nets-none (now (c .before .before .before .before .before .args .bits)) (now (c .before .before .before .before .before .args .pins)) (now (c .before .before .before .before .before .args .firsts)) (now (c .before .before .before .before .before .args .sizes)) (c .before .before .before .before .before .args .u) (now (c .before .before .before .before .before .args .marks)) (c .before .before .before .before .before .args .m) _ (c .next-net .ensures), c .before .before .before .before .before .pre .2)
+loop-holds c =
+    let start = c .before .before .before .before .before in
+    (c .next-net .ensures .high, c .next-net .ensures .found, nets-none (now (start .args .bits)) (now (start .args .pins)) (now (start .args .firsts)) (now (start .args .sizes)) (start .args .u) (now (start .args .marks)) (start .args .m) _ (c .next-net .ensures), start .pre .2)
 
 mark-net-requires : tie.Need-mark-net-requires Inv-loop μ-loop
 mark-net-requires c κs = (omega (arith, c .before .before .before .before .before .before .before .before .pre .0, c .before .before .loop .inv .2 .len), omega arith, omega arith, omega arith, c .before .before .before .before .before .before .before .before .pre .1 .nets (c .before .before .loop .e) (omega arith), c .before .before .loop .inv .3)

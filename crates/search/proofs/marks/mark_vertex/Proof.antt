@@ -10,7 +10,9 @@ is-pin-requires : tie.Need-is-pin-requires
 is-pin-requires c κs = search needs
 
 returns : tie.Need-returns
-returns c = (marked-moved (now (c .before .before .before .before .args .marks)) (c .before .before .before .before .args .x) (sym (c .before .is-pin .ensures) ∙ c .if1 .taken), nets-same (now (c .before .before .before .before .args .marks)))
+returns c =
+    let start = c .before .before .before .before in
+    (marked-moved (now (start .args .marks)) (start .args .x) (sym (c .before .is-pin .ensures) ∙ c .if1 .taken), nets-same (now (start .args .marks)))
 
 put-requires : tie.Need-put-requires
 put-requires c κs = search needs

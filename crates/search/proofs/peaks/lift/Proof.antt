@@ -18,15 +18,17 @@ abbrev μ-loop : tie.MeasureT-loop
 
 raise-row-requires : tie.Need-raise-row-requires Inv-loop μ-loop
 raise-row-requires c κs =
-    let ok = c .before .before .before .before .before .before .before .pre .1 in
-    (record { i-to = ok .u-in; k-to = ok .few-blocks; in-gains = ok .u-row }, c .before .before .before .before .before .before .before .pre .0)
+    let start = c .before .before .before .before .before .before .before in
+    let ok = start .pre .1 in
+    (record { i-to = ok .u-in; k-to = ok .few-blocks; in-gains = ok .u-row }, start .pre .0)
 
 next-net-requires : tie.Need-next-net-requires Inv-loop μ-loop
 next-net-requires c κs = search needs
 
 loop-holds : tie.Need-loop-holds Inv-loop μ-loop
 loop-holds c =
-    let a = c .before .before .before .before .before .before .before .before .before .args in
+    let start = c .before .before .before .before .before .before .before .before .before in
+    let a = start .args in
     let r = c .before .raise-row .ensures in (
       c .next-net .ensures .high,
       c .next-net .ensures .found,
@@ -76,14 +78,17 @@ loop-less c = omega (arith, c .next-net2 .ensures .low, c .next-net2 .ensures .h
 
 loop-again : tie.Need-loop-again Inv-loop μ-loop
 loop-again c =
-    let a = c .before .before .before .before .before .before .before .before .before .before .before .before .before .before .before .before .before .before .args in
-    let l = c .before .before .before .before .before .before .before .before .loop in
+    let at-index = c .before .before .before .before in
+    let at-loop = at-index .before .before .before .before in
+    let start = at-loop .before .before .before .before .before .before .before .before .before .before in
+    let a = start .args in
+    let l = at-loop .loop in
     let r = c .before .lift-net .ensures in (
       c .next-net2 .ensures .high,
       c .next-net2 .ensures .found,
       higher-then (l .inv .2) (r .0),
       λ b lb. under-higher (now (a .gains)) (a .u) b (r .0) (l .inv .3 b lb),
-      done-more (now (a .gains)) (now (a .counts)) (now (a .blocks)) (now (a .pins)) (now (a .firsts)) (now (a .sizes)) (now (a .bits)) (a .m) (a .k) (a .u) (a .s) (a .t) (l .e) _ _ _ (c .before .before .before .before .index .ensures) (c .before .before .index2 .ensures) (c .next-net2 .ensures) (r .0) (l .inv .4) (r .1),
+      done-more (now (a .gains)) (now (a .counts)) (now (a .blocks)) (now (a .pins)) (now (a .firsts)) (now (a .sizes)) (now (a .bits)) (a .m) (a .k) (a .u) (a .s) (a .t) (l .e) _ _ _ (at-index .index .ensures) (c .before .before .index2 .ensures) (c .next-net2 .ensures) (r .0) (l .inv .4) (r .1),
     )
 
 returns : tie.Need-returns Inv-loop μ-loop

@@ -27,7 +27,8 @@ shared-slice-read-if1 c = search needs
 
 returns : tie.Need-returns
 returns c =
-    let a = c .before .before .before .before .before .before .args in
+    let start = c .before .before .before .before .before .before in
+    let a = start .args in
     (higher-none (now (a .peaks)), λ q. absurd (c .if1 .taken (ap (λ (z : ℕ). getD (now (a .counts)) (16 * a .e + (z - 1)) 0) (c .before .before .index .ensures) ∙ q)))
 
 raise-last-requires : tie.Need-raise-last-requires

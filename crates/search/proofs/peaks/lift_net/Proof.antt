@@ -15,11 +15,12 @@ lift-first-requires c κs =
 
 returns : tie.Need-returns
 returns c =
+    let start = c .before .before .before .before .before .before .before in
     let l = c .before .before .lift-last .ensures in
     let f = c .lift-first .ensures in (
       higher-then (l .0) (f .0),
       record {
-        last = λ q i li s b lb. under-higher (now (c .before .before .before .before .before .before .before .args .gains)) _ b (f .0) (l .1 q i li s b lb);
+        last = λ q i li s b lb. under-higher (now (start .args .gains)) _ b (f .0) (l .1 q i li s b lb);
         first = f .1;
       },
     )

@@ -34,9 +34,11 @@ same-length-4 c = search needs
 
 returns : tie.Need-returns
 returns c =
-    let start = c .before .before .before .before .before .before .before .before .before .before .before .before .before .before .before .before .before .before .before .before .before .before .before .before .before .before .before .before .pre in
+    let at-go = c .before .before .before .before .before .before .before .before .before .before .before .before in
+    let start-2 = at-go .before .before .before .before .before .before .before .before .before .before .before .before .before .before .before .before in
+    let start = start-2 .pre in
     let goes = start .0 .goes in
-    let went = c .before .before .before .before .before .before .before .before .before .before .before .before .go .ensures in
+    let went = at-go .go .ensures in
     (went, peaked-move (goes .sound) (goes .open-pair) (went (start .0 .aboves) (start .0 .loaded) .sound (goes .h) (goes .cs) (goes .block) (goes .sound)) (start .1) (c .lift .ensures))
 
 pub shift-spec : {M : Type 1} → statement M

@@ -11,7 +11,9 @@ mark-vertex-requires : tie.Need-mark-vertex-requires
 mark-vertex-requires c κs = search needs
 
 returns-2 : tie.Need-returns-2
-returns-2 c = placed-yes (c .before .before .before .args .x) (c .before .before .before .args .b) (c .before .before .if1 .left) (c .mark-vertex .ensures .0)
+returns-2 c =
+    let start = c .before .before .before in
+    placed-yes (start .args .x) (start .args .b) (c .before .before .if1 .left) (c .mark-vertex .ensures .0)
 
 pub mark-placed-spec : {M : Type 1} → statement M
 mark-placed-spec = tie.close (tie.spec returns mark-vertex-requires returns-2)

@@ -17,14 +17,19 @@ enum-known-vertex c = search needs
 
 rises-requires : tie.Need-rises-requires
 rises-requires c κs =
-    let a = c .before .before .before .before .before .before .before .args in
-    let ok = c .before .before .before .before .before .before .before .pre .0 in
-    rise-in (a .n) (a .k) _ _ _ (c .before .before .before .best-open .ensures .within) (c .before .vertex .given .1) (ok .n-to) (ok .k-to) (ok .in-gains)
+    let at-best-open = c .before .before .before in
+    let start = at-best-open .before .before .before .before in
+    let a = start .args in
+    let ok = start .pre .0 in
+    rise-in (a .n) (a .k) _ _ _ (at-best-open .best-open .ensures .within) (c .before .vertex .given .1) (ok .n-to) (ok .k-to) (ok .in-gains)
 
 returns : tie.Need-returns
 returns c =
-    let a = c .before .before .before .before .before .before .before .before .before .args in
-    rise-yes (gainIn (now (a .gains))) (a .n) (a .k) _ _ (c .before .before .before .before .before .best-open .ensures) (c .before .before .before .vertex .given .1) (sym (c .before .rises .ensures) ∙ c .if1 .taken)
+    let at-vertex = c .before .before .before in
+    let at-best-open = at-vertex .before .before in
+    let start = at-best-open .before .before .before .before in
+    let a = start .args in
+    rise-yes (gainIn (now (a .gains))) (a .n) (a .k) _ _ (at-best-open .best-open .ensures) (at-vertex .vertex .given .1) (sym (c .before .rises .ensures) ∙ c .if1 .taken)
 
 returns-2 : tie.Need-returns-2
 returns-2 c =
@@ -33,8 +38,11 @@ returns-2 c =
 
 returns-3 : tie.Need-returns-3
 returns-3 c =
-    let a = c .before .before .before .before .before .before .before .before .before .args in
-    rise-no (gainIn (now (a .gains))) (a .n) (a .k) _ _ (c .before .before .before .before .before .best-open .ensures) (c .before .before .before .vertex .given .1) (sym (c .before .rises .ensures) ∙ c .if1 .left)
+    let at-vertex = c .before .before .before in
+    let at-best-open = at-vertex .before .before in
+    let start = at-best-open .before .before .before .before in
+    let a = start .args in
+    rise-no (gainIn (now (a .gains))) (a .n) (a .k) _ _ (at-best-open .best-open .ensures) (at-vertex .vertex .given .1) (sym (c .before .rises .ensures) ∙ c .if1 .left)
 
 pub next-rise-spec : {M : Type 1} → statement M
 next-rise-spec =

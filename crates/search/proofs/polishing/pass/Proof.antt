@@ -28,9 +28,13 @@ sub-x c = omega (arith, pass-in (c .before .before .before .before .before .befo
 
 shift-requires : tie.Need-shift-requires
 shift-requires c κs =
-    let start = c .before .before .before .before .before .before .before .before .before .before .before .before .before .before .before .before .before .before .before .before .before .before .before .before .before .pre in
-    let is = c .before .before .before .before .before .before .index in
-    (pass-goes (start .0) (c .before .before .before .before .before .before .before .before .before .before .before .before .before .before .before .before .before .before .before .before .before .before .before .before .before .args .capacity) _ _ (c .before .before .before .before .before .before .before .before .before .before .next-rise .ensures) (c .before .before .before .before .before .before .before .before .vertex .given .1) (is .result - 1) (ap (λ (z : ℕ). z - 1) (is .ensures)), start .1)
+    let at-index = c .before .before .before .before .before .before in
+    let at-vertex = at-index .before .before in
+    let at-next-rise = at-vertex .before .before in
+    let start-2 = at-next-rise .before .before .before .before .before .before .before .before .before .before .before .before .before .before .before in
+    let start = start-2 .pre in
+    let is = at-index .index in
+    (pass-goes (start .0) (start-2 .args .capacity) _ _ (at-next-rise .next-rise .ensures) (at-vertex .vertex .given .1) (is .result - 1) (ap (λ (z : ℕ). z - 1) (is .ensures)), start .1)
 
 sub-t44 : tie.Need-sub-t44
 sub-t44 c = omega (arith, c .before .before .before .before .before .before .before .before .before .before .before .before .before .before .before .before .before .before .before .before .before .before .before .before .before .before .before .before .before .before .before .before .before .before .pre .0 .some)
@@ -46,7 +50,8 @@ same-length-2 c = search needs
 
 returns : tie.Need-returns
 returns c =
-    let start = c .before .before .before .before .before .before .before .before .before .before .before .before .before .before .before .before .before .pre in
+    let start-2 = c .before .before .before .before .before .before .before .before .before .before .before .before .before .before .before .before .before in
+    let start = start-2 .pre in
     (λ aboves loaded. pass-none _ _ _ _ _ (start .0 .some) (c .before .before .next-rise .ensures) (c .enum-told .given .1), start .1)
 
 same-length-3 : tie.Need-same-length-3

@@ -22,12 +22,14 @@ abbrev μ-loop : tie.MeasureT-loop
 
 mark-board-requires : tie.Need-mark-board-requires Inv-loop μ-loop
 mark-board-requires c κs =
-    let follows = c .before .before .before .before .before .before .before .before .before .before .before .pre .sound .follows in
+    let start = c .before .before .before .before .before .before .before .before .before .before .before in
+    let follows = start .pre .sound .follows in
     (length-replicate {A = ℕ} 48 0, follows .room .few-vertices, follows .world .lists .blocks-fit)
 
 survey-requires : tie.Need-survey-requires Inv-loop μ-loop
 survey-requires c κs =
-    let frame = c .before .before .before .before .before .before .before .before .before .before .before .before .before .before .pre .sound .follows .world .frame in
+    let start = c .before .before .before .before .before .before .before .before .before .before .before .before .before .before in
+    let frame = start .pre .sound .follows .world .frame in
     (length-replicate {A = ℤ} 16 (pos 0), frame .few-vertices, frame .few, frame .gains-fit)
 
 loop-holds : tie.Need-loop-holds Inv-loop μ-loop
@@ -39,7 +41,10 @@ pass-requires c κs =
     (pass-asks (c .before .before .before .before .before .before .before .before .before .before .before .before .before .before .before .before .before .before .before .before .before .before .before .before .before .pre) (l .inv .1) (c .before .before .before .before .before .before .before .if1 .taken) (omega (arith, l .inv .0, c .before .before .before .before .before .before .before .before .before .before .before .before .before .before .before .before .before .before .before .before .before .before .before .before .before .fits .total)), l .inv .2)
 
 loop-less : tie.Need-loop-less Inv-loop μ-loop
-loop-less c = let ok = c .before .before .before .before .before .before .before .before .before .before .before .before .before .before .before .before .before .before .before .before .before .before .before .before .before .before .before .before .before .before .before .before .before .pre in c .before .before .before .before .before .before .before .pass .ensures .0 (ok .aboves) (ok .loaded) .less
+loop-less c =
+    let at-pass = c .before .before .before .before .before .before .before in
+    let start = at-pass .before .before .before .before .before .before .before .before .before .before .before .before .before .before .before .before .before .before .before .before .before .before .before .before .before .before in
+    let ok = start .pre in at-pass .pass .ensures .0 (ok .aboves) (ok .loaded) .less
 
 loop-again : tie.Need-loop-again Inv-loop μ-loop
 loop-again c =

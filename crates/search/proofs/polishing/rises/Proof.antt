@@ -32,7 +32,10 @@ above-zero-requires : tie.Need-above-zero-requires
 above-zero-requires c κs = search needs
 
 returns : tie.Need-returns
-returns c = rise-read (now (c .before .before .before .before .args .gains)) (c .before .before .before .before .args .v) (c .before .before .before .before .args .b) (c .before .before .before .index .result) (c .before .before .index2 .result) (c .before .before .before .index .ensures) (c .before .before .index2 .ensures) (c .before .above-zero-arg .given) (c .above-zero .ensures)
+returns c =
+    let at-index = c .before .before .before in
+    let start = at-index .before in
+    rise-read (now (start .args .gains)) (start .args .v) (start .args .b) (at-index .index .result) (c .before .before .index2 .result) (at-index .index .ensures) (c .before .before .index2 .ensures) (c .before .above-zero-arg .given) (c .above-zero .ensures)
 
 pub rises-spec : {M : Type 1} → statement M
 rises-spec =

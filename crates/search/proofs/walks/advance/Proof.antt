@@ -22,8 +22,11 @@ enum-known-vertex c = search needs
 
 make-move-requires : tie.Need-make-move-requires
 make-move-requires c κs =
-    let start = c .before .before .before .before .before .before .before .before .before .before .before .before .before .before .before .before .before .before .before .before .before .before .before .before .before .before .before .pre in
-    (take-asks (start .0) _ _ (c .before .before .before .before .before .before .before .before .before .before .before .before .next-move .ensures) (c .before .before .before .before .before .before .before .before .before .before .vertex .given .1), start .1)
+    let at-vertex = c .before .before .before .before .before .before .before .before .before .before in
+    let at-next-move = at-vertex .before .before in
+    let start-2 = at-next-move .before .before .before .before .before .before .before .before .before .before .before .before .before .before .before in
+    let start = start-2 .pre in
+    (take-asks (start .0) _ _ (at-next-move .next-move .ensures) (at-vertex .vertex .given .1), start .1)
 
 same-length : tie.Need-same-length
 same-length c = search needs
@@ -33,7 +36,8 @@ same-length-2 c = search needs
 
 returns : tie.Need-returns
 returns c =
-    let start = c .before .before .before .before .before .before .before .before .before .before .before .before .before .before .before .before .before .pre in
+    let start-2 = c .before .before .before .before .before .before .before .before .before .before .before .before .before .before .before .before .before in
+    let start = start-2 .pre in
     (λ aboves loaded. turn-none _ _ _ _ (start .0 .turn-to) (start .0 .tried-to) (c .before .before .next-move .ensures) (c .enum-told .given .1), start .1)
 
 same-length-3 : tie.Need-same-length-3
@@ -50,9 +54,13 @@ same-length-6 c = search needs
 
 returns-2 : tie.Need-returns-2
 returns-2 c =
-    let ok = c .before .before .before .before .before .before .before .before .before .before .before .before .before .before .before .before .before .before .before .before .before .before .before .before .before .before .before .before .before .before .before .before .before .before .before .pre .0 in
-    let moved = c .before .before .before .before .before .before .before .make-move .ensures in
-    (λ aboves loaded. turn-move _ _ _ _ _ (ok .turn-to) (ok .tried-to) (c .before .before .before .before .before .before .before .before .before .before .before .before .before .before .before .before .before .before .before .before .next-move .ensures) (c .before .before .before .before .before .before .before .before .before .before .before .before .before .before .before .before .before .before .vertex .given .1) (moved .0 aboves loaded), moved .1)
+    let at-make-move = c .before .before .before .before .before .before .before in
+    let at-vertex = at-make-move .before .before .before .before .before .before .before .before .before .before .before in
+    let at-next-move = at-vertex .before .before in
+    let start = at-next-move .before .before .before .before .before .before .before .before .before .before .before .before .before .before .before in
+    let ok = start .pre .0 in
+    let moved = at-make-move .make-move .ensures in
+    (λ aboves loaded. turn-move _ _ _ _ _ (ok .turn-to) (ok .tried-to) (at-next-move .next-move .ensures) (at-vertex .vertex .given .1) (moved .0 aboves loaded), moved .1)
 
 pub advance-spec : {M : Type 1} → statement M
 advance-spec =

@@ -37,8 +37,10 @@ element-write-origins c = let ok = c .before .before .before .before .before .be
 
 shift-requires : tie.Need-shift-requires
 shift-requires c κs =
-    let start = c .before .before .before .before .before .before .before .before .before .before .before .before .before .before .before .before .before .pre in
-    (take-goes (start .0) (c .before .before .before .before .before .before .before .index .result - 1) (ap (λ (z : ℕ). z - 1) (c .before .before .before .before .before .before .before .index .ensures)), start .1)
+    let at-index = c .before .before .before .before .before .before .before in
+    let start-2 = at-index .before .before .before .before .before .before .before .before .before .before in
+    let start = start-2 .pre in
+    (take-goes (start .0) (at-index .index .result - 1) (ap (λ (z : ℕ). z - 1) (at-index .index .ensures)), start .1)
 
 spread-requires : tie.Need-spread-requires
 spread-requires c κs =

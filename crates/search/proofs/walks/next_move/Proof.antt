@@ -9,7 +9,8 @@ add-if1 c = search needs
 
 returns : tie.Need-returns
 returns c =
-    let a = c .before .before .before .args in
+    let start = c .before .before .before in
+    let a = start .args in
     next-stop (now (a .gains)) (now (a .blocks)) (now (a .weights)) (now (a .loads)) (now (a .marks)) (a .n) (a .k) (a .capacity) (a .tried) (a .kept) (c .if1 .taken)
 
 best-open-requires : tie.Need-best-open-requires
@@ -17,7 +18,8 @@ best-open-requires c κs = search needs
 
 returns-2 : tie.Need-returns-2
 returns-2 c =
-    let a = c .before .before .before .before .before .args in
+    let start = c .before .before .before .before .before in
+    let a = start .args in
     next-best (now (a .gains)) (now (a .blocks)) (now (a .weights)) (now (a .loads)) (now (a .marks)) (a .n) (a .k) (a .capacity) (a .tried) (a .kept) _ (c .before .before .if1 .left) (c .best-open .ensures)
 
 pub next-move-spec : {M : Type 1} → statement M

@@ -32,7 +32,8 @@ mark-vertex-requires-2 c κs =
 
 survey-requires : tie.Need-survey-requires Inv-loop μ-loop
 survey-requires c κs =
-    let frame = c .before .before .before .before .before .before .before .before .before .before .before .before .before .before .before .pre .sound .follows .world .frame in
+    let start = c .before .before .before .before .before .before .before .before .before .before .before .before .before .before .before in
+    let frame = start .pre .sound .follows .world .frame in
     (length-replicate {A = ℤ} 16 (pos 0), frame .few-vertices, frame .few, frame .gains-fit)
 
 loop-holds : tie.Need-loop-holds Inv-loop μ-loop
@@ -54,8 +55,11 @@ loop-holds c =
 
 advance-requires : tie.Need-advance-requires Inv-loop μ-loop
 advance-requires c κs =
-    let l = c .before .before .before .before .before .before .before .before .before .before .before .loop in
-    (turn-asks (c .before .before .before .before .before .before .before .before .before .before .before .before .before .before .before .before .before .before .before .before .before .before .before .before .before .before .before .before .pre) (l .inv .2) (c .before .before .before .before .before .before .before .before .before .if1 .taken) (l .inv .1), l .inv .3)
+    let at-if1 = c .before .before .before .before .before .before .before .before .before in
+    let at-loop = at-if1 .before .before in
+    let start = at-loop .before .before .before .before .before .before .before .before .before .before .before .before .before .before .before .before .before in
+    let l = at-loop .loop in
+    (turn-asks (start .pre) (l .inv .2) (at-if1 .if1 .taken) (l .inv .1), l .inv .3)
 
 loop-less : tie.Need-loop-less Inv-loop μ-loop
 loop-less c =
@@ -80,7 +84,10 @@ loop-again c =
     )
 
 rewind-requires : tie.Need-rewind-requires Inv-loop μ-loop
-rewind-requires c κs = let l = c .before .before .before .before .before .before .before .before .before .loop in end-asks (c .before .before .before .before .before .before .before .before .before .before .before .before .before .before .before .before .before .before .before .before .before .before .before .before .before .before .pre) (l .inv .2) (l .inv .0) (l .inv .1)
+rewind-requires c κs =
+    let at-loop = c .before .before .before .before .before .before .before .before .before in
+    let start = at-loop .before .before .before .before .before .before .before .before .before .before .before .before .before .before .before .before .before in
+    let l = at-loop .loop in end-asks (start .pre) (l .inv .2) (l .inv .0) (l .inv .1)
 
 same-length : tie.Need-same-length Inv-loop μ-loop
 same-length c = omega (arith, c .before .before .before .before .before .before .before .before .before .before .before .before .before .before .before .before .before .loop .inv, c .before .before .before .before .before .before .before .rewind .kept)
@@ -95,7 +102,11 @@ same-length-4 : tie.Need-same-length-4 Inv-loop μ-loop
 same-length-4 c = omega (arith, c .before .before .before .before .before .before .before .before .before .before .before .before .before .before .before .before .before .loop .inv, c .before .before .before .before .before .before .before .rewind .kept)
 
 returns : tie.Need-returns Inv-loop μ-loop
-returns c = λ aboves loaded. walks-all refl refl refl refl refl (c .before .before .before .before .before .before .before .before .before .before .before .before .before .before .before .before .before .loop .inv .2 aboves loaded) (c .before .before .before .before .before .before .before .before .before .before .before .before .before .before .before .if1 .left) (c .before .before .before .before .before .before .before .rewind .ensures aboves loaded)
+returns c =
+    let at-rewind = c .before .before .before .before .before .before .before in
+    let at-if1 = at-rewind .before .before .before .before .before .before .before .before in
+    let at-loop = at-if1 .before .before in
+    λ aboves loaded. walks-all refl refl refl refl refl (at-loop .loop .inv .2 aboves loaded) (at-if1 .if1 .left) (at-rewind .rewind .ensures aboves loaded)
 
 pub walk-spec : {M : Type 1} → statement M
 walk-spec =

@@ -8,7 +8,9 @@ use Rattle.steps.proofs.contracting.call_join.Statement.{statement}
 use Rattle.steps.proofs.contracting.call_join.Tie as tie
 
 refuses-join-requires : tie.Need-refuses-join-requires
-refuses-join-requires c κs = roomy (c .before .before .before .before .before .before .before .before .before .before .before .pre .ready) .blocks-fit
+refuses-join-requires c κs =
+    let start = c .before .before .before .before .before .before .before .before .before .before .before in
+    roomy (start .pre .ready) .blocks-fit
 
 same-length : tie.Need-same-length
 same-length c = search needs
@@ -23,7 +25,9 @@ short-requires-2 : tie.Need-short-requires-2
 short-requires-2 c κs = omega (arith, (pair-of (now (c .before .before .before .before .before .before .before .before .before .before .before .before .before .before .args .blocks)) (c .before .before .before .before .before .before .before .before .before .before .before .before .before .before .args .n) (c .before .before .before .before .before .before .before .before .before .before .before .before .before .before .args .u) (c .before .before .before .before .before .before .before .before .before .before .before .before .before .before .args .v) (sym (c .before .before .refuses-join .ensures) ∙ c .before .if1 .left)) .1 .v-in, roomy (c .before .before .before .before .before .before .before .before .before .before .before .before .before .before .pre .ready) .few-vertices)
 
 push-requires : tie.Need-push-requires
-push-requires c κs = (roomy (c .before .before .before .before .before .before .before .before .before .before .before .before .before .before .before .pre .ready) .stack-short, roomy (c .before .before .before .before .before .before .before .before .before .before .before .before .before .before .before .pre .ready) .stack-whole .xs-whole, roomy (c .before .before .before .before .before .before .before .before .before .before .before .before .before .before .before .pre .ready) .stack-whole .ys-whole)
+push-requires c κs =
+    let start = c .before .before .before .before .before .before .before .before .before .before .before .before .before .before .before in
+    (roomy (start .pre .ready) .stack-short, roomy (start .pre .ready) .stack-whole .xs-whole, roomy (start .pre .ready) .stack-whole .ys-whole)
 
 clear-requires : tie.Need-clear-requires
 clear-requires c κs = search needs
@@ -35,7 +39,11 @@ sub-join-2 : tie.Need-sub-join-2
 sub-join-2 c = omega (arith, (pair-of (now (c .before .before .before .before .before .before .before .before .before .before .before .before .before .before .before .before .before .before .before .before .before .before .before .before .before .before .args .blocks)) (c .before .before .before .before .before .before .before .before .before .before .before .before .before .before .before .before .before .before .before .before .before .before .before .before .before .before .args .n) (c .before .before .before .before .before .before .before .before .before .before .before .before .before .before .before .before .before .before .before .before .before .before .before .before .before .before .args .u) (c .before .before .before .before .before .before .before .before .before .before .before .before .before .before .before .before .before .before .before .before .before .before .before .before .before .before .args .v) (sym (c .before .before .before .before .before .before .before .before .before .before .before .before .before .before .refuses-join .ensures) ∙ c .before .before .before .before .before .before .before .before .before .before .before .before .before .if1 .left)) .0)
 
 join-requires : tie.Need-join-requires
-join-requires c κs = record { loads = c .before .before .before .before .before .before .before .before .before .before .before .before .before .before .before .before .before .before .before .before .before .before .before .before .before .before .pre .loads; loaded = c .before .before .before .before .before .before .before .before .before .before .before .before .before .before .before .before .before .before .before .before .before .before .before .before .before .before .pre .loaded; h = c .before .before .before .before .before .before .before .before .before .before .before .before .before .before .before .before .before .before .before .before .before .before .before .before .before .before .pre .ready .h; cs = c .before .before .before .before .before .before .before .before .before .before .before .before .before .before .before .before .before .before .before .before .before .before .before .before .before .before .pre .ready .s .stack; block = c .before .before .before .before .before .before .before .before .before .before .before .before .before .before .before .before .before .before .before .before .before .before .before .before .before .before .pre .ready .s .block; sound = c .before .before .before .before .before .before .before .before .before .before .before .before .before .before .before .before .before .before .before .before .before .before .before .before .before .before .pre .ready .runs .sound; pair = (pair-of (now (c .before .before .before .before .before .before .before .before .before .before .before .before .before .before .before .before .before .before .before .before .before .before .before .before .before .before .args .blocks)) (c .before .before .before .before .before .before .before .before .before .before .before .before .before .before .before .before .before .before .before .before .before .before .before .before .before .before .args .n) (c .before .before .before .before .before .before .before .before .before .before .before .before .before .before .before .before .before .before .before .before .before .before .before .before .before .before .args .u) (c .before .before .before .before .before .before .before .before .before .before .before .before .before .before .before .before .before .before .before .before .before .before .before .before .before .before .args .v) (sym (c .before .before .before .before .before .before .before .before .before .before .before .before .before .before .refuses-join .ensures) ∙ c .before .before .before .before .before .before .before .before .before .before .before .before .before .if1 .left)) .1 }
+join-requires c κs =
+    let at-if1 = c .before .before .before .before .before .before .before .before .before .before .before .before .before in
+    let at-refuses-join = at-if1 .before in
+    let start = at-refuses-join .before .before .before .before .before .before .before .before .before .before .before .before in
+    record { loads = start .pre .loads; loaded = start .pre .loaded; h = start .pre .ready .h; cs = start .pre .ready .s .stack; block = start .pre .ready .s .block; sound = start .pre .ready .runs .sound; pair = (pair-of (now (start .args .blocks)) (start .args .n) (start .args .u) (start .args .v) (sym (at-refuses-join .refuses-join .ensures) ∙ at-if1 .if1 .left)) .1 }
 
 sub-after : tie.Need-sub-after
 sub-after c = omega (arith, (pair-of (now (c .before .before .before .before .before .before .before .before .before .before .before .before .before .before .before .before .before .before .before .before .before .before .before .before .before .before .before .before .before .before .before .before .before .before .before .before .before .before .before .before .before .before .before .before .args .blocks)) (c .before .before .before .before .before .before .before .before .before .before .before .before .before .before .before .before .before .before .before .before .before .before .before .before .before .before .before .before .before .before .before .before .before .before .before .before .before .before .before .before .before .before .before .before .args .n) (c .before .before .before .before .before .before .before .before .before .before .before .before .before .before .before .before .before .before .before .before .before .before .before .before .before .before .before .before .before .before .before .before .before .before .before .before .before .before .before .before .before .before .before .before .args .u) (c .before .before .before .before .before .before .before .before .before .before .before .before .before .before .before .before .before .before .before .before .before .before .before .before .before .before .before .before .before .before .before .before .before .before .before .before .before .before .before .before .before .before .before .before .args .v) (sym (c .before .before .before .before .before .before .before .before .before .before .before .before .before .before .before .before .before .before .before .before .before .before .before .before .before .before .before .before .before .before .before .before .refuses-join .ensures) ∙ c .before .before .before .before .before .before .before .before .before .before .before .before .before .before .before .before .before .before .before .before .before .before .before .before .before .before .before .before .before .before .before .if1 .left)) .0)
@@ -74,7 +82,16 @@ same-length-10 : tie.Need-same-length-10
 same-length-10 c = search needs
 
 returns-2 : tie.Need-returns-2
-returns-2 c = λ loads loaded h. accepted-J h _ _ _ _ _ _ (c .before .before .before .before .before .before .before .before .before .before .before .before .before .before .before .before .before .before .before .before .before .before .before .before .before .before .before .before .before .before .before .before .before .before .before .before .before .before .before .before .before .before .before .before .before .args .u) (c .before .before .before .before .before .before .before .before .before .before .before .before .before .before .before .before .before .before .before .before .before .before .before .before .before .before .before .before .before .before .before .before .before .before .before .before .before .before .before .before .before .before .before .before .before .args .v) (sym (c .before .before .before .before .before .before .before .before .before .before .before .before .before .before .before .before .before .before .before .before .before .before .before .before .before .before .before .before .before .before .before .before .before .refuses-join .ensures) ∙ c .before .before .before .before .before .before .before .before .before .before .before .before .before .before .before .before .before .before .before .before .before .before .before .before .before .before .before .before .before .before .before .before .if1 .left) refl (c .before .before .before .before .before .before .before .before .before .before .before .before .before .before .before .before .before .before .join .ensures loads loaded) (pushed-as (c .before .before .before .before .before .before .before .before .before .before .before .before .before .before .before .before .before .before .before .before .before .before .before .before .before .before .before .before .before .push .ensures) (c .before .before .before .before .before .before .before .before .before .before .before .before .before .before .before .before .before .before .before .before .before .before .before .before .before .before .before .before .before .before .before .short .ensures) (c .before .before .before .before .before .before .before .before .before .before .before .before .before .before .before .before .before .before .before .before .before .before .before .before .before .before .before .before .before .before .short2 .ensures)) (record { xs-same = c .before .before .before .before .before .before .before .before .before .before .before .before .before .before .before .before .before .before .before .before .before .before .before .before .before .before .before .before .clear .ensures .0; ys-same = c .before .before .before .before .before .before .before .before .before .before .before .before .before .before .before .before .before .before .before .before .before .before .before .before .before .before .before .before .clear .ensures .1; len-is = c .before .before .before .before .before .before .before .before .before .before .before .before .before .before .before .before .before .before .before .before .before .before .before .before .before .before .before .before .clear .ensures .2 }) _ refl
+returns-2 c =
+    let at-join = c .before .before .before .before .before .before .before .before .before .before .before .before .before .before .before .before .before .before in
+    let at-clear = at-join .before .before .before .before .before .before .before .before .before .before in
+    let at-push = at-clear .before in
+    let at-short2 = at-push .before in
+    let at-short = at-short2 .before in
+    let at-if1 = at-short .before in
+    let at-refuses-join = at-if1 .before in
+    let start = at-refuses-join .before .before .before .before .before .before .before .before .before .before .before .before in
+    λ loads loaded h. accepted-J h _ _ _ _ _ _ (start .args .u) (start .args .v) (sym (at-refuses-join .refuses-join .ensures) ∙ at-if1 .if1 .left) refl (at-join .join .ensures loads loaded) (pushed-as (at-push .push .ensures) (at-short .short .ensures) (at-short2 .short2 .ensures)) (record { xs-same = at-clear .clear .ensures .0; ys-same = at-clear .clear .ensures .1; len-is = at-clear .clear .ensures .2 }) _ refl
 
 pub call-join-spec : {M : Type 1} → statement M
 call-join-spec =

@@ -45,7 +45,12 @@ sub-split-2 : tie.Need-sub-split-2
 sub-split-2 c = omega (arith, (top-in (c .before .before .before .before .before .before .before .before .before .before .before .before .before .before .before .before .before .before .before .before .before .before .before .before .before .before .before .pre .ready .runs) (above-none _ (c .before .before .before .before .before .before .before .before .before .before .before .before .before .before .before .if1 .left))) .1, c .before .before .before .before .before .before .before .before .before .before .before .index2 .ensures)
 
 split-requires : tie.Need-split-requires
-split-requires c κs = record { loads = c .before .before .before .before .before .before .before .before .before .before .before .before .before .before .before .before .before .before .before .before .before .before .before .before .before .before .before .pre .loads; splits = splits-ok (c .before .before .before .before .before .before .before .before .before .before .before .before .before .before .before .before .before .before .before .before .before .before .before .before .before .before .before .pre .ready) (above-none _ (c .before .before .before .before .before .before .before .before .before .before .before .before .before .before .before .if1 .left)) (c .before .before .before .before .before .before .before .before .before .before .before .before .index .result) (c .before .before .before .before .before .before .before .before .before .before .before .index2 .result) (c .before .before .before .before .before .before .before .before .before .before .before .before .index .ensures) (c .before .before .before .before .before .before .before .before .before .before .before .index2 .ensures) }
+split-requires c κs =
+    let at-index2 = c .before .before .before .before .before .before .before .before .before .before .before in
+    let at-index = at-index2 .before in
+    let at-if1 = at-index .before .before .before in
+    let start = at-if1 .before .before .before .before .before .before .before .before .before .before .before .before in
+    record { loads = start .pre .loads; splits = splits-ok (start .pre .ready) (above-none _ (at-if1 .if1 .left)) (at-index .index .result) (at-index2 .index2 .result) (at-index .index .ensures) (at-index2 .index2 .ensures) }
 
 wide-requires : tie.Need-wide-requires
 wide-requires c κs = search needs
@@ -81,7 +86,14 @@ same-length-9 : tie.Need-same-length-9
 same-length-9 c = search needs
 
 returns-2 : tie.Need-returns-2
-returns-2 c = λ loads h. accepted-S h _ _ _ _ _ _ (above-none _ (c .before .before .before .before .before .before .before .before .before .before .before .before .before .before .before .before .before .before .before .before .before .before .before .before .before .before .before .before .before .before .before .before .before .before .before .if1 .left)) (c .before .before .before .before .before .before .before .before .before .before .before .before .before .before .before .before .before .before .before .before .before .before .before .before .before .before .before .before .before .before .before .before .index .result) (c .before .before .before .before .before .before .before .before .before .before .before .before .before .before .before .before .before .before .before .before .before .before .before .before .before .before .before .before .before .before .before .index2 .result) (c .before .before .before .before .before .before .before .before .before .before .before .before .before .before .before .before .before .before .before .before .before .before .before .before .before .before .before .before .before .before .before .before .index .ensures) (c .before .before .before .before .before .before .before .before .before .before .before .before .before .before .before .before .before .before .before .before .before .before .before .before .before .before .before .before .before .before .before .index2 .ensures) (c .before .before .before .before .before .before .before .before .before .before .before .before .before .before .before .before .before .before .before .split .ensures loads) (record { xs-same = c .before .before .before .before .before .before .before .before .before .before .before .before .before .before .before .before .before .before .before .before .before .before .before .before .before .before .before .before .before .before .pop .ensures .0; ys-same = c .before .before .before .before .before .before .before .before .before .before .before .before .before .before .before .before .before .before .before .before .before .before .before .before .before .before .before .before .before .before .pop .ensures .1; len-is = c .before .before .before .before .before .before .before .before .before .before .before .before .before .before .before .before .before .before .before .before .before .before .before .before .before .before .before .before .before .before .pop .ensures .2 }) (record { xs-same = c .before .before .before .before .before .before .before .before .before .before .before .before .before .before .before .before .before .before .before .before .before .before .before .before .before .before .before .before .before .clear .ensures .0; ys-same = c .before .before .before .before .before .before .before .before .before .before .before .before .before .before .before .before .before .before .before .before .before .before .before .before .before .before .before .before .before .clear .ensures .1; len-is = c .before .before .before .before .before .before .before .before .before .before .before .before .before .before .before .before .before .before .before .before .before .before .before .before .before .before .before .before .before .clear .ensures .2 }) (c .before .wide .result) (c .wide2 .result) (c .before .wide .ensures) (c .wide2 .ensures)
+returns-2 c =
+    let at-split = c .before .before .before .before .before .before .before .before .before .before .before .before .before .before .before .before .before .before .before in
+    let at-clear = at-split .before .before .before .before .before .before .before .before .before .before in
+    let at-pop = at-clear .before in
+    let at-index2 = at-pop .before in
+    let at-index = at-index2 .before in
+    let at-if1 = at-index .before .before .before in
+    λ loads h. accepted-S h _ _ _ _ _ _ (above-none _ (at-if1 .if1 .left)) (at-index .index .result) (at-index2 .index2 .result) (at-index .index .ensures) (at-index2 .index2 .ensures) (at-split .split .ensures loads) (record { xs-same = at-pop .pop .ensures .0; ys-same = at-pop .pop .ensures .1; len-is = at-pop .pop .ensures .2 }) (record { xs-same = at-clear .clear .ensures .0; ys-same = at-clear .clear .ensures .1; len-is = at-clear .clear .ensures .2 }) (c .before .wide .result) (c .wide2 .result) (c .before .wide .ensures) (c .wide2 .ensures)
 
 pub call-split-spec : {M : Type 1} → statement M
 call-split-spec =

@@ -37,7 +37,11 @@ sub-go : tie.Need-sub-go
 sub-go c = omega (arith, (back-open (c .before .before .before .before .before .before .before .before .before .before .before .before .before .before .before .before .before .before .before .pre .ready .runs) (above-none _ (c .before .before .before .before .before .before .before .before .before .if1 .left))) .0, c .before .before .before .before .before .before .index .ensures)
 
 go-requires : tie.Need-go-requires
-go-requires c κs = record { aboves = c .before .before .before .before .before .before .before .before .before .before .before .before .before .before .before .before .before .before .before .pre .aboves; loaded = c .before .before .before .before .before .before .before .before .before .before .before .before .before .before .before .before .before .before .before .pre .loaded; goes = goes-ok (c .before .before .before .before .before .before .before .before .before .before .before .before .before .before .before .before .before .before .before .pre .ready) (above-none _ (c .before .before .before .before .before .before .before .before .before .if1 .left)) (c .before .before .before .before .before .before .index .result) (c .before .before .before .before .before .before .index .ensures) }
+go-requires c κs =
+    let at-index = c .before .before .before .before .before .before in
+    let at-if1 = at-index .before .before .before in
+    let start = at-if1 .before .before .before .before .before .before .before .before .before .before in
+    record { aboves = start .pre .aboves; loaded = start .pre .loaded; goes = goes-ok (start .pre .ready) (above-none _ (at-if1 .if1 .left)) (at-index .index .result) (at-index .index .ensures) }
 
 wide-requires : tie.Need-wide-requires
 wide-requires c κs = search needs
@@ -58,7 +62,12 @@ same-length-4 : tie.Need-same-length-4
 same-length-4 c = search needs
 
 returns-2 : tie.Need-returns-2
-returns-2 c = λ aboves loaded S h. accepted-B h _ _ _ _ _ (above-none _ (c .before .before .before .before .before .before .before .before .before .before .before .before .before .before .before .before .before .before .before .if1 .left)) (c .before .before .before .before .before .before .before .before .before .before .before .before .before .before .before .before .index .result) (c .before .before .before .before .before .before .before .before .before .before .before .before .before .before .before .before .index .ensures) (c .before .before .before .before .before .before .before .before .before .go .ensures aboves loaded) (record { xs-same = c .before .before .before .before .before .before .before .before .before .before .before .before .before .before .before .pop .ensures .0; ys-same = c .before .before .before .before .before .before .before .before .before .before .before .before .before .before .before .pop .ensures .1; len-is = c .before .before .before .before .before .before .before .before .before .before .before .before .before .before .before .pop .ensures .2 }) (c .before .wide .result) (c .wide2 .result) (c .before .wide .ensures) (c .wide2 .ensures)
+returns-2 c =
+    let at-go = c .before .before .before .before .before .before .before .before .before in
+    let at-pop = at-go .before .before .before .before .before .before in
+    let at-index = at-pop .before in
+    let at-if1 = at-index .before .before .before in
+    λ aboves loaded S h. accepted-B h _ _ _ _ _ (above-none _ (at-if1 .if1 .left)) (at-index .index .result) (at-index .index .ensures) (at-go .go .ensures aboves loaded) (record { xs-same = at-pop .pop .ensures .0; ys-same = at-pop .pop .ensures .1; len-is = at-pop .pop .ensures .2 }) (c .before .wide .result) (c .wide2 .result) (c .before .wide .ensures) (c .wide2 .ensures)
 
 pub call-back-spec : {M : Type 1} → statement M
 call-back-spec =

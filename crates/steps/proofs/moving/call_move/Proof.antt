@@ -10,13 +10,17 @@ use Rattle.steps.proofs.moving.call_move.Statement.{statement}
 use Rattle.steps.proofs.moving.call_move.Tie as tie
 
 refuses-move-requires : tie.Need-refuses-move-requires
-refuses-move-requires c κs = (roomy (c .before .before .before .before .before .before .before .before .before .before .before .pre .ready) .blocks-fit, roomy (c .before .before .before .before .before .before .before .before .before .before .before .pre .ready) .weights-fit, roomy (c .before .before .before .before .before .before .before .before .before .before .before .pre .ready) .few-blocks, roomy (c .before .before .before .before .before .before .before .before .before .before .before .pre .ready) .loads-fit)
+refuses-move-requires c κs =
+    let start = c .before .before .before .before .before .before .before .before .before .before .before in
+    (roomy (start .pre .ready) .blocks-fit, roomy (start .pre .ready) .weights-fit, roomy (start .pre .ready) .few-blocks, roomy (start .pre .ready) .loads-fit)
 
 same-length : tie.Need-same-length
 same-length c = search needs
 
 returns : tie.Need-returns
-returns c = λ aboves loaded S h q. refused-M _ (c .before .before .before .before .before .before .before .before .before .before .before .before .before .args .capacity) _ _ _ _ _ q (c .before .refuses-move .ensures) (c .if1 .taken)
+returns c =
+    let start = c .before .before .before .before .before .before .before .before .before .before .before .before .before in
+    λ aboves loaded S h q. refused-M _ (start .args .capacity) _ _ _ _ _ q (c .before .refuses-move .ensures) (c .if1 .taken)
 
 sub-gain : tie.Need-sub-gain
 sub-gain c = omega (arith, (open-of (now (c .before .before .before .before .before .before .before .before .before .before .before .before .before .args .blocks)) (now (c .before .before .before .before .before .before .before .before .before .before .before .before .before .args .loads)) (now (c .before .before .before .before .before .before .before .before .before .before .before .before .before .args .weights)) (c .before .before .before .before .before .before .before .before .before .before .before .before .before .args .n) (c .before .before .before .before .before .before .before .before .before .before .before .before .before .args .k) (c .before .before .before .before .before .before .before .before .before .before .before .before .before .args .capacity) (c .before .before .before .before .before .before .before .before .before .before .before .before .before .args .u) (c .before .before .before .before .before .before .before .before .before .before .before .before .before .args .t) (sym (c .before .refuses-move .ensures) ∙ c .if1 .left)) .0)
@@ -49,7 +53,9 @@ slice-read-push : tie.Need-slice-read-push
 slice-read-push c = omega (arith, (open-of (now (c .before .before .before .before .before .before .before .before .before .before .before .before .before .before .before .before .args .blocks)) (now (c .before .before .before .before .before .before .before .before .before .before .before .before .before .before .before .before .args .loads)) (now (c .before .before .before .before .before .before .before .before .before .before .before .before .before .before .before .before .args .weights)) (c .before .before .before .before .before .before .before .before .before .before .before .before .before .before .before .before .args .n) (c .before .before .before .before .before .before .before .before .before .before .before .before .before .before .before .before .args .k) (c .before .before .before .before .before .before .before .before .before .before .before .before .before .before .before .before .args .capacity) (c .before .before .before .before .before .before .before .before .before .before .before .before .before .before .before .before .args .u) (c .before .before .before .before .before .before .before .before .before .before .before .before .before .before .before .before .args .t) (sym (c .before .before .before .before .refuses-move .ensures) ∙ c .before .before .before .if1 .left)) .1 .u-in, roomy (c .before .before .before .before .before .before .before .before .before .before .before .before .before .before .before .before .pre .ready) .blocks-fit)
 
 push-requires : tie.Need-push-requires
-push-requires c κs = (roomy (c .before .before .before .before .before .before .before .before .before .before .before .before .before .before .before .before .pre .ready) .journal-short, roomy (c .before .before .before .before .before .before .before .before .before .before .before .before .before .before .before .before .pre .ready) .journal-whole .xs-whole, roomy (c .before .before .before .before .before .before .before .before .before .before .before .before .before .before .before .before .pre .ready) .journal-whole .ys-whole)
+push-requires c κs =
+    let start = c .before .before .before .before .before .before .before .before .before .before .before .before .before .before .before .before in
+    (roomy (start .pre .ready) .journal-short, roomy (start .pre .ready) .journal-whole .xs-whole, roomy (start .pre .ready) .journal-whole .ys-whole)
 
 sub-go : tie.Need-sub-go
 sub-go c = omega (arith, (open-of (now (c .before .before .before .before .before .before .before .before .before .before .before .before .before .before .before .before .before .before .before .before .before .before .args .blocks)) (now (c .before .before .before .before .before .before .before .before .before .before .before .before .before .before .before .before .before .before .before .before .before .before .args .loads)) (now (c .before .before .before .before .before .before .before .before .before .before .before .before .before .before .before .before .before .before .before .before .before .before .args .weights)) (c .before .before .before .before .before .before .before .before .before .before .before .before .before .before .before .before .before .before .before .before .before .before .args .n) (c .before .before .before .before .before .before .before .before .before .before .before .before .before .before .before .before .before .before .before .before .before .before .args .k) (c .before .before .before .before .before .before .before .before .before .before .before .before .before .before .before .before .before .before .before .before .before .before .args .capacity) (c .before .before .before .before .before .before .before .before .before .before .before .before .before .before .before .before .before .before .before .before .before .before .args .u) (c .before .before .before .before .before .before .before .before .before .before .before .before .before .before .before .before .before .before .before .before .before .before .args .t) (sym (c .before .before .before .before .before .before .before .before .before .before .refuses-move .ensures) ∙ c .before .before .before .before .before .before .before .before .before .if1 .left)) .0)
@@ -58,7 +64,11 @@ short-requires-2 : tie.Need-short-requires-2
 short-requires-2 c κs = omega (arith, (open-of (now (c .before .before .before .before .before .before .before .before .before .before .before .before .before .before .before .before .before .before .before .before .before .before .args .blocks)) (now (c .before .before .before .before .before .before .before .before .before .before .before .before .before .before .before .before .before .before .before .before .before .before .args .loads)) (now (c .before .before .before .before .before .before .before .before .before .before .before .before .before .before .before .before .before .before .before .before .before .before .args .weights)) (c .before .before .before .before .before .before .before .before .before .before .before .before .before .before .before .before .before .before .before .before .before .before .args .n) (c .before .before .before .before .before .before .before .before .before .before .before .before .before .before .before .before .before .before .before .before .before .before .args .k) (c .before .before .before .before .before .before .before .before .before .before .before .before .before .before .before .before .before .before .before .before .before .before .args .capacity) (c .before .before .before .before .before .before .before .before .before .before .before .before .before .before .before .before .before .before .before .before .before .before .args .u) (c .before .before .before .before .before .before .before .before .before .before .before .before .before .before .before .before .before .before .before .before .before .before .args .t) (sym (c .before .before .before .before .before .before .before .before .before .before .refuses-move .ensures) ∙ c .before .before .before .before .before .before .before .before .before .if1 .left)) .1 .t-in, roomy (c .before .before .before .before .before .before .before .before .before .before .before .before .before .before .before .before .before .before .before .before .before .before .pre .ready) .few-blocks)
 
 go-requires : tie.Need-go-requires
-go-requires c κs = record { aboves = c .before .before .before .before .before .before .before .before .before .before .before .before .before .before .before .before .before .before .before .before .before .before .before .pre .aboves; loaded = c .before .before .before .before .before .before .before .before .before .before .before .before .before .before .before .before .before .before .before .before .before .before .before .pre .loaded; goes = goes-as (c .before .before .before .before .before .before .before .before .before .before .before .before .before .before .before .before .before .before .before .before .before .before .before .pre .ready) ((open-of (now (c .before .before .before .before .before .before .before .before .before .before .before .before .before .before .before .before .before .before .before .before .before .before .before .args .blocks)) (now (c .before .before .before .before .before .before .before .before .before .before .before .before .before .before .before .before .before .before .before .before .before .before .before .args .loads)) (now (c .before .before .before .before .before .before .before .before .before .before .before .before .before .before .before .before .before .before .before .before .before .before .before .args .weights)) (c .before .before .before .before .before .before .before .before .before .before .before .before .before .before .before .before .before .before .before .before .before .before .before .args .n) (c .before .before .before .before .before .before .before .before .before .before .before .before .before .before .before .before .before .before .before .before .before .before .before .args .k) (c .before .before .before .before .before .before .before .before .before .before .before .before .before .before .before .before .before .before .before .before .before .before .before .args .capacity) (c .before .before .before .before .before .before .before .before .before .before .before .before .before .before .before .before .before .before .before .before .before .before .before .args .u) (c .before .before .before .before .before .before .before .before .before .before .before .before .before .before .before .before .before .before .before .before .before .before .before .args .t) (sym (c .before .before .before .before .before .before .before .before .before .before .before .refuses-move .ensures) ∙ c .before .before .before .before .before .before .before .before .before .before .if1 .left)) .1) (c .short2 .ensures) }
+go-requires c κs =
+    let at-if1 = c .before .before .before .before .before .before .before .before .before .before in
+    let at-refuses-move = at-if1 .before in
+    let start = at-refuses-move .before .before .before .before .before .before .before .before .before .before .before .before in
+    record { aboves = start .pre .aboves; loaded = start .pre .loaded; goes = goes-as (start .pre .ready) ((open-of (now (start .args .blocks)) (now (start .args .loads)) (now (start .args .weights)) (start .args .n) (start .args .k) (start .args .capacity) (start .args .u) (start .args .t) (sym (at-refuses-move .refuses-move .ensures) ∙ at-if1 .if1 .left)) .1) (c .short2 .ensures) }
 
 same-length-2 : tie.Need-same-length-2
 same-length-2 c = search needs
@@ -73,7 +83,15 @@ same-length-5 : tie.Need-same-length-5
 same-length-5 c = search needs
 
 returns-2 : tie.Need-returns-2
-returns-2 c = λ aboves loaded S h q. accepted-M h _ _ _ _ _ (c .before .before .before .before .before .before .before .before .before .before .before .before .before .before .before .before .before .before .before .before .before .before .before .before .before .before .before .before .before .before .before .args .capacity) (c .before .before .before .before .before .before .before .before .before .before .before .before .before .before .before .before .before .before .before .before .before .before .before .before .before .before .before .before .before .before .before .args .u) (c .before .before .before .before .before .before .before .before .before .before .before .before .before .before .before .before .before .before .before .before .before .before .before .before .before .before .before .before .before .before .before .args .t) (c .before .before .before .before .before .before .before .before .short2 .result) _ q (sym (c .before .before .before .before .before .before .before .before .before .before .before .before .before .before .before .before .before .before .before .refuses-move .ensures) ∙ c .before .before .before .before .before .before .before .before .before .before .before .before .before .before .before .before .before .before .if1 .left) (c .before .before .before .before .before .before .before .before .short2 .ensures) (c .before .before .before .before .before .before .before .go .ensures aboves loaded) (roomy (c .before .before .before .before .before .before .before .before .before .before .before .before .before .before .before .before .before .before .before .before .before .before .before .before .before .before .before .before .before .before .before .pre .ready) .journal-short) refl (pushed-as (c .before .before .before .before .before .before .before .before .before .before .before .before .before .before .push .ensures) (c .before .before .before .before .before .before .before .before .before .before .before .before .before .before .before .before .short .ensures) refl) _ (read32 _ (gain-small (c .before .before .before .before .before .before .before .before .before .before .before .before .before .before .before .before .before .before .before .before .before .before .before .before .before .before .before .before .before .before .before .pre .ready .runs .sound) ((open-of (now (c .before .before .before .before .before .before .before .before .before .before .before .before .before .before .before .before .before .before .before .before .before .before .before .before .before .before .before .before .before .before .before .args .blocks)) (now (c .before .before .before .before .before .before .before .before .before .before .before .before .before .before .before .before .before .before .before .before .before .before .before .before .before .before .before .before .before .before .before .args .loads)) (now (c .before .before .before .before .before .before .before .before .before .before .before .before .before .before .before .before .before .before .before .before .before .before .before .before .before .before .before .before .before .before .before .args .weights)) (c .before .before .before .before .before .before .before .before .before .before .before .before .before .before .before .before .before .before .before .before .before .before .before .before .before .before .before .before .before .before .before .args .n) (c .before .before .before .before .before .before .before .before .before .before .before .before .before .before .before .before .before .before .before .before .before .before .before .before .before .before .before .before .before .before .before .args .k) (c .before .before .before .before .before .before .before .before .before .before .before .before .before .before .before .before .before .before .before .before .before .before .before .before .before .before .before .before .before .before .before .args .capacity) (c .before .before .before .before .before .before .before .before .before .before .before .before .before .before .before .before .before .before .before .before .before .before .before .before .before .before .before .before .before .before .before .args .u) (c .before .before .before .before .before .before .before .before .before .before .before .before .before .before .before .before .before .before .before .before .before .before .before .before .before .before .before .before .before .before .before .args .t) (sym (c .before .before .before .before .before .before .before .before .before .before .before .before .before .before .before .before .before .before .before .refuses-move .ensures) ∙ c .before .before .before .before .before .before .before .before .before .before .before .before .before .before .before .before .before .before .if1 .left)) .1)))
+returns-2 c =
+    let at-go = c .before .before .before .before .before .before .before in
+    let at-short2 = at-go .before in
+    let at-push = at-short2 .before .before .before .before .before .before in
+    let at-short = at-push .before .before in
+    let at-if1 = at-short .before .before in
+    let at-refuses-move = at-if1 .before in
+    let start = at-refuses-move .before .before .before .before .before .before .before .before .before .before .before .before in
+    λ aboves loaded S h q. accepted-M h _ _ _ _ _ (start .args .capacity) (start .args .u) (start .args .t) (at-short2 .short2 .result) _ q (sym (at-refuses-move .refuses-move .ensures) ∙ at-if1 .if1 .left) (at-short2 .short2 .ensures) (at-go .go .ensures aboves loaded) (roomy (start .pre .ready) .journal-short) refl (pushed-as (at-push .push .ensures) (at-short .short .ensures) refl) _ (read32 _ (gain-small (start .pre .ready .runs .sound) ((open-of (now (start .args .blocks)) (now (start .args .loads)) (now (start .args .weights)) (start .args .n) (start .args .k) (start .args .capacity) (start .args .u) (start .args .t) (sym (at-refuses-move .refuses-move .ensures) ∙ at-if1 .if1 .left)) .1)))
 
 pub call-move-spec : {M : Type 1} → statement M
 call-move-spec =

@@ -8,13 +8,17 @@ is-here-requires : tie.Need-is-here-requires
 is-here-requires c κs = search needs
 
 returns : tie.Need-returns
-returns c = both-no (here (now (c .before .before .before .args .blocks)) (c .before .before .before .args .u)) (here (now (c .before .before .before .args .blocks)) (c .before .before .before .args .v)) (c .before .is-here .ensures) (c .if1 .taken)
+returns c =
+    let start = c .before .before .before in
+    both-no (here (now (start .args .blocks)) (start .args .u)) (here (now (start .args .blocks)) (start .args .v)) (c .before .is-here .ensures) (c .if1 .taken)
 
 is-here-requires-2 : tie.Need-is-here-requires-2
 is-here-requires-2 c κs = search needs
 
 returns-2 : tie.Need-returns-2
-returns-2 c = both-yes (here (now (c .before .before .before .before .args .blocks)) (c .before .before .before .before .args .u)) (here (now (c .before .before .before .before .args .blocks)) (c .before .before .before .before .args .v)) (c .before .before .is-here .ensures) (c .before .if1 .left) (c .is-here2 .ensures)
+returns-2 c =
+    let start = c .before .before .before .before in
+    both-yes (here (now (start .args .blocks)) (start .args .u)) (here (now (start .args .blocks)) (start .args .v)) (c .before .before .is-here .ensures) (c .before .if1 .left) (c .is-here2 .ensures)
 
 pub both-here-spec : {M : Type 1} → statement M
 both-here-spec =

@@ -13,7 +13,9 @@ is-known-requires-2 : tie.Need-is-known-requires-2
 is-known-requires-2 c κs = search needs
 
 returns-2 : tie.Need-returns-2
-returns-2 c = both-yes (known (c .before .before .before .args .n) (c .before .before .before .args .x)) (known (c .before .before .before .args .k) (c .before .before .before .args .y)) (c .before .before .is-known .ensures) (c .before .if1 .left) (c .is-known2 .ensures)
+returns-2 c =
+    let start = c .before .before .before in
+    both-yes (known (start .args .n) (start .args .x)) (known (start .args .k) (start .args .y)) (c .before .before .is-known .ensures) (c .before .if1 .left) (c .is-known2 .ensures)
 
 pub both-known-spec : {M : Type 1} → statement M
 both-known-spec =

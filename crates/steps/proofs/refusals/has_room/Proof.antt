@@ -32,7 +32,9 @@ element-copy-out-result : tie.Need-element-copy-out-result
 element-copy-out-result c = search needs
 
 returns-2 : tie.Need-returns-2
-returns-2 c = room-some (getD (now (c .before .before .before .args .loads)) (c .before .before .before .args .t - 1) 0) (getD (now (c .before .before .before .args .weights)) (c .before .before .before .args .u - 1) 0) (c .before .before .before .args .capacity) (c .before .if1 .left)
+returns-2 c =
+    let start = c .before .before .before in
+    room-some (getD (now (start .args .loads)) (start .args .t - 1) 0) (getD (now (start .args .weights)) (start .args .u - 1) 0) (start .args .capacity) (c .before .if1 .left)
 
 pub has-room-spec : {M : Type 1} → statement M
 has-room-spec =

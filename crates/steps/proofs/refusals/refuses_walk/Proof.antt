@@ -9,16 +9,24 @@ both-known-requires : tie.Need-both-known-requires
 both-known-requires c κs = search needs
 
 returns : tie.Need-returns
-returns c = walk-9 (now (c .before .before .before .args .blocks)) (c .before .before .before .args .n) (c .before .before .before .args .u) (c .before .before .before .args .v) (c .before .both-known .ensures) (c .if1 .taken)
+returns c =
+    let start = c .before .before .before in
+    walk-9 (now (start .args .blocks)) (start .args .n) (start .args .u) (start .args .v) (c .before .both-known .ensures) (c .if1 .taken)
 
 both-here-requires : tie.Need-both-here-requires
 both-here-requires c κs = omega (arith, known-range (c .before .before .before .args .n) (c .before .before .before .args .u) (c .before .before .before .args .n) (c .before .before .before .args .v) (c .before .both-known .ensures) (c .if1 .left))
 
 returns-2 : tie.Need-returns-2
-returns-2 c = walk-10 (now (c .before .before .before .before .before .args .blocks)) (c .before .before .before .before .before .args .n) (c .before .before .before .before .before .args .u) (c .before .before .before .before .before .args .v) (c .before .before .before .both-known .ensures) (c .before .before .if1 .left) (c .before .both-here .ensures) (c .if2 .taken)
+returns-2 c =
+    let at-both-known = c .before .before .before in
+    let start = at-both-known .before .before in
+    walk-10 (now (start .args .blocks)) (start .args .n) (start .args .u) (start .args .v) (at-both-known .both-known .ensures) (c .before .before .if1 .left) (c .before .both-here .ensures) (c .if2 .taken)
 
 returns-3 : tie.Need-returns-3
-returns-3 c = walk-0 (now (c .before .before .before .before .before .args .blocks)) (c .before .before .before .before .before .args .n) (c .before .before .before .before .before .args .u) (c .before .before .before .before .before .args .v) (c .before .before .before .both-known .ensures) (c .before .before .if1 .left) (c .before .both-here .ensures) (c .if2 .left)
+returns-3 c =
+    let at-both-known = c .before .before .before in
+    let start = at-both-known .before .before in
+    walk-0 (now (start .args .blocks)) (start .args .n) (start .args .u) (start .args .v) (at-both-known .both-known .ensures) (c .before .before .if1 .left) (c .before .both-here .ensures) (c .if2 .left)
 
 pub refuses-walk-spec : {M : Type 1} → statement M
 refuses-walk-spec =

@@ -11,7 +11,10 @@ clear-requires : tie.Need-clear-requires
 clear-requires c κs = search needs
 
 run-requires : tie.Need-run-requires
-run-requires c κs = cycle-asks (c .before .before .before .before .before .before .before .before .before .before .before .before .before .before .before .before .before .before .before .before .before .before .before .pre) (c .before .before .before .before .before .before .before .before .before .before .before .if1 .left)
+run-requires c κs =
+    let at-if1 = c .before .before .before .before .before .before .before .before .before .before .before in
+    let start = at-if1 .before .before .before .before .before .before .before .before .before .before .before .before in
+    cycle-asks (start .pre) (at-if1 .if1 .left)
 
 same-length : tie.Need-same-length
 same-length c = search needs
@@ -41,7 +44,11 @@ same-length-9 : tie.Need-same-length-9
 same-length-9 c = search needs
 
 returns-2 : tie.Need-returns-2
-returns-2 c = λ h qa qc. accepted-A h _ _ _ _ _ _ _ qa qc (c .before .before .before .before .before .before .before .before .before .before .before .before .before .before .before .before .before .before .before .before .before .before .before .before .before .before .before .before .before .if1 .left) (c .before .before .before .before .before .before .before .before .before .before .before .before .before .before .before .before .before .run .ensures) (record { xs-same = c .before .before .before .before .before .before .before .before .before .before .before .before .before .before .before .before .before .before .before .before .before .before .before .before .before .before .before .before .clear .ensures .0; ys-same = c .before .before .before .before .before .before .before .before .before .before .before .before .before .before .before .before .before .before .before .before .before .before .before .before .before .before .before .before .clear .ensures .1; len-is = c .before .before .before .before .before .before .before .before .before .before .before .before .before .before .before .before .before .before .before .before .before .before .before .before .before .before .before .before .clear .ensures .2 })
+returns-2 c =
+    let at-run = c .before .before .before .before .before .before .before .before .before .before .before .before .before .before .before .before .before in
+    let at-clear = at-run .before .before .before .before .before .before .before .before .before .before .before in
+    let at-if1 = at-clear .before in
+    λ h qa qc. accepted-A h _ _ _ _ _ _ _ qa qc (at-if1 .if1 .left) (at-run .run .ensures) (record { xs-same = at-clear .clear .ensures .0; ys-same = at-clear .clear .ensures .1; len-is = at-clear .clear .ensures .2 })
 
 pub call-all-spec : {M : Type 1} → statement M
 call-all-spec =

@@ -8,7 +8,9 @@ clear-requires : tie.Need-clear-requires
 clear-requires c κs = search needs
 
 polish-requires : tie.Need-polish-requires
-polish-requires c κs = polish-asks (c .before .before .before .before .before .before .before .before .before .before .before .before .before .before .before .pre)
+polish-requires c κs =
+    let start = c .before .before .before .before .before .before .before .before .before .before .before .before .before .before .before in
+    polish-asks (start .pre)
 
 same-length : tie.Need-same-length
 same-length c = search needs
@@ -23,7 +25,10 @@ same-length-4 : tie.Need-same-length-4
 same-length-4 c = search needs
 
 returns : tie.Need-returns
-returns c = λ aboves loaded S h q. accepted-P h _ _ _ _ _ _ q (c .before .before .before .before .before .before .before .polish .ensures aboves loaded) (record { xs-same = c .before .before .before .before .before .before .before .before .before .before .before .before .before .clear .ensures .0; ys-same = c .before .before .before .before .before .before .before .before .before .before .before .before .before .clear .ensures .1; len-is = c .before .before .before .before .before .before .before .before .before .before .before .before .before .clear .ensures .2 })
+returns c =
+    let at-polish = c .before .before .before .before .before .before .before in
+    let at-clear = at-polish .before .before .before .before .before .before in
+    λ aboves loaded S h q. accepted-P h _ _ _ _ _ _ q (at-polish .polish .ensures aboves loaded) (record { xs-same = at-clear .clear .ensures .0; ys-same = at-clear .clear .ensures .1; len-is = at-clear .clear .ensures .2 })
 
 pub call-polish-spec : {M : Type 1} → statement M
 call-polish-spec =

@@ -9,7 +9,9 @@ use Rattle.turns.proofs.searching.call_walk.Statement.{statement}
 use Rattle.turns.proofs.searching.call_walk.Tie as tie
 
 refuses-walk-requires : tie.Need-refuses-walk-requires
-refuses-walk-requires c κs = roomy (c .before .before .before .before .before .before .before .before .before .before .pre .ready) .blocks-fit
+refuses-walk-requires c κs =
+    let start = c .before .before .before .before .before .before .before .before .before .before in
+    roomy (start .pre .ready) .blocks-fit
 
 same-length : tie.Need-same-length
 same-length c = search needs
@@ -27,16 +29,26 @@ sub-walk-2 : tie.Need-sub-walk-2
 sub-walk-2 c = omega (arith, (both-of (now (c .before .before .before .before .before .before .before .before .before .before .before .before .before .before .before .before .before .before .args .blocks)) (c .before .before .before .before .before .before .before .before .before .before .before .before .before .before .before .before .before .before .args .n) (c .before .before .before .before .before .before .before .before .before .before .before .before .before .before .before .before .before .before .args .u) (c .before .before .before .before .before .before .before .before .before .before .before .before .before .before .before .before .before .before .args .v) (sym (c .before .before .before .before .before .before .before .refuses-walk .ensures) ∙ c .before .before .before .before .before .before .if1 .left)) .v-from)
 
 walk-requires : tie.Need-walk-requires
-walk-requires c κs = walk-asks (c .before .before .before .before .before .before .before .before .before .before .before .before .before .before .before .before .before .before .args .u) (c .before .before .before .before .before .before .before .before .before .before .before .before .before .before .before .before .before .before .args .v) (c .before .before .before .before .before .before .before .before .before .before .before .before .before .before .before .before .before .before .pre) (sym (c .before .before .before .before .before .before .before .refuses-walk .ensures) ∙ c .before .before .before .before .before .before .if1 .left)
+walk-requires c κs =
+    let at-if1 = c .before .before .before .before .before .before in
+    let at-refuses-walk = at-if1 .before in
+    let start = at-refuses-walk .before .before .before .before .before .before .before .before .before .before .before in
+    walk-asks (start .args .u) (start .args .v) (start .pre) (sym (at-refuses-walk .refuses-walk .ensures) ∙ at-if1 .if1 .left)
 
 short-requires : tie.Need-short-requires
-short-requires c κs = walk-few (c .before .before .before .before .before .before .before .before .before .before .before .before .before .before .before .before .before .before .before .before .before .before .before .before .before .before .pre) (c .before .before .before .before .before .before .before .walk .ensures) .0
+short-requires c κs =
+    let at-walk = c .before .before .before .before .before .before .before in
+    let start = at-walk .before .before .before .before .before .before .before .before .before .before .before .before .before .before .before .before .before .before .before in
+    walk-few (start .pre) (at-walk .walk .ensures) .0
 
 wide-requires : tie.Need-wide-requires
 wide-requires c κs = search needs
 
 short-requires-2 : tie.Need-short-requires-2
-short-requires-2 c κs = walk-few (c .before .before .before .before .before .before .before .before .before .before .before .before .before .before .before .before .before .before .before .before .before .before .before .before .before .before .before .before .pre) (c .before .before .before .before .before .before .before .before .before .walk .ensures) .1
+short-requires-2 c κs =
+    let at-walk = c .before .before .before .before .before .before .before .before .before in
+    let start = at-walk .before .before .before .before .before .before .before .before .before .before .before .before .before .before .before .before .before .before .before in
+    walk-few (start .pre) (at-walk .walk .ensures) .1
 
 wide-requires-2 : tie.Need-wide-requires-2
 wide-requires-2 c κs = search needs
@@ -54,7 +66,14 @@ same-length-5 : tie.Need-same-length-5
 same-length-5 c = search needs
 
 returns-2 : tie.Need-returns-2
-returns-2 c = λ aboves loaded S h q. accepted-W h _ _ _ _ _ _ (c .before .before .before .before .before .before .before .before .before .before .before .before .before .before .before .before .before .before .before .before .before .before .before .before .before .before .before .before .before .before .args .u) (c .before .before .before .before .before .before .before .before .before .before .before .before .before .before .before .before .before .before .before .before .before .before .before .before .before .before .before .before .before .before .args .v) q (sym (c .before .before .before .before .before .before .before .before .before .before .before .before .before .before .before .before .before .before .before .refuses-walk .ensures) ∙ c .before .before .before .before .before .before .before .before .before .before .before .before .before .before .before .before .before .before .if1 .left) (c .before .before .before .before .before .before .before .before .before .before .before .walk .ensures aboves loaded) (record { xs-same = c .before .before .before .before .before .before .before .before .before .before .before .before .before .before .before .before .before .clear .ensures .0; ys-same = c .before .before .before .before .before .before .before .before .before .before .before .before .before .before .before .before .before .clear .ensures .1; len-is = c .before .before .before .before .before .before .before .before .before .before .before .before .before .before .before .before .before .clear .ensures .2 }) _ _ (c .before .before .wide .ensures ∙ c .before .before .before .short .ensures) (c .wide2 .ensures ∙ c .before .short2 .ensures)
+returns-2 c =
+    let at-short = c .before .before .before in
+    let at-walk = at-short .before .before .before .before .before .before .before .before in
+    let at-clear = at-walk .before .before .before .before .before .before in
+    let at-if1 = at-clear .before in
+    let at-refuses-walk = at-if1 .before in
+    let start = at-refuses-walk .before .before .before .before .before .before .before .before .before .before .before in
+    λ aboves loaded S h q. accepted-W h _ _ _ _ _ _ (start .args .u) (start .args .v) q (sym (at-refuses-walk .refuses-walk .ensures) ∙ at-if1 .if1 .left) (at-walk .walk .ensures aboves loaded) (record { xs-same = at-clear .clear .ensures .0; ys-same = at-clear .clear .ensures .1; len-is = at-clear .clear .ensures .2 }) _ _ (c .before .before .wide .ensures ∙ at-short .short .ensures) (c .wide2 .ensures ∙ c .before .short2 .ensures)
 
 pub call-walk-spec : {M : Type 1} → statement M
 call-walk-spec =
