@@ -3,6 +3,8 @@
 -- OpenLaw     its laws
 -- Peak        bounds on the gains of each part of 64 vertices, and how they are raised
 -- PeakLaw     a part whose peak is not above the best gain holds no better pair
+-- Rising      tests that most candidates fail, so that they are not weighed
+-- RisingLaw   what a failed test says of a vertex's pairs
 -- OpenLink    it is the pair that a walk or a polish of model takes, where the tables hold its state
 -- Rating      ratings, as the tables have them
 -- RatingLaw   ratings added up over the nets of a vertex; no rating passes the sum of the terms of its own nets
@@ -18,6 +20,8 @@ pub mod Open
 pub mod OpenLaw
 pub mod Peak
 pub mod PeakLaw
+pub mod Rising
+pub mod RisingLaw
 pub mod OpenLink
 pub mod Rating
 pub mod RatingLaw

@@ -4,6 +4,7 @@ use mathlib.Core.Path.{_≡_, refl, sym, ap, _∙_, subst}
 use mathlib.Core.List.{List}
 use mathlib.Core.Bool.{Bool, true, false, not, _&&_, cond, and-false, true≢false}
 use Prim.Native.Nat.{ℕ, zero, suc, _+_, _-_, _*_, _^_, _≤_, _<_}
+use native.Mathlib.Decide.{ℕ-discrete}
 use native.Mathlib.Omega.{arith}
 use lib.Dec.{leb, eqb}
 use lib.ListN.{getD}
@@ -13,10 +14,10 @@ use mir.Syntax.{w32, w64}
 use mir.Val.{SFits, ofZ, toZ}
 use mir.Facts.{toZ-ofZ}
 use borrow.Author.Tests.{lt-ltb, le-leb, lt-leb, leb-true, leb-false, eq-eqb, ne-eqb}
-use Rattle.laws.specs.Sum.{foldTo-zero, foldTo-step, foldTo-skip}
+use Rattle.laws.specs.Sum.{foldTo, foldTo-zero, foldTo-step, foldTo-skip}
 use Rattle.model.specs.Search.{Best, none, best, better, consider, bestPair}
 use Rattle.guarantees.specs.Tops.{Top, best-top}
-use Rattle.incidence.specs.On.{on, Next}
+use Rattle.incidence.specs.On.{on}
 use Rattle.choice.specs.declared.open.Lead.{Lead}
 use Rattle.choice.specs.declared.open.Pick.{Pick}
 use Rattle.choice.specs.declared.open.Pick.the-variants.{Move}
@@ -87,6 +88,48 @@ module _ (may : Bool) (here : ℕ) (gain : ℤ) (old : Lead) (before : Best) (fr
       → at ≡ cond t here (old .at) → top ≡ cond t gain′ top′ → Leads (record { at = at; top = top }) (considered may (vertexAt here) (blockAt here) gain before)
   weighed eg et el eb ea ep = rw (ea, ep, eb, el, eg, et) (weighed-by may (ltZ (old .top) gain) refl)
 
+-- ---- what is not better than the best so far changes nothing
+
+-- what none of the steps changes, they leave
+fold-rests : {B : Type 0} (m n : ℕ) (f : B → ℕ → B) (b r : B) → m ≤ n → foldTo m f b ≡ r → ((i : ℕ) → m < i → i ≤ n → f r i ≡ r) → foldTo n f b ≡ r
+fold-rests m zero f b r l e h = let q : 0 ≡ m = omega arith in ap (λ (k : ℕ). foldTo k f b) q ∙ e
+fold-rests m (suc n) f b r l e h = go (fold-rests m n f b r) (ℕ-discrete m (suc n))
+  where
+    go : (m ≤ n → foldTo m f b ≡ r → ((i : ℕ) → m < i → i ≤ n → f r i ≡ r) → foldTo n f b ≡ r) → Dec (m ≡ suc n) → foldTo (suc n) f b ≡ r
+    go ih (yes q) = ap (λ (k : ℕ). foldTo k f b) (sym q) ∙ e
+    go ih (no q) =
+        let s : suc n ≡ n + 1 = omega arith in
+        ap (λ (k : ℕ). foldTo k f b) s ∙ foldTo-step n f b ∙ ap (λ c. f c (n + 1)) (ih (omega arith) e (λ i a c. h i a (omega arith))) ∙ h (n + 1) (omega arith) (omega arith)
+
+-- there is a best pair, and its gain is not below this one
+abbrev pub Topped : Lead → ℤ → Type 0
+Topped lead gain = (lead .at ≡ 0 → ltZ (lead .top) gain ≡ true) × (ltZ (lead .top) gain ≡ false)
+
+module _ (may : ℕ → ℕ → Bool) (worth : ℕ → ℕ → ℤ) (k from to : ℕ) (lead : Lead) (l : from ≤ to) (h : (v b : ℕ) → from < v → v ≤ to → 1 ≤ b → b ≤ k → may v b ≡ true → Topped lead (worth v b)) where
+  abbrev held : Best
+  held = leadOf (lead .at) (lead .top)
+
+  pair-rests : (v b : ℕ) → from < v → v ≤ to → 1 ≤ b → b ≤ k → considered (may v b) v b (worth v b) held ≡ held
+  unfolding considered
+  pair-rests v b lv uv lb ub = by (may v b) refl
+    where
+      by : (t : Bool) → may v b ≡ t → considered t v b (worth v b) held ≡ held
+      by true e = let d = h v b lv uv lb ub e in sym (stays (lead .at) v b (lead .top) (worth v b) (d .0) (d .1))
+      by false e = refl
+
+  row-rests : (v : ℕ) → from < v → v ≤ to → bestInRow worth (may v) v k held ≡ held
+  unfolding bestInRow
+  row-rests v lv uv =
+      fold-rests 0 k (λ c b. considered (may v b) v b (worth v b) c) held held (omega arith)
+      (foldTo-zero (λ c b. considered (may v b) v b (worth v b) c) held) (λ b lb ub. pair-rests v b lv uv (omega arith) ub)
+
+  pub lead-rests : Leads lead (bestTo may worth k from) → Leads lead (bestTo may worth k to)
+  unfolding bestTo
+  lead-rests g = record {
+    same = sym (fold-rests from to (λ c v. bestInRow worth (may v) v k c) none held l (sym (g .same)) (λ v lv uv. row-rests v lv uv));
+    below = g .below;
+  }
+
 -- ---- one row
 
 module _ (worth : ℕ → ℕ → ℤ) (may : ℕ → Bool) (v : ℕ) where
@@ -122,28 +165,9 @@ module _ (candidates blocks weights loads : List ℕ) (capacity : ℕ) (worth : 
   abbrev may : ℕ → ℕ → Bool
   may = openIn candidates blocks weights loads capacity
 
-  shut : (i : ℕ) → on candidates 0 i ≡ 0 → (before : Best) → bestInRow worth (may (i + 1)) (i + 1) k before ≡ before
-  shut i z before =
-      row-shut worth (may (i + 1)) (i + 1) k before (λ b.
-      ap (λ (t : Bool). t && mayGo (getD loads (b - 1) 0) (getD blocks (i + 1 - 1) 0) (getD weights (i + 1 - 1) 0) capacity b)
-      (ne-eqb (on candidates 0 (i + 1 - 1)) 1 (λ q. omega (arith, ap (on candidates 0) (back i)))))
-    where
-      back : (i : ℕ) → i + 1 - 1 ≡ i
-      back i = omega arith
-
-  -- from one candidate to the next, nothing is open
-  skip : (a c : ℕ) → a ≤ c → ((e : ℕ) → a ≤ e → e < c → on candidates 0 e ≡ 0) → bestTo may worth k c ≡ bestTo may worth k a
-  unfolding bestTo
-  skip a c l h = foldTo-skip a c (λ b v. bestInRow worth (may v) v k b) none l (λ b v p q.
-      let e : v - 1 + 1 ≡ v = omega arith in
-      subst (λ (v : ℕ). bestInRow worth (may v) v k b ≡ b) e (shut (v - 1) (h (v - 1) (omega arith) (omega arith)) b))
-
   pub none-seen : none ≡ bestTo may worth k 0
   unfolding bestTo
   none-seen = sym (foldTo-zero (λ b v. bestInRow worth (may v) v k b) none)
-
-  pub first-candidate : (from i : ℕ) → Next candidates 0 from n i → bestTo may worth k from ≡ bestTo may worth k i
-  first-candidate from i h = sym (skip from i (h .low) (h .passed))
 
   -- the pairs of the candidate at place i
   candidate-row : (i : ℕ) → on candidates 0 i ≡ 1 → (before : Best)
@@ -153,11 +177,10 @@ module _ (candidates blocks weights loads : List ℕ) (capacity : ℕ) (worth : 
       sym (ap (λ (x : ℕ). bestInRow worth (λ b. eqb (on candidates 0 x) 1 && mayGo (getD loads (b - 1) 0) (getD blocks x 0) (getD weights x 0) capacity b) (i + 1) k before) e
       ∙ ap (λ (t : Bool). bestInRow worth (λ b. t && mayGo (getD loads (b - 1) 0) (getD blocks i 0) (getD weights i 0) capacity b) (i + 1) k before) (eq-eqb (on candidates 0 i) 1 o))
 
-  pub next-candidate : (i j : ℕ) → on candidates 0 i ≡ 1 → Next candidates 0 (i + 1) n j
-      → bestInRow worth (λ b. mayGo (getD loads (b - 1) 0) (getD blocks i 0) (getD weights i 0) capacity b) (i + 1) k (bestTo may worth k i) ≡ bestTo may worth k j
+  pub candidate-more : (i : ℕ) → on candidates 0 i ≡ 1
+      → bestInRow worth (λ b. mayGo (getD loads (b - 1) 0) (getD blocks i 0) (getD weights i 0) capacity b) (i + 1) k (bestTo may worth k i) ≡ bestTo may worth k (i + 1)
   unfolding bestTo
-  next-candidate i j o h =
-      candidate-row i o (bestTo may worth k i) ∙ sym (foldTo-step i (λ b v. bestInRow worth (may v) v k b) none) ∙ sym (skip (i + 1) j (h .low) (h .passed))
+  candidate-more i o = candidate-row i o (bestTo may worth k i) ∙ sym (foldTo-step i (λ b v. bestInRow worth (may v) v k b) none)
 
   abbrev In : ℕ → ℕ → Type 0
   In a c = (1 ≤ a) × (a ≤ n) × (1 ≤ c) × (c ≤ k)

@@ -6,3 +6,4 @@ mod numbers;
 pub mod open;
 pub mod peaks;
 mod rating;
+mod rising;

@@ -1,5 +1,6 @@
-// Numbers of the tables, as wide as code counts with them; the smaller of two numbers.
+// Numbers of the tables, as wide as code counts with them; the smaller of two numbers; tests joined with no branch.
 ghost use mathlib.Core.Path.{_≡_};
+ghost use mathlib.Core.Bool.{_&&_, _||_};
 ghost use Rattle.choice.specs.Peak.{lesser};
 
 // A table's number as an index.
@@ -21,4 +22,18 @@ pub fn least(a: usize, b: usize) -> usize
     ensures { λ r. ⌜ r ≡ lesser a b ⌝ }
 {
     if a < b { a } else { b }
+}
+
+// Whether both hold, with no branch.
+pub fn both(a: bool, b: bool) -> bool
+    ensures { λ r. ⌜ r ≡ (a && b) ⌝ }
+{
+    a & b
+}
+
+// Whether one holds, with no branch.
+pub fn some(a: bool, b: bool) -> bool
+    ensures { λ r. ⌜ r ≡ (a || b) ⌝ }
+{
+    a | b
 }

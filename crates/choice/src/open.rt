@@ -1,18 +1,21 @@
 // The best open pair: the search over the candidates, in increasing order, and over the blocks. Ties go to the lowest vertex, then to the
 // lowest block.
+use crate::numbers::both;
 use crate::numbers::least;
 use crate::numbers::wide;
 use crate::numbers::wide32;
-use incidence::next_net;
+use crate::rising::least_better;
+use crate::rising::measure;
+use crate::rising::next_rising;
 ghost use mathlib.Core.Path.{_≡_};
-ghost use mathlib.Core.Bool.{_&&_, cond};
+ghost use mathlib.Core.Bool.{cond};
 ghost use Prim.Native.Nat.{_+_, _-_, _*_, _≤_, _<_};
 ghost use lib.ListN.{length, getD};
 ghost use lib.Signed.{ltZ};
-ghost use Rattle.incidence.specs.On.{Next};
 ghost use Rattle.model.specs.Search.{Best, bestPair};
 ghost use Rattle.choice.specs.Open.{gainIn, mayGo, openIn, considered, bestInRow, bestTo, vertexAt, blockAt, pairAt, Leads, Chosen, RowOk, VertexOk, SearchOk};
 ghost use Rattle.choice.specs.Peak.{lesser, Peaked};
+ghost use Rattle.choice.specs.Rising.{Rooms};
 
 // The open pair to take, or that no pair is open.
 pub enum Pick {
@@ -25,13 +28,6 @@ pub enum Pick {
 struct Lead {
     at: usize,
     top: i64,
-}
-
-// Whether both hold, with no branch.
-fn both(a: bool, b: bool) -> bool
-    ensures { λ r. ⌜ r ≡ (a && b) ⌝ }
-{
-    a & b
 }
 
 // One of two places, by a test.
@@ -150,35 +146,54 @@ fn pair_at(at: usize) -> Pick
     }
 }
 
-// The first candidate from `from` on, of the `n` vertices; `n` where there is none. Places count from 0.
-fn next_candidate(candidates: &[u64], from: usize, n: usize) -> usize
-    requires { ⌜ (16 ≤ length (now candidates)) × (from ≤ n) × (n ≤ 1024) ⌝ }
-    ensures { λ r. ⌜ Next (now (candidates .entry)) 0 from n r ⌝ }
-{
-    next_net(candidates, 0, from, n)
-}
-
-// The best of `before` and the open pairs of the candidates at the places from `from` on and before `to`.
-fn best_between(
+// The best of `before` and the open pairs of the candidates among the `size` vertices from place 64 * c on. Only those that may have a better
+// pair are weighed. `rooms` is what the blocks have left under the capacity.
+fn best_among(
     gains: &[i32],
     blocks: &[u16],
     weights: &[u32],
     loads: &[u64; 16],
+    rooms: &[u32; 16],
     candidates: &[u64],
-    from: usize,
-    to: usize,
+    c: usize,
+    size: usize,
     k: usize,
     capacity: u64,
     before: Lead,
 ) -> Lead
-    requires { ⌜ SearchOk (length (now gains)) (length (now blocks)) (length (now weights)) (length (now candidates)) to k × (from ≤ to) ⌝ }
-    ensures { λ r. ⌜ (Leads before (bestTo (openIn (now (candidates .entry)) (now (blocks .entry)) (now (weights .entry)) (now (loads .entry)) capacity) (gainIn (now (gains .entry))) k from) → Leads r (bestTo (openIn (now (candidates .entry)) (now (blocks .entry)) (now (weights .entry)) (now (loads .entry)) capacity) (gainIn (now (gains .entry))) k to)) ⌝ }
+    requires { ⌜ SearchOk (length (now gains)) (length (now blocks)) (length (now weights)) (length (now candidates)) (64 * c + size) k × (size ≤ 64) × (c < 16) ⌝ }
+    requires { ⌜ Rooms (now loads) capacity k (now rooms) ⌝ }
+    ensures { λ r. ⌜ (Leads before (bestTo (openIn (now (candidates .entry)) (now (blocks .entry)) (now (weights .entry)) (now (loads .entry)) capacity) (gainIn (now (gains .entry))) k (64 * c)) → Leads r (bestTo (openIn (now (candidates .entry)) (now (blocks .entry)) (now (weights .entry)) (now (loads .entry)) capacity) (gainIn (now (gains .entry))) k (64 * c + size))) ⌝ }
 {
+    let first = 64 * c;
+    let word = candidates[c];
     let mut best = before;
-    let mut i = next_candidate(candidates, from, to);
-    while i < to {
-        best = best_with(gains, blocks, weights, loads, i, k, capacity, best);
-        i = next_candidate(candidates, i + 1, to);
+    let mut j = next_rising(
+        gains,
+        blocks,
+        weights,
+        rooms,
+        word,
+        first,
+        0,
+        size,
+        k,
+        least_better(best.top),
+    );
+    while j < size {
+        best = best_with(gains, blocks, weights, loads, first + j, k, capacity, best);
+        j = next_rising(
+            gains,
+            blocks,
+            weights,
+            rooms,
+            word,
+            first,
+            j + 1,
+            size,
+            k,
+            least_better(best.top),
+        );
     }
     best
 }
@@ -190,6 +205,7 @@ fn best_in_part(
     blocks: &[u16],
     weights: &[u32],
     loads: &[u64; 16],
+    rooms: &[u32; 16],
     candidates: &[u64],
     peaks: &[i32; 16],
     c: usize,
@@ -200,19 +216,21 @@ fn best_in_part(
 ) -> Lead
     requires { ⌜ SearchOk (length (now gains)) (length (now blocks)) (length (now weights)) (length (now candidates)) n k ⌝ }
     requires { ⌜ Peaked (now gains) (now peaks) n k × (64 * c < n) ⌝ }
+    requires { ⌜ Rooms (now loads) capacity k (now rooms) ⌝ }
     ensures { λ r. ⌜ (Leads before (bestTo (openIn (now (candidates .entry)) (now (blocks .entry)) (now (weights .entry)) (now (loads .entry)) capacity) (gainIn (now (gains .entry))) k (64 * c)) → Leads r (bestTo (openIn (now (candidates .entry)) (now (blocks .entry)) (now (weights .entry)) (now (loads .entry)) capacity) (gainIn (now (gains .entry))) k (lesser (64 * c + 64) n))) ⌝ }
 {
     let peak = peaks[c] as i64;
     let top = before.top;
     if less(top, peak) {
-        return best_between(
+        return best_among(
             gains,
             blocks,
             weights,
             loads,
+            rooms,
             candidates,
-            64 * c,
-            least(64 * c + 64, n),
+            c,
+            least(64, n - 64 * c),
             k,
             capacity,
             before,
@@ -242,6 +260,8 @@ pub fn best_open(
         at: 0,
         top: -4294967296,
     };
+    let mut rooms = [0u32; 16];
+    measure(&mut rooms, loads, k, capacity);
     let mut c: usize = 0;
     while 64 * c < n {
         best = best_in_part(
@@ -249,6 +269,7 @@ pub fn best_open(
             blocks,
             weights,
             loads,
+            &rooms,
             candidates,
             peaks,
             c,

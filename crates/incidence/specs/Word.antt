@@ -1,6 +1,6 @@
 -- 64-bit words: a bit made 1 or 0, shifts, `trailing_zeros`. Rests on laws of single bits.
 use mathlib.Core.Path.{_≡_, refl, sym, ap, _∙_, subst}
-use Prim.Native.Nat.{ℕ, zero, suc, _+_, _*_, _/_, _%_, _^_, _≤_, _<_, max}
+use Prim.Native.Nat.{ℕ, zero, suc, _+_, _-_, _*_, _/_, _%_, _^_, _≤_, _<_, max}
 use native.Mathlib.Nat.{lt-of-lt-of-le, div-eq-of-lt, div-one, zero-div, pow-succ', div-div-eq-div-mul}
 use native.Mathlib.Decide.{decLt}
 use native.Mathlib.Numerals.{add-one}
@@ -15,6 +15,13 @@ pub record Lowest (word r : ℕ) : Type 0 where
   pub set : bit word r ≡ 1
   pub below : (j : ℕ) → j < r → bit word j ≡ 0
   pub small : r < 64
+
+-- r is the first set bit of a 64-bit word from bit `from` on; 64 where there is none
+pub record NextBit (word from r : ℕ) : Type 0 where
+  pub low : from ≤ r
+  pub high : r ≤ 64
+  pub found : r < 64 → bit word r ≡ 1
+  pub passed : (j : ℕ) → from ≤ j → j < r → bit word j ≡ 0
 
 or-max : (a b : ℕ) → a < 2 → b < 2 → bitOr a b ≡ max a b
 or-max zero zero h k = refl
@@ -89,3 +96,34 @@ tz-small q h k = go (decLt (trailingZeros 64 q) 64)
 
 pub lowest-law : (q : ℕ) → 0 < q → q < 2 ^ 64 → Lowest q (trailingZeros 64 q)
 lowest-law q h k = record { set = tz-set 64 q h k; below = tz-below 64 q; small = tz-small q h k }
+
+-- ---- the next set bit
+
+pub next-bit-none : (word from : ℕ) → from ≤ 64 → ((j : ℕ) → from ≤ j → j < 64 → bit word j ≡ 0) → NextBit word from 64
+next-bit-none word from l h = record { low = l; high = omega arith; found = λ q. absurd (omega arith); passed = h }
+
+pub next-bit-zero : (word from : ℕ) → from ≤ 64 → word / 2 ^ from ≡ 0 → NextBit word from 64
+next-bit-zero word from l z = next-bit-none word from l (λ j a b.
+    let e : j ≡ from + (j - from) = omega arith in
+    ap (bit word) e ∙ sym (bit-shr word from (j - from)) ∙ bit-of-zero (word / 2 ^ from) (j - from) z)
+
+module _ (word from t : ℕ) (fits : word < 2 ^ 64) (k : Lowest (word / 2 ^ from) t) where
+  there : bit word (from + t) ≡ 1
+  there = sym (bit-shr word from t) ∙ k .set
+
+  pub next-bit-small : from + t < 64
+  next-bit-small = go (decLt (from + t) 64)
+    where
+      go : Dec (from + t < 64) → from + t < 64
+      go (yes h) = h
+      go (no h) = absurd (omega (arith, there, bit-high word (from + t) fits (omega arith)))
+
+  pub next-bit-some : NextBit word from (from + t)
+  next-bit-some = record {
+    low = omega arith;
+    high = omega (arith, next-bit-small);
+    found = λ q. there;
+    passed = λ j a b.
+        let e : j ≡ from + (j - from) = omega arith in
+        ap (bit word) e ∙ sym (bit-shr word from (j - from)) ∙ k .below (j - from) (omega arith);
+  }

@@ -4,7 +4,7 @@ ghost use mathlib.Core.Path.{_≡_};
 ghost use Prim.Native.Nat.{_+_, _*_, _<_, _≤_};
 ghost use lib.Dec.{eqb};
 ghost use lib.ListN.{length};
-ghost use Rattle.incidence.specs.Word.{Lowest};
+ghost use Rattle.incidence.specs.Word.{Lowest, NextBit};
 ghost use Rattle.incidence.specs.On.{on, Changed, Joined, Next, Cut};
 
 // Whether `x` is a pin of net `e`.
@@ -40,6 +40,22 @@ fn lowest(word: u64) -> usize
     ensures { λ r. ⌜ Lowest word r ⌝ }
 {
     u64::trailing_zeros(word) as usize
+}
+
+// The first set bit of a word from bit `from` on; 64 where there is none. For a loop over the bits of one word, which then need not be read
+// from memory for each bit.
+pub fn next_bit(word: u64, from: usize) -> usize
+    requires { ⌜ from ≤ 64 ⌝ }
+    ensures { λ r. ⌜ NextBit word from r ⌝ }
+{
+    if from == 64 {
+        return 64;
+    }
+    let rest = word >> from;
+    if rest == 0 {
+        return 64;
+    }
+    from + lowest(rest)
 }
 
 fn least(a: usize, b: usize) -> usize

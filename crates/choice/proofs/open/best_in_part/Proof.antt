@@ -1,14 +1,16 @@
 -- `best_in_part`: the part is searched, or its peak is not above the best gain and it is passed over.
-use mathlib.Core.Path.{sym, _∙_, ap₂, subst}
+use native.Mathlib.Omega.{arith}
+use mathlib.Core.Path.{_≡_, sym, _∙_, ap₂, subst}
 use denote.Ref.{now}
 use borrow.Author.Needs.{needs}
-use Prim.Native.Nat.{ℕ}
+use Prim.Native.Nat.{ℕ, _+_, _*_, _-_}
 use lib.ListN.{getD}
 use lib.IntN.{ℤ, pos}
 use lib.Signed.{ltZ}
 use Rattle.laws.specs.Integer.{read32}
 use Rattle.choice.specs.Open.{Leads, bestTo, gainIn, openIn}
 use Rattle.choice.specs.OpenLaw.{wide-fits, read64}
+use Rattle.choice.specs.Peak.{lesser}
 use Rattle.choice.specs.PeakLaw.{passed-over}
 use Rattle.choice.proofs.open.best_in_part.Statement.{statement}
 use Rattle.choice.proofs.open.best_in_part.Tie as tie
@@ -27,28 +29,31 @@ cast-peak c =
 less-requires : tie.Need-less-requires
 less-requires c κs = search needs
 
-mul-best-between : tie.Need-mul-best-between
-mul-best-between c = search needs
-
 mul-least : tie.Need-mul-least
 mul-least c = search needs
 
-add-least : tie.Need-add-least
-add-least c = search needs
+sub-least : tie.Need-sub-least
+sub-least c = search needs
 
 least-requires : tie.Need-least-requires
 least-requires c κs = search needs
 
-best-between-requires : tie.Need-best-between-requires
-best-between-requires c κs = search needs
+best-among-requires : tie.Need-best-among-requires
+best-among-requires c κs =
+    let s = c .before .before .before .before .before .before .before .before in
+    let h = s .pre .0 in
+    let e : c .least .result ≡ lesser 64 (s .args .n - 64 * s .args .c) = c .least .ensures in (
+      (record { n-to = omega (arith, h .n-to, s .pre .1 .0 .1); k-to = h .k-to; in-gains = omega (arith, h .in-gains, s .pre .1 .0 .1); in-blocks = omega (arith, h .in-blocks, s .pre .1 .0 .1); in-weights = omega (arith, h .in-weights, s .pre .1 .0 .1); in-candidates = h .in-candidates }, omega arith, omega (arith, h .n-to, s .pre .1 .0 .1)),
+      s .pre .1 .1,
+    )
 
 returns : tie.Need-returns
 returns c =
     let start = c .before .before .before .before .before .before .before .before .before in
     λ h.
     let a = start .args in
-    subst (λ (to : ℕ). Leads (c .best-between .result) (bestTo (openIn (now (a .candidates)) (now (a .blocks)) (now (a .weights)) (now (a .loads)) (a .capacity)) (gainIn (now (a .gains))) (a .k) to))
-    (c .before .least .ensures) (c .best-between .ensures h)
+    let e : 64 * a .c + c .before .least .result ≡ lesser (64 * a .c + 64) (a .n) = omega (arith, c .before .least .ensures, start .pre .1 .0 .1) in
+    subst (λ (to : ℕ). Leads (c .best-among .result) (bestTo (openIn (now (a .candidates)) (now (a .blocks)) (now (a .weights)) (now (a .loads)) (a .capacity)) (gainIn (now (a .gains))) (a .k) to)) e (c .best-among .ensures h)
 
 returns-2 : tie.Need-returns-2
 returns-2 c =
@@ -57,7 +62,7 @@ returns-2 c =
     let p = state in
     let s = p .before .before .before .before in
     let a = s .args in
-    passed-over (openIn (now (a .candidates)) (now (a .blocks)) (now (a .weights)) (now (a .loads)) (a .capacity)) (now (a .gains)) (now (a .peaks)) (a .n) (a .k) (a .c) (a .before) (s .pre .1 .0) (s .pre .1 .1) (p .peak .given)
+    passed-over (openIn (now (a .candidates)) (now (a .blocks)) (now (a .weights)) (now (a .loads)) (a .capacity)) (now (a .gains)) (now (a .peaks)) (a .n) (a .k) (a .c) (a .before) (s .pre .1 .0 .0) (s .pre .1 .0 .1) (p .peak .given)
     (sym (ap₂ (λ (x y : ℤ). ltZ x y) (read64 (a .before .top) (c .before .before .struct-told .given .1 .0 .1)) (read64 _ (cast-peak p .sfits) ∙ read32 _ (p .peak .given))) ∙ sym (c .before .less .ensures) ∙ c .if1 .left) h
 
 pub best-in-part-spec : {M : Type 1} → statement M
@@ -68,10 +73,9 @@ best-in-part-spec =
     element-copy-out-peak
     cast-peak
     less-requires
-    mul-best-between
     mul-least
-    add-least
+    sub-least
     least-requires
-    best-between-requires
+    best-among-requires
     returns
     returns-2)
