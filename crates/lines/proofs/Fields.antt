@@ -4,18 +4,18 @@ use mathlib.Core.Path.{_≡_, refl, ap, sym, _∙_}
 use mathlib.Core.List.{List, [], _∷_}
 use mathlib.Core.Bool.{Bool, true, cond}
 use native.Mathlib.Omega.{arith}
-use lib.ListN.{length, getD, take}
+use lib.ListN.{length, take}
 use lib.Seq.{slice, slice-empty, take-take}
 use borrow.Author.Tests.{eq-eqb, ne-eqb}
 use Rattle.laws.specs.Fold.{all}
 use Rattle.laws.specs.Choice.{and-left, and-right}
 use Rattle.model.specs.Catalogue.{Hypergraph, vertices}
 use Rattle.model.specs.Grammar.{Fields, parts, fields, isNumber, value, Marking, marked, wrong, mark, marking}
-use Rattle.text.specs.Field.{FirstAt, Numbered}
+use Rattle.text.specs.Field.{Numbered, FieldRead}
 use Rattle.lines.specs.Line.{Past}
 use Rattle.lines.specs.Mark.{Stamped, Fresh, markSeen, MarkOne, MarksRead}
 use Rattle.lines.specs.declared.Pinned.the-variants.{Good, Wrong}
-use Rattle.text.proofs.Lines.{parts-on, parts-last, parts-first}
+use Rattle.text.proofs.Lines.{parts-on, parts-last, parts-first, fields-cons}
 use Rattle.lines.proofs.Stamps.{stamped-start}
 
 marking-cons : (h : Hypergraph) (m : Marking) (f : List ℕ) (fs : Fields) → marking h m (f ∷ fs) ≡ marking h (mark h m (value f)) fs
@@ -67,19 +67,15 @@ marks-start s at end lots j first marks stamps le ll form fl wide slen fresh = r
 }
 
 -- the first field is a number
-pub first-number : (s : List ℕ) (i end e : ℕ) → i ≤ end → end ≤ length s → FirstAt s i end 44 e → all (parts 44 (slice i end s)) isNumber ≡ true → Numbered (fields (slice i end s)) 0
+pub first-number : (s : List ℕ) (i end : ℕ) → all (parts 44 (slice i end s)) isNumber ≡ true → Numbered (fields (slice i end s)) 0
 unfolding fields
-first-number s i end e le within found form =
-    let p = parts-first s i end 44 e le within found in
-    let n : all (slice i e s ∷ p .0) isNumber ≡ true = rw (p .1) at form in
-    rw (p .1) (record { inside = omega arith; is = all-head (slice i e s) (p .0) n })
+first-number s i end form =
+    let p = fields-cons (slice i end s) in
+    let n : all (p .0 ∷ p .1) isNumber ≡ true = rw (p .2) at form in
+    rw (p .2) (record { inside = omega arith; is = all-head (p .0) (p .1) n })
 
 module _ (s : List ℕ) (at end lots j first : ℕ) (marks₀ marks stamps : List ℕ) (i m : ℕ) (on : OnMarks s at end lots j first marks₀ marks stamps i m) (within : end ≤ length s)
-    (e : ℕ) (found : FirstAt s i end 44 e) (v : ℕ) (read : v ≡ value (getD (fields (slice i end s)) 0 [])) (r : ℕ) (marks′ stamps′ : List ℕ) (one : MarkOne v lots j m r marks stamps marks′ stamps′) where
-  is-field : v ≡ value (slice i e s)
-  unfolding fields
-  is-field = read ∙ ap (λ (fs : Fields). value (getD fs 0 [])) (parts-first s i end 44 e (on .high) within found .1)
-
+    (e v : ℕ) (read : FieldRead s i end v e) (r : ℕ) (marks′ stamps′ : List ℕ) (one : MarkOne v lots j m r marks stamps marks′ stamps′) where
   kept : take first marks′ ≡ take first marks₀
   kept = sym (take-take first m marks′ (on .st .f-le)) ∙ ap (take first) (one .keep) ∙ take-take first m marks (on .st .f-le) ∙ on .keep
 
@@ -89,7 +85,7 @@ module _ (s : List ℕ) (at end lots j first : ℕ) (marks₀ marks stamps : Lis
       on .says h q
       ∙ ap (marking h (marked (slice first m marks) m)) p
       ∙ marking-cons h (marked (slice first m marks) m) (slice i e s) ps
-      ∙ ap (λ (x : ℕ). marking h (mark h (marked (slice first m marks) m) x) ps) (sym is-field)
+      ∙ ap (λ (x : ℕ). marking h (mark h (marked (slice first m marks) m) x) ps) (sym (read .is))
       ∙ ap (λ (x : Marking). marking h x ps) (one .says h first q (on .st))
 
   pub marks-stop : (r ≡ 0 → ⊥) → MarksRead (parts 44 (slice at end s)) lots j first (Wrong r) marks₀ marks′ stamps′
@@ -98,7 +94,7 @@ module _ (s : List ℕ) (at end lots j first : ℕ) (marks₀ marks stamps : Lis
     past = λ k z. absurd (let w : _≡_ {A = ℕ} 0 1 = cc in omega arith);
     len = one .len ∙ on .len;
     slen = one .slen ∙ on .slen;
-    says = λ h q. let p = parts-first s i end 44 e (on .high) within found in
+    says = λ h q. let p = parts-first s i end 44 e (on .high) within (read .ends) in
         sym (turn h q (p .0) (p .1) ∙ ap (λ (b : Bool). marking h (cond b (marked (slice first (m + 1) marks′) (m + 1)) (wrong r)) (p .0)) (ne-eqb r 0 n) ∙ wrong-stays h r (p .0));
     next = λ k z. absurd (let w : _≡_ {A = ℕ} 0 1 = cc in omega arith);
   }
@@ -110,7 +106,7 @@ module _ (s : List ℕ) (at end lots j first : ℕ) (marks₀ marks stamps : Lis
       past = λ k z y u. let w : m + 1 ≡ k = cc in one .past y (omega arith) ∙ on .past y (omega arith);
       len = one .len ∙ on .len;
       slen = one .slen ∙ on .slen;
-      says = λ h q. sym (turn h q [] (parts-last s i end 44 e (on .high) within found x) ∙ ap (λ (b : Bool). marking h (cond b (marked (slice first (m + 1) marks′) (m + 1)) (wrong r)) []) (eq-eqb r 0 good) ∙ marking-nil h (marked (slice first (m + 1) marks′) (m + 1)));
+      says = λ h q. sym (turn h q [] (parts-last s i end 44 e (on .high) within (read .ends) x) ∙ ap (λ (b : Bool). marking h (cond b (marked (slice first (m + 1) marks′) (m + 1)) (wrong r)) []) (eq-eqb r 0 good) ∙ marking-nil h (marked (slice first (m + 1) marks′) (m + 1)));
       next = λ k z. let w : m + 1 ≡ k = cc in rw (← w) (one .next first good (on .st));
     }
 
@@ -118,12 +114,12 @@ module _ (s : List ℕ) (at end lots j first : ℕ) (marks₀ marks stamps : Lis
     marks-on x = record {
       high = omega arith;
       lots-le = on .lots-le;
-      form = all-tail (slice i e s) (parts 44 (slice (e + 1) end s)) (rw (parts-on s i end 44 e (on .high) within found x) at (on .form));
+      form = all-tail (slice i e s) (parts 44 (slice (e + 1) end s)) (rw (parts-on s i end 44 e (on .high) within (read .ends) x) at (on .form));
       st = one .next first good (on .st);
       wide = omega (arith, one .len, on .wide);
       len = one .len ∙ on .len;
       slen = one .slen ∙ on .slen;
       keep = kept;
       past = λ y u. one .past y u ∙ on .past y (omega arith);
-      says = λ h q. turn h q (parts 44 (slice (e + 1) end s)) (parts-on s i end 44 e (on .high) within found x) ∙ ap (λ (b : Bool). marking h (cond b (marked (slice first (m + 1) marks′) (m + 1)) (wrong r)) (parts 44 (slice (e + 1) end s))) (eq-eqb r 0 good);
+      says = λ h q. turn h q (parts 44 (slice (e + 1) end s)) (parts-on s i end 44 e (on .high) within (read .ends) x) ∙ ap (λ (b : Bool). marking h (cond b (marked (slice first (m + 1) marks′) (m + 1)) (wrong r)) (parts 44 (slice (e + 1) end s))) (eq-eqb r 0 good);
     }

@@ -171,9 +171,9 @@ pub fn read_pins(
     let mut i = at;
     let mut m = first;
     loop {
-        let e = text::find(s, i, end, 44);
-        let v = text::get(s, i, end, 0);
-        let q = put_pin(v, vertices, j, m, pins, stamps);
+        let f = text::read_field(s, i, end);
+        let e = f.end;
+        let q = put_pin(f.value, vertices, j, m, pins, stamps);
         if q != 0 {
             return Pinned::Wrong(q);
         }

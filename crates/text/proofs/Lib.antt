@@ -1,5 +1,6 @@
 pub mod Walk
 pub mod Compare
 pub mod Lines
+pub mod Numbers
 pub mod Digits
 pub mod Signs

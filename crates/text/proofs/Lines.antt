@@ -12,19 +12,8 @@ use borrow.Author.Tests.{ltb-true, ltb-false, eq-eqb, ne-eqb}
 use Rattle.laws.specs.Fold.{all}
 use Rattle.laws.specs.Choice.{and-left, and-right}
 use Rattle.model.specs.Grammar.{Fields, same, parts, isNumber, value, fields, bytes, isLine, isLineOf}
-use Rattle.text.specs.Field.{FirstAt, readOf, counted, formOf, Numbered, Third}
-use Rattle.text.specs.declared.Read.the-variants.{Whole, Not}
-use Rattle.text.proofs.Walk.{fields-on, fields-one, whole-cases, not-cases, parts-some}
-
--- a field that was read
-pub whole-is : (f : List ℕ) (v : ℕ) → Whole v ≡ readOf f → (isNumber f ≡ true) × (v ≡ value f)
-whole-is f v e = whole-cases (isNumber f) v (value f) e
-
-pub not-is : (f : List ℕ) → Not ≡ readOf f → isNumber f ≡ false
-not-is f e = not-cases (isNumber f) (value f) e
-
-pub never : true ≡ false → ⊥
-never e = let z : _≡_ {A = ℕ} 0 1 = cc in omega arith
+use Rattle.text.specs.Field.{first, FirstAt, NumberEnd, FieldRead, counted, formOf, Numbered, Third}
+use Rattle.text.proofs.Walk.{first-within, fields-on, fields-one, parts-some}
 
 -- ---- the parts from a cursor on, where `find` answered e
 module _ (s : List ℕ) (i end sep e : ℕ) (le : i ≤ end) (within : end ≤ length s) (found : FirstAt s i end sep e) where
@@ -41,6 +30,13 @@ module _ (s : List ℕ) (i end sep e : ℕ) (le : i ≤ end) (within : end ≤ l
       go true q = (parts sep (slice (e + 1) end s), parts-on (ltb-true e end q))
       go false q = ([], parts-last (omega (arith, ltb-false e end q, found .high)))
 
+-- where the field from i on ends
+abbrev pub field-end : List ℕ → ℕ → ℕ → ℕ
+field-end s i end = i + first 44 (slice i end s)
+
+pub field-found : (s : List ℕ) (i end : ℕ) → i ≤ end → end ≤ length s → FirstAt s i end 44 (field-end s i end)
+field-found s i end le within = record { is = refl; low = omega arith; high = first-within s i end 44 le within }
+
 -- ---- counting
 pub counted-no : (k : ℕ) (f : List ℕ) (fs : Fields) → isNumber f ≡ false → counted k (f ∷ fs) ≡ 0
 unfolding counted all
@@ -54,17 +50,21 @@ pub counted-end : (k : ℕ) → counted k [] ≡ k
 unfolding counted all
 counted-end k = omega arith
 
-module _ (s : List ℕ) (i end e k : ℕ) (le : i ≤ end) (within : end ≤ length s) (found : FirstAt s i end 44 e) where
-  pub count-no : Not ≡ readOf (slice i e s) → counted k (parts 44 (slice i end s)) ≡ 0
-  count-no h = let p = parts-first s i end 44 e le within found in
-      ap (counted k) (p .1) ∙ counted-no k (slice i e s) (p .0) (not-is (slice i e s) h)
+-- where `number_end` answered e
+module _ (s : List ℕ) (i end e k : ℕ) (le : i ≤ end) (within : end ≤ length s) (told : NumberEnd s i end e) where
+  pub count-no : e ≡ i → counted k (parts 44 (slice i end s)) ≡ 0
+  count-no z =
+      let f = field-end s i end in
+      let found = field-found s i end le within in
+      let p = parts-first s i end 44 f le within found in
+      ap (counted k) (p .1) ∙ counted-no k (slice i f s) (p .0) (told .none z f found)
 
-  module _ (v : ℕ) (h : Whole v ≡ readOf (slice i e s)) where
+  module _ (some : i < e) where
     pub count-last : e ≡ end → counted k (parts 44 (slice i end s)) ≡ k + 1
-    count-last x = ap (counted k) (parts-last s i end 44 e le within found x) ∙ counted-on k (slice i e s) [] (whole-is (slice i e s) v h .0) ∙ counted-end (k + 1)
+    count-last x = ap (counted k) (parts-last s i end 44 e le within (told .ends some) x) ∙ counted-on k (slice i e s) [] (told .is some) ∙ counted-end (k + 1)
 
     pub count-on : e < end → counted k (parts 44 (slice i end s)) ≡ counted (k + 1) (parts 44 (slice (e + 1) end s))
-    count-on x = ap (counted k) (parts-on s i end 44 e le within found x) ∙ counted-on k (slice i e s) (parts 44 (slice (e + 1) end s)) (whole-is (slice i e s) v h .0)
+    count-on x = ap (counted k) (parts-on s i end 44 e le within (told .ends some) x) ∙ counted-on k (slice i e s) (parts 44 (slice (e + 1) end s)) (told .is some)
 
 -- ---- the form of a line
 module _ (s w : List ℕ) (at end a : ℕ) (le : at ≤ end) (within : end ≤ length s) (found : FirstAt s at end 44 a) where
@@ -111,16 +111,19 @@ module _ (s : List ℕ) (at end i a k e : ℕ) (on : OnGet s at end i a k) (with
         says = on .says ∙ ap (λ (fs : Fields). getD fs k []) p ∙ tail-at (slice a e s) (parts 44 (slice (e + 1) end s)) k l;
       }
 
-  module _ (z : k ≡ 0) where
-    here : getD (parts 44 (slice at end s)) i [] ≡ slice a e s
-    here = on .says ∙ ap (λ (n : ℕ). getD (parts 44 (slice a end s)) n []) z ∙ ap (λ (fs : Fields). getD fs 0 []) (parts-first s a end 44 e (on .high) within found .1)
+-- at the field, where `read_field` answered v and e
+module _ (s : List ℕ) (at end i a k : ℕ) (on : OnGet s at end i a k) (within : end ≤ length s) (z : k ≡ 0) where
+  pub get-here : Numbered (fields (slice a end s)) 0
+  unfolding fields
+  get-here = rw z at (on .num)
 
-    pub get-value : (v : ℕ) → Whole v ≡ readOf (slice a e s) → v ≡ value (getD (fields (slice at end s)) i [])
-    unfolding fields
-    get-value v h = whole-is (slice a e s) v h .1 ∙ ap value (sym here)
-
-    pub get-none : Not ≡ readOf (slice a e s) → ⊥
-    get-none h = never (sym (on .num .is) ∙ ap (λ (n : ℕ). isNumber (getD (parts 44 (slice a end s)) n [])) z ∙ ap (λ (fs : Fields). isNumber (getD fs 0 [])) (parts-first s a end 44 e (on .high) within found .1) ∙ not-is (slice a e s) h)
+  pub get-value : (v e : ℕ) → FieldRead s a end v e → v ≡ value (getD (fields (slice at end s)) i [])
+  unfolding fields
+  get-value v e read =
+      read .is
+      ∙ ap (λ (fs : Fields). value (getD fs 0 [])) (sym (parts-first s a end 44 e (on .high) within (read .ends) .1))
+      ∙ ap (λ (n : ℕ). value (getD (parts 44 (slice a end s)) n [])) (sym z)
+      ∙ ap value (sym (on .says))
 
 -- ---- what a form says of the line
 pub record Formed (w : List ℕ) (fs : Fields) (n : ℕ) : Type 0 where

@@ -1,15 +1,13 @@
--- The first separator of a stretch of bytes, the number that a field holds, and a line's form. Rests on model's grammar. Assumes nothing.
+-- The first separator of a stretch of bytes, where a field that is a number ends and what its value is, and a line's form. Rests on model's grammar. Assumes nothing.
 use Prim.Native.Nat.{ℕ, zero, suc, _+_, _≤_, _<_}
 use mathlib.Core.Path.{_≡_}
-use mathlib.Core.Bool.{true, cond}
+use mathlib.Core.Bool.{true, false, cond}
 use mathlib.Core.List.{List, [], _∷_}
 use lib.Dec.{eqb}
 use lib.ListN.{length, getD, drop}
 use lib.Seq.{slice}
 use Rattle.laws.specs.Fold.{all}
-use Rattle.model.specs.Grammar.{Fields, same, parts, fields, isNumber, value}
-use Rattle.text.specs.declared.Read.{Read}
-use Rattle.text.specs.declared.Read.the-variants.{Whole, Not}
+use Rattle.model.specs.Grammar.{Fields, same, parts, fields, isDigit, isNumber, value}
 
 -- how many elements stand before the first separator: all of them, where there is none
 abbrev pub first : ℕ → List ℕ → ℕ
@@ -22,9 +20,29 @@ pub record FirstAt (s : List ℕ) (at end sep r : ℕ) : Type 0 where
   pub low : at ≤ r
   pub high : r ≤ end
 
--- what a field holds: a number of document 01, or none
-abbrev pub readOf : List ℕ → Read
-readOf f = cond (isNumber f) (Whole (value f)) Not
+-- how many digits stand before the first element that is none
+abbrev pub run : List ℕ → ℕ
+run [] = zero
+run (b ∷ bs) = cond (isDigit b) (suc (run bs)) zero
+
+-- r is where the digits of s from `at` on stop, at `end` at the latest; the bounds follow from `is`
+pub record DigitsEnd (s : List ℕ) (at end r : ℕ) : Type 0 where
+  pub is : r ≡ at + run (slice at end s)
+  pub low : at ≤ r
+  pub high : r ≤ end
+
+-- r is where the field of s from `at` on ends, if it is a number; else `at`
+pub record NumberEnd (s : List ℕ) (at end r : ℕ) : Type 0 where
+  pub low : at ≤ r
+  pub high : r ≤ end
+  pub ends : at < r → FirstAt s at end 44 r
+  pub is : at < r → isNumber (slice at r s) ≡ true
+  pub none : r ≡ at → (e : ℕ) → FirstAt s at end 44 e → isNumber (slice at e s) ≡ false
+
+-- the field of s from `at` on ends at e and has the value v
+pub record FieldRead (s : List ℕ) (at end v e : ℕ) : Type 0 where
+  pub ends : FirstAt s at end 44 e
+  pub is : v ≡ value (slice at e s)
 
 -- k and the number of fields, if all are numbers; else 0
 unfoldable pub counted : ℕ → Fields → ℕ

@@ -5,13 +5,13 @@ ghost use lib.ListN.{length};
 ghost use lib.Seq.{slice};
 ghost use Rattle.model.specs.Grammar.{same, parts, fields, at as fieldAt};
 ghost use Rattle.model.specs.Report.{digits, signed};
-ghost use Rattle.text.specs.Field.{FirstAt, readOf, counted, formOf, Numbered, Third};
+ghost use Rattle.text.specs.Field.{FirstAt, DigitsEnd, NumberEnd, FieldRead, counted, formOf, Numbered, Third};
 ghost use Rattle.text.specs.Output.{written, signOf};
 
-// What a field holds.
-pub enum Read {
-    Whole(u32),
-    Not,
+// A number, and where its field ends.
+pub struct Number {
+    pub value: u32,
+    pub end: usize,
 }
 
 // A number's size, and on which side of 0 it lies.
@@ -35,37 +35,64 @@ pub fn find(s: &[u8], at: usize, end: usize, sep: u8) -> usize
     i
 }
 
-// What the field from `at` to `end` holds.
-pub fn number(s: &[u8], at: usize, end: usize) -> Read
+// The first byte at or after `at` and before `end` that is no digit, or `end`.
+pub fn digits_end(s: &[u8], at: usize, end: usize) -> usize
     requires { ⌜ (at ≤ end) × (end ≤ length (now s)) ⌝ }
-    ensures { λ r. ⌜ r ≡ readOf (slice at end (now (s .entry))) ⌝ }
+    ensures { λ r. ⌜ DigitsEnd (now (s .entry)) at end r ⌝ }
 {
-    let n = end - at;
-    if n == 0 {
-        return Read::Not;
-    }
-    if 1 < n {
-        if s[at] == 48 {
-            return Read::Not;
-        }
-    }
-    if 9 < n {
-        return Read::Not;
-    }
-    let mut v: u32 = 0;
     let mut i = at;
     while i < end {
         let b = s[i];
         if b < 48 {
-            return Read::Not;
+            return i;
         }
         if 57 < b {
-            return Read::Not;
+            return i;
+        }
+        i += 1;
+    }
+    i
+}
+
+// Where the field from `at` on ends, if it is a number; else `at`, since a number has a digit.
+pub fn number_end(s: &[u8], at: usize, end: usize) -> usize
+    requires { ⌜ (at ≤ end) × (end ≤ length (now s)) ⌝ }
+    ensures { λ r. ⌜ NumberEnd (now (s .entry)) at end r ⌝ }
+{
+    let e = digits_end(s, at, end);
+    let n = e - at;
+    if 9 < n {
+        return at;
+    }
+    if 1 < n {
+        if s[at] == 48 {
+            return at;
+        }
+    }
+    if e < end {
+        if s[e] != 44 {
+            return at;
+        }
+    }
+    e
+}
+
+// The number in the field from `at` on, and where the field ends.
+pub fn read_field(s: &[u8], at: usize, end: usize) -> Number
+    requires { ⌜ (at ≤ end) × (end ≤ length (now s)) × Numbered (fields (slice at end (now s))) 0 ⌝ }
+    ensures { λ r. ⌜ FieldRead (now (s .entry)) at end (r .value) (r .end) ⌝ }
+{
+    let mut v: u32 = 0;
+    let mut i = at;
+    while i < end {
+        let b = s[i];
+        if b == 44 {
+            return Number { value: v, end: i };
         }
         v = v * 10 + (b - 48) as u32;
         i += 1;
     }
-    Read::Whole(v)
+    Number { value: v, end: i }
 }
 
 // Whether the field from `at` to `end` is `w`.
@@ -94,9 +121,8 @@ pub fn count(s: &[u8], at: usize, end: usize) -> usize
     let mut i = at;
     let mut k: usize = 1;
     loop {
-        let e = find(s, i, end, 44);
-        let f = number(s, i, e);
-        if let Read::Not = f {
+        let e = number_end(s, i, end);
+        if e == i {
             return 0;
         }
         k += 1;
@@ -137,11 +163,7 @@ pub fn get(s: &[u8], at: usize, end: usize, i: usize) -> u32
         a = e + 1;
         k -= 1;
     }
-    let e = find(s, a, end, 44);
-    match number(s, a, e) {
-        Read::Whole(v) => v,
-        Read::Not => 0,
-    }
+    read_field(s, a, end).value
 }
 
 // Where the third field of a line starts.

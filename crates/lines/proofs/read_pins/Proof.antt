@@ -1,4 +1,4 @@
--- `lines::read_pins` meets its contract.
+-- `lines::read_pins` meets its contract. The invariant: what the marks of the line say, those from `i` on say after the marks in the table.
 use Prim.Native.Nat.{_-_}
 use native.Mathlib.Omega.{arith}
 use mathlib.Core.Path.{_∙_}
@@ -14,27 +14,39 @@ abbrev μ-loop : tie.MeasureT-loop
 μ-loop s at end vertices j first pins₀ stamps₀ i₀ m₀ pins stamps i m = end - i
 
 loop-holds : tie.Need-loop-holds Inv-loop μ-loop
-loop-holds c = let a = c .before .before .args in let p = c .before .before .pre in marks-start (now (a .s)) (a .at) (a .end) (a .vertices) (a .j) (a .first) (now (a .pins)) (now (a .stamps)) (p .0) (p .3) (p .2) (p .4) (p .5) (p .6) (p .7)
+loop-holds c =
+    let a = c .before .before .args in
+    let p = c .before .before .pre in
+    marks-start (now (a .s)) (a .at) (a .end) (a .vertices) (a .j) (a .first) (now (a .pins)) (now (a .stamps)) (p .0) (p .3) (p .2) (p .4) (p .5) (p .6) (p .7)
 
-find-requires : tie.Need-find-requires Inv-loop μ-loop
-find-requires c κs = (omega arith, omega arith)
-
-get-requires : tie.Need-get-requires Inv-loop μ-loop
-get-requires c κs = let a = c .before .before .before .before .args in let l = c .before .loop in (omega arith, omega arith, first-number (now (a .s)) (l .i) (a .end) (c .find .result) (omega arith) (omega arith) (c .find .ensures) (l .inv .form))
+read-field-requires : tie.Need-read-field-requires Inv-loop μ-loop
+read-field-requires c κs =
+    let a = c .before .before .before .args in
+    let l = c .loop in
+    (omega arith, omega arith, first-number (now (a .s)) (l .i) (a .end) (l .inv .form))
 
 put-pin-requires : tie.Need-put-pin-requires Inv-loop μ-loop
 put-pin-requires c κs =
-    let at-loop = c .before .before .before .before in
-    let start = at-loop .before .before .before in
-    let a = start .args in let l = at-loop .loop in (l .inv .lots-le, l .inv .wide, l .inv .slen)
+    let l = c .before .before .before .loop in
+    (l .inv .lots-le, l .inv .wide, l .inv .slen)
 
 same-length : tie.Need-same-length Inv-loop μ-loop
 same-length c =
-    let at-loop = c .before .before .before .before .before .before .before .before in
-    c .before .before .before .put-pin .ensures .len ∙ at-loop .loop .inv .len
+    let at-put-pin = c .before .before .before in
+    let at-loop = at-put-pin .before .before .before .before in
+    at-put-pin .put-pin .ensures .len ∙ at-loop .loop .inv .len
 
 returns : tie.Need-returns Inv-loop μ-loop
-returns c = let a = c .before .before .before .before .before .before .before .before .before .before .before .args in let l = c .before .before .before .before .before .before .before .before .loop in marks-stop (now (a .s)) (a .at) (a .end) (a .vertices) (a .j) (a .first) (now (a .pins)) (l .pins) (l .stamps) (l .i) (l .m) (l .inv) (omega arith) (c .before .before .before .before .before .before .before .find .result) (c .before .before .before .before .before .before .before .find .ensures) (c .before .before .before .before .before .before .get .result) (c .before .before .before .before .before .before .get .ensures) (c .before .before .before .put-pin .result) (c .before .before .before .put-pin .last .1 .1 .1 .1 .0) (c .before .before .before .put-pin .last .1 .1 .1 .1 .1 .0) (c .before .before .before .put-pin .ensures) (c .if1 .taken)
+returns c =
+    let at-put-pin = c .before .before .before in
+    let at-field = at-put-pin .before .before .before in
+    let at-loop = at-field .before in
+    let a = at-loop .before .before .before .args in
+    let l = at-loop .loop in
+    let f = at-field .read-field in
+    let q = at-put-pin .put-pin in
+    marks-stop (now (a .s)) (a .at) (a .end) (a .vertices) (a .j) (a .first) (now (a .pins)) (l .pins) (l .stamps) (l .i) (l .m) (l .inv) (omega arith)
+    (f .result .end) (f .result .value) (f .ensures) (q .result) (q .last .1 .1 .1 .1 .0) (q .last .1 .1 .1 .1 .1 .0) (q .ensures) (c .if1 .taken)
 
 add-m : tie.Need-add-m Inv-loop μ-loop
 add-m c = omega (arith, c .before .before .before .put-pin .ensures .room (omega arith))
@@ -42,11 +54,20 @@ add-m c = omega (arith, c .before .before .before .put-pin .ensures .room (omega
 same-length-2 : tie.Need-same-length-2 Inv-loop μ-loop
 same-length-2 c =
     let at-put-pin = c .before .before .before .before in
-    let at-loop = at-put-pin .before .before .before .before .before in
+    let at-loop = at-put-pin .before .before .before .before in
     at-put-pin .put-pin .ensures .len ∙ at-loop .loop .inv .len
 
 returns-2 : tie.Need-returns-2 Inv-loop μ-loop
-returns-2 c = let a = c .before .before .before .before .before .before .before .before .before .before .before .before .args in let l = c .before .before .before .before .before .before .before .before .before .loop in marks-last (now (a .s)) (a .at) (a .end) (a .vertices) (a .j) (a .first) (now (a .pins)) (l .pins) (l .stamps) (l .i) (l .m) (l .inv) (omega arith) (c .before .before .before .before .before .before .before .before .find .result) (c .before .before .before .before .before .before .before .before .find .ensures) (c .before .before .before .before .before .before .before .get .result) (c .before .before .before .before .before .before .before .get .ensures) (c .before .before .before .before .put-pin .result) (c .before .before .before .before .put-pin .last .1 .1 .1 .1 .0) (c .before .before .before .before .put-pin .last .1 .1 .1 .1 .1 .0) (c .before .before .before .before .put-pin .ensures) (c .before .if1 .left) (c .if2 .taken)
+returns-2 c =
+    let at-put-pin = c .before .before .before .before in
+    let at-field = at-put-pin .before .before .before in
+    let at-loop = at-field .before in
+    let a = at-loop .before .before .before .args in
+    let l = at-loop .loop in
+    let f = at-field .read-field in
+    let q = at-put-pin .put-pin in
+    marks-last (now (a .s)) (a .at) (a .end) (a .vertices) (a .j) (a .first) (now (a .pins)) (l .pins) (l .stamps) (l .i) (l .m) (l .inv) (omega arith)
+    (f .result .end) (f .result .value) (f .ensures) (q .result) (q .last .1 .1 .1 .1 .0) (q .last .1 .1 .1 .1 .1 .0) (q .ensures) (c .before .if1 .left) (c .if2 .taken)
 
 add-i : tie.Need-add-i Inv-loop μ-loop
 add-i c = omega arith
@@ -55,7 +76,16 @@ loop-less : tie.Need-loop-less Inv-loop μ-loop
 loop-less c = omega arith
 
 loop-again : tie.Need-loop-again Inv-loop μ-loop
-loop-again c = let a = c .before .before .before .before .before .before .before .before .before .before .before .before .args in let l = c .before .before .before .before .before .before .before .before .before .loop in marks-on (now (a .s)) (a .at) (a .end) (a .vertices) (a .j) (a .first) (now (a .pins)) (l .pins) (l .stamps) (l .i) (l .m) (l .inv) (omega arith) (c .before .before .before .before .before .before .before .before .find .result) (c .before .before .before .before .before .before .before .before .find .ensures) (c .before .before .before .before .before .before .before .get .result) (c .before .before .before .before .before .before .before .get .ensures) (c .before .before .before .before .put-pin .result) (c .before .before .before .before .put-pin .last .1 .1 .1 .1 .0) (c .before .before .before .before .put-pin .last .1 .1 .1 .1 .1 .0) (c .before .before .before .before .put-pin .ensures) (c .before .if1 .left) (omega arith)
+loop-again c =
+    let at-put-pin = c .before .before .before .before in
+    let at-field = at-put-pin .before .before .before in
+    let at-loop = at-field .before in
+    let a = at-loop .before .before .before .args in
+    let l = at-loop .loop in
+    let f = at-field .read-field in
+    let q = at-put-pin .put-pin in
+    marks-on (now (a .s)) (a .at) (a .end) (a .vertices) (a .j) (a .first) (now (a .pins)) (l .pins) (l .stamps) (l .i) (l .m) (l .inv) (omega arith)
+    (f .result .end) (f .result .value) (f .ensures) (q .result) (q .last .1 .1 .1 .1 .0) (q .last .1 .1 .1 .1 .1 .0) (q .ensures) (c .before .if1 .left) (omega arith)
 
 pub read-pins-spec : {M : Type 1} → statement M
 read-pins-spec =
@@ -64,8 +94,7 @@ read-pins-spec =
     Inv-loop
     μ-loop
     loop-holds
-    find-requires
-    get-requires
+    read-field-requires
     put-pin-requires
     same-length
     returns

@@ -1,9 +1,8 @@
--- `text::get` meets its contract.
-use Rattle.text.proofs.Lines.{OnGet, get-start, get-short, get-on, get-value, get-none}
+-- `text::get` meets its contract. The invariant: the i-th field from `at` on is the k-th from `a` on.
 use native.Mathlib.Omega.{arith}
-use mathlib.Core.Path.{sym, _∙_}
 use denote.Ref.{now}
 use borrow.Author.Needs.{needs}
+use Rattle.text.proofs.Lines.{OnGet, get-start, get-short, get-on, get-here, get-value}
 use Rattle.text.proofs.get.Statement.{statement}
 use Rattle.text.proofs.get.Tie as tie
 
@@ -20,7 +19,12 @@ find-requires : tie.Need-find-requires Inv-loop μ-loop
 find-requires c κs = search needs
 
 returns : tie.Need-returns Inv-loop μ-loop
-returns c = let a = c .before .before .before .before .before .args in let l = c .before .before .before .loop in let f = c .before .find in absurd (get-short (now (a .s)) (a .at) (a .end) (a .i) (l .a) (l .k) (f .result) (l .inv) (omega arith) (f .ensures) (omega arith) (omega arith))
+returns c =
+    let at-loop = c .before .before .before in
+    let a = at-loop .before .before .args in
+    let l = at-loop .loop in
+    let f = c .before .find in
+    absurd (get-short (now (a .s)) (a .at) (a .end) (a .i) (l .a) (l .k) (f .result) (l .inv) (omega arith) (f .ensures) (omega arith) (omega arith))
 
 add-a : tie.Need-add-a Inv-loop μ-loop
 add-a c = omega arith
@@ -32,25 +36,27 @@ loop-less : tie.Need-loop-less Inv-loop μ-loop
 loop-less c = omega arith
 
 loop-again : tie.Need-loop-again Inv-loop μ-loop
-loop-again c = let a = c .before .before .before .before .before .args in let l = c .before .before .before .loop in let f = c .before .find in get-on (now (a .s)) (a .at) (a .end) (a .i) (l .a) (l .k) (f .result) (l .inv) (omega arith) (f .ensures) (omega arith) (omega arith)
+loop-again c =
+    let at-loop = c .before .before .before in
+    let a = at-loop .before .before .args in
+    let l = at-loop .loop in
+    let f = c .before .find in
+    get-on (now (a .s)) (a .at) (a .end) (a .i) (l .a) (l .k) (f .result) (l .inv) (omega arith) (f .ensures) (omega arith) (omega arith)
 
-find-requires-2 : tie.Need-find-requires-2 Inv-loop μ-loop
-find-requires-2 c κs = search needs
-
-number-requires : tie.Need-number-requires Inv-loop μ-loop
-number-requires c κs = search needs
-
-enum-known-v : tie.Need-enum-known-v Inv-loop μ-loop
-enum-known-v c = search needs
-
-enum-told : tie.Need-enum-told Inv-loop μ-loop
-enum-told c = search needs
+read-field-requires : tie.Need-read-field-requires Inv-loop μ-loop
+read-field-requires c κs =
+    let at-loop = c .before in
+    let a = at-loop .before .before .args in
+    let l = at-loop .loop in
+    (omega arith, omega arith, get-here (now (a .s)) (a .at) (a .end) (a .i) (l .a) (l .k) (l .inv) (omega arith) (omega arith))
 
 returns-2 : tie.Need-returns-2 Inv-loop μ-loop
-returns-2 c = let a = c .before .before .before .before .before .before .before .before .args in let l = c .before .before .before .before .before .before .loop in let f = c .before .before .before .before .find2 in get-value (now (a .s)) (a .at) (a .end) (a .i) (l .a) (l .k) (f .result) (l .inv) (omega arith) (f .ensures) (omega arith) (c .before .v .given .0 .0) (sym (c .before .v .given .1) ∙ c .before .before .before .number .ensures)
-
-returns-3 : tie.Need-returns-3 Inv-loop μ-loop
-returns-3 c = let a = c .before .before .before .before .before .before .before .args in let l = c .before .before .before .before .before .loop in let f = c .before .before .before .find2 in absurd (get-none (now (a .s)) (a .at) (a .end) (a .i) (l .a) (l .k) (f .result) (l .inv) (omega arith) (f .ensures) (omega arith) (sym (c .enum-told .given .1) ∙ c .before .before .number .ensures))
+returns-2 c =
+    let at-loop = c .before .before in
+    let a = at-loop .before .before .args in
+    let l = at-loop .loop in
+    let f = c .read-field in
+    get-value (now (a .s)) (a .at) (a .end) (a .i) (l .a) (l .k) (l .inv) (omega arith) (omega arith) _ _ (f .ensures)
 
 pub get-spec : {M : Type 1} → statement M
 get-spec =
@@ -65,9 +71,5 @@ get-spec =
     sub-k
     loop-less
     loop-again
-    find-requires-2
-    number-requires
-    enum-known-v
-    enum-told
-    returns-2
-    returns-3)
+    read-field-requires
+    returns-2)
