@@ -9,11 +9,11 @@ use borrow.Author.Tests.{eq-eqb}
 use lib.Dec.{eqb}
 use lib.ListN.{length, getD, set, length-set}
 use lib.Seq.{getD-set-same, getD-set-other}
-use lib.IntN.{ℤ, pos, _-ℤ_}
+use lib.IntN.{ℤ, pos, natAbs, negℤ, _+ℤ_, _-ℤ_}
 use mir.Syntax.{w32}
 use mir.Val.{ofZ, toZ}
 use lib.Signed.{mag}
-use Rattle.laws.specs.Integer.{abs-is, read32}
+use Rattle.laws.specs.Integer.{neg-is, abs-is, read32}
 use Rattle.laws.specs.Choice.{cond-yes, cond-no}
 use Rattle.laws.specs.Sum.{sumTo-term}
 use Rattle.laws.specs.Place.{place}
@@ -27,11 +27,11 @@ use Rattle.guarantees.specs.Bounds.{metric-le}
 use Rattle.guarantees.specs.WeightBounds.{weight-le, blockWeight-le, total-le}
 use Rattle.connectivity.specs.Raised.{at}
 use Rattle.connectivity.specs.Law.{small-of}
-use Rattle.levels.specs.Running.{running}
+use Rattle.levels.specs.Running.{Running, running}
 use Rattle.levels.specs.Operations.{MoveNeeds, MoveDoes}
 use Rattle.levels.specs.Reading.{reads}
 use Rattle.calls.specs.Tables.{Tables, tables, runningOf, Sound, Past, Keeps}
-use Rattle.calls.specs.Total.{Lowers}
+use Rattle.calls.specs.Total.{Lowers, Raises}
 
 -- a vertex's number from its place, which counts from 0
 pub back : (v : ℕ) → 1 ≤ v → v - 1 + 1 ≡ v
@@ -235,57 +235,92 @@ pub record Shifts (loads : List ℕ) (s t w : ℕ) : Type 0 where
   pub there : w ≤ getD loads (s - 1) 0
   pub small : getD (lessened loads s w) (t - 1) 0 + w < 2 ^ 64
 
+-- what `carry` asks
+pub record Carries (R : Running) (loads weights : List ℕ) (n m k u t : ℕ) : Type 0 where
+  pub moves : MoveNeeds R n m k u t
+  pub shifts : Shifts loads (getD (R .blocks) u 0) t (getD weights u 0)
+  pub in-blocks : u < length (R .blocks)
+  pub in-weights : u < length weights
+
 -- `go` has no use for the vertices above and for the loaded sizes: whatever these are
 pub record CanGo (T : List ℕ → List ℕ → Tables) (u t : ℕ) : Type 0 where
   pub aboves : List ℕ
   pub loaded : List ℕ
   pub goes : Goes (T aboves loaded) u t
 
--- ---- what `go`'s calls need, and what it returns, in the code's own variables
+-- ---- what `carry` gives on to its call, and takes from it
+module _ (loads : List ℕ) {a b w s t v : ℕ} (qa : a ≡ s) (qb : b ≡ t) (qw : w ≡ v) where
+  pub shifts-as : Shifts loads s t v → Shifts loads a b w
+  shifts-as h = rw (qa, qb, qw) h
+
+  pub shifted-as : {l : List ℕ} → l ≡ shifted loads a b w → l ≡ shifted loads s t v
+  shifted-as h = rw (← qa, ← qb, ← qw) h
+
+-- ---- what the calls of `go` and `back` need, and what they return, in the code's own variables
 module _ {h : Hypergraph} {cs : List Contraction} {block : ℕ → ℕ} {T : Tables} (s : Sound h cs block T) {u t : ℕ} (o : Open (T .blocks) (T .n) (T .k) u t) where
   up-on : above cs (u + 1) ≡ 0
   up-on = on-board s u (o .u-in) (o .on)
 
+  gain-bound : natAbs (at (T .gains) (16 * u + (t - 1))) ≤ 1024000
+  gain-bound = small-of (s .follows .world .stands) (s .follows .world .frame .few-nets) (s .follows .world .frame .weight) u (t - 1) (o .u-in) (omega (arith, o .t-in))
+
   pub gain-small : mag (at (T .gains) (16 * u + (t - 1))) < 2 ^ 31
-  gain-small = omega (arith, abs-is (at (T .gains) (16 * u + (t - 1))), small-of (s .follows .world .stands) (s .follows .world .frame .few-nets) (s .follows .world .frame .weight) u (t - 1) (o .u-in) (omega (arith, o .t-in)))
+  gain-small = omega (arith, abs-is (at (T .gains) (16 * u + (t - 1))), gain-bound)
 
   pub lower-needs : (b : ℕ) → b ≡ t → Lowers (T .total) (toZ w32 (ofZ w32 (at (T .gains) (16 * u + (b - 1)))))
   lower-needs b q = rw (q, read32 (at (T .gains) (16 * u + (t - 1))) gain-small) (lower-ok s u t o)
 
-  pub shift-needs : (a b w : ℕ) → a ≡ getD (T .blocks) u 0 → b ≡ t → w ≡ getD (T .weights) u 0 → Shifts (T .loads) a b w
-  shift-needs a b w qa qb qw =
-      let own-is : a ≡ block (u + 1) = qa ∙ own-block s u (o .u-in) in
+  pub lowered : {b total : ℕ} → b ≡ t → pos total ≡ pos (T .total) -ℤ toZ w32 (ofZ w32 (at (T .gains) (16 * u + (b - 1)))) → pos total ≡ pos (T .total) -ℤ at (T .gains) (16 * u + (t - 1))
+  lowered q d = rw (q, read32 (at (T .gains) (16 * u + (t - 1))) gain-small) at d
+
+  pub negated-needs : (b : ℕ) → b ≡ t → natAbs (toZ w32 (ofZ w32 (at (T .gains) (16 * u + (b - 1))))) < 2 ^ 31
+  negated-needs b q = rw (q, read32 (at (T .gains) (16 * u + (t - 1))) gain-small) (omega (arith, gain-bound))
+
+  -- g is the negated gain of the way back
+  module _ {b : ℕ} (g : ℤ) (q : b ≡ t) (e : g ≡ negℤ (toZ w32 (ofZ w32 (at (T .gains) (16 * u + (b - 1)))))) where
+    is-negated : toZ w32 (ofZ w32 g) ≡ negℤ (at (T .gains) (16 * u + (t - 1)))
+    is-negated =
+        let z : g ≡ negℤ (at (T .gains) (16 * u + (t - 1))) = rw (q, read32 (at (T .gains) (16 * u + (t - 1))) gain-small) at e in
+        ap (λ (y : ℤ). toZ w32 (ofZ w32 y)) z ∙ read32 (negℤ (at (T .gains) (16 * u + (t - 1)))) (omega (arith, abs-is (negℤ (at (T .gains) (16 * u + (t - 1)))), abs-is (at (T .gains) (16 * u + (t - 1))), neg-is (at (T .gains) (16 * u + (t - 1))), gain-bound))
+
+    pub raise-needs : Raises (T .total) (toZ w32 (ofZ w32 g))
+    raise-needs = let l = lower-ok s u t o in rw is-negated (record { after = l .after; is = l .is; small = l .small })
+
+    pub raised : {total : ℕ} → pos total ≡ pos (T .total) +ℤ toZ w32 (ofZ w32 g) → pos total ≡ pos (T .total) -ℤ at (T .gains) (16 * u + (t - 1))
+    raised d = rw is-negated at d
+
+  pub carries : Carries (runningOf T) (T .loads) (T .weights) (T .n) (T .m) (T .k) u t
+  carries =
+      let own-is : getD (T .blocks) u 0 ≡ block (u + 1) = own-block s u (o .u-in) in
       let r = in-range s u (o .u-in) up-on in
-      let heavy : w ≡ weight h cs (u + 1) = qw ∙ own-weight s u (o .u-in) up-on in
+      let heavy : getD (T .weights) u 0 ≡ weight h cs (u + 1) = own-weight s u (o .u-in) up-on in
       let few : T .k ≤ 16 = s .follows .world .frame .few in
       record {
-        len = s .loads-fit;
-        s-in = omega (arith, r .0, r .1);
-        t-in = omega (arith, o .t-in .0, o .t-in .1);
-        there = omega (arith, s .bears (a - 1) (omega (arith, r .0, r .1)), ap (blockWeight h cs block) (let z : a - 1 + 1 ≡ block (u + 1) = omega (arith, r .0) in z), own-load s u (o .u-in) up-on);
-        small = omega (
-          arith,
-          getD-set-other (T .loads) (a - 1) (b - 1) (getD (T .loads) (a - 1) 0 - w) 0 (λ z. o .away (omega (arith, r .0, o .t-in .0))),
-          s .bears (b - 1) (omega (arith, o .t-in .0, o .t-in .1)),
-          blockWeight-le h cs block (b - 1 + 1),
-          weight-le h cs (u + 1),
-          total-le (s .fit .limits) (s .fit .short) h (s .fit .ranges),
-        );
+        moves = moves-ok s u t o;
+        shifts = record {
+          len = s .loads-fit;
+          s-in = omega (arith, r .0, r .1);
+          t-in = omega (arith, o .t-in .0, o .t-in .1);
+          there = omega (arith, s .bears (getD (T .blocks) u 0 - 1) (omega (arith, r .0, r .1)), ap (blockWeight h cs block) (let z : getD (T .blocks) u 0 - 1 + 1 ≡ block (u + 1) = omega (arith, r .0) in z), own-load s u (o .u-in) up-on);
+          small = omega (
+            arith,
+            getD-set-other (T .loads) (getD (T .blocks) u 0 - 1) (t - 1) (getD (T .loads) (getD (T .blocks) u 0 - 1) 0 - getD (T .weights) u 0) 0 (λ z. o .away (omega (arith, r .0, o .t-in .0))),
+            s .bears (t - 1) (omega (arith, o .t-in .0, o .t-in .1)),
+            blockWeight-le h cs block (t - 1 + 1),
+            weight-le h cs (u + 1),
+            total-le (s .fit .limits) (s .fit .short) h (s .fit .ranges),
+          );
+        };
+        in-blocks = omega (arith, o .u-in, s .follows .world .lists .blocks-fit);
+        in-weights = omega (arith, o .u-in, s .weights-fit);
       }
 
-module _ (T : Tables) {u t : ℕ} (o : Open (T .blocks) (T .n) (T .k) u t) (f : mag (at (T .gains) (16 * u + (t - 1))) < 2 ^ 31)
-    {counts visited blocks loads : List ℕ} {gains : List ℤ} {total b w a : ℕ} (qa : a ≡ getD (T .blocks) u 0) (qb : b ≡ t) (qw : w ≡ getD (T .weights) u 0)
+module _ (T : Tables) {u t : ℕ} (o : Open (T .blocks) (T .n) (T .k) u t) {counts visited blocks loads : List ℕ} {gains : List ℤ} {total : ℕ}
     (q : MoveDoes (runningOf T) (running counts visited gains (T .pins) (T .sizes) (T .bits) blocks (T .netWeights) (T .firsts)) (T .n) (T .m) (T .k) u t)
-    (l : loads ≡ shifted (T .loads) a b w)
-    (d : pos total ≡ pos (T .total) -ℤ toZ w32 (ofZ w32 (at (T .gains) (16 * u + (b - 1))))) where
-  loads-are : loads ≡ shifted (T .loads) (getD (T .blocks) u 0) t (getD (T .weights) u 0)
-  loads-are = rw (← qa, ← qb, ← qw) l
-
-  total-is : pos total ≡ pos (T .total) -ℤ at (T .gains) (16 * u + (t - 1))
-  total-is = rw (qb, read32 (at (T .gains) (16 * u + (t - 1))) f) at d
-
+    (l : loads ≡ shifted (T .loads) (getD (T .blocks) u 0) t (getD (T .weights) u 0))
+    (d : pos total ≡ pos (T .total) -ℤ at (T .gains) (16 * u + (t - 1))) where
   pub went : Went T (tables counts visited gains (T .pins) (T .sizes) (T .bits) blocks (T .weights) (T .aboves) loads (T .netWeights) (T .firsts) (T .loaded) (T .n) (T .m) (T .k) total) u t
   went = record {
-    sound = λ h cs block s. sound-move s u t o q loads-are total-is;
+    sound = λ h cs block s. sound-move s u t o q l d;
     keeps = keeps-move q;
   }

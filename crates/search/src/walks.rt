@@ -4,7 +4,7 @@ use crate::marks::mark_vertex;
 use crate::marks::spread;
 use crate::numbers::index;
 use crate::peaks::shift;
-use calls::moves::go;
+use calls::moves::back;
 use choice::open::Pick;
 use choice::open::best_open;
 use choice::peaks::survey;
@@ -253,7 +253,7 @@ fn rewind(
     while kept < j {
         j -= 1;
         let x = index(movers[j]) - 1;
-        t = go(
+        t = back(
             counts,
             visited,
             gains,

@@ -10,6 +10,7 @@ use crate::refusals::refuses_move;
 use crate::widths::index;
 use crate::widths::short;
 use crate::widths::wide;
+use calls::moves::back;
 use calls::moves::go;
 use calls::pairs::Journal;
 
@@ -130,7 +131,7 @@ pub fn call_back(
     let b = journal.blocks[at - 1];
     let x = index(v);
     let next = journal.pop();
-    let after = go(
+    let after = back(
         counts,
         visited,
         gains,

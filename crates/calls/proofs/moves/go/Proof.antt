@@ -1,22 +1,14 @@
+-- `go`: the metric less the gain, and the tables.
 use borrow.Author.Needs.{needs}
-use Rattle.calls.specs.Move.{moves-ok, gain-small, lower-needs, shift-needs, went}
+use Rattle.calls.specs.Move.{lower-needs, lowered, carries, went}
 use Rattle.calls.proofs.moves.go.Statement.{statement}
 use Rattle.calls.proofs.moves.go.Tie as tie
 
-mul-index : tie.Need-mul-index
-mul-index c = search needs
-
-slice-read-index : tie.Need-slice-read-index
-slice-read-index c = search needs
+mul-lower-total : tie.Need-mul-lower-total
+mul-lower-total c = search needs
 
 index-requires : tie.Need-index-requires
 index-requires c κs = search needs
-
-index-requires-2 : tie.Need-index-requires-2
-index-requires-2 c κs = search needs
-
-mul-lower-total : tie.Need-mul-lower-total
-mul-lower-total c = search needs
 
 sub-lower-total : tie.Need-sub-lower-total
 sub-lower-total c = search needs
@@ -32,29 +24,13 @@ slice-copy-out-lower-total c = search needs
 
 lower-total-requires : tie.Need-lower-total-requires
 lower-total-requires c κs =
-    let start = c .before .before .before .before .before .before .before .before .before .before .before .before .before in
-    let g = start .pre .goes in lower-needs (g .sound) (g .open-pair) (c .before .index2 .result) (c .before .index2 .ensures)
+    let g = c .before .before .before .before .before .before .before .before .before .before .before .pre .goes in
+    lower-needs (g .sound) (g .open-pair) (c .before .index .result) (c .before .index .ensures)
 
-mul-wide : tie.Need-mul-wide
-mul-wide c = search needs
-
-shared-slice-read-wide : tie.Need-shared-slice-read-wide
-shared-slice-read-wide c = search needs
-
-wide-requires : tie.Need-wide-requires
-wide-requires c κs = search needs
-
-shift-load-requires : tie.Need-shift-load-requires
-shift-load-requires c κs =
-    let at-index2 = c .before .before .before .before .before in
-    let at-index = at-index2 .before in
-    let start = at-index .before .before .before .before .before .before .before .before .before .before .before in
-    let g = start .pre .goes in shift-needs (g .sound) (g .open-pair) (at-index .index .result) (at-index2 .index2 .result) (c .wide .result) (at-index .index .ensures) (at-index2 .index2 .ensures) (c .wide .ensures)
-
-move-vertex-requires : tie.Need-move-vertex-requires
-move-vertex-requires c κs =
-    let start = c .before .before .before .before .before .before .before .before .before .before .before .before .before .before .before .before .before .before .before .before .before .before in
-    let g = start .pre .goes in moves-ok (g .sound) (start .args .u) (start .args .t) (g .open-pair)
+carry-requires : tie.Need-carry-requires
+carry-requires c κs =
+    let g = c .before .before .before .before .before .before .before .before .before .before .before .before .before .before .before .before .before .pre .goes in
+    carries (g .sound) (g .open-pair)
 
 same-length : tie.Need-same-length
 same-length c = search needs
@@ -70,34 +46,25 @@ same-length-4 c = search needs
 
 returns : tie.Need-returns
 returns c =
-    let at-move-vertex = c .before .before .before .before .before .before .before in
-    let at-shift-load = at-move-vertex .before .before .before .before .before in
-    let at-wide = at-shift-load .before in
-    let at-lower-total = at-wide .before .before .before in
-    let at-index2 = at-lower-total .before .before in
-    let at-index = at-index2 .before in
-    let start = at-index .before .before .before .before .before .before .before .before .before .before .before in
-    λ aboves loaded. let g = start .pre .goes in went _ (g .open-pair) (gain-small (g .sound) (g .open-pair)) (at-index .index .ensures) (at-index2 .index2 .ensures) (at-wide .wide .ensures) (at-move-vertex .move-vertex .ensures) (at-shift-load .shift-load .ensures) (at-lower-total .lower-total .ensures)
+    let at-carry = c .before .before .before .before .before .before .before in
+    let at-lower-total = at-carry .before .before .before .before .before .before in
+    let at-index = at-lower-total .before .before in
+    λ aboves loaded.
+    let g = at-index .before .before .before .before .before .before .before .before .before .before .pre .goes in
+    went _ (g .open-pair) (at-carry .carry .ensures .0) (at-carry .carry .ensures .1) (lowered (g .sound) (g .open-pair) (at-index .index .ensures) (at-lower-total .lower-total .ensures))
 
 pub go-spec : {M : Type 1} → statement M
 go-spec =
     tie.close
     (tie.spec
-    mul-index
-    slice-read-index
-    index-requires
-    index-requires-2
     mul-lower-total
+    index-requires
     sub-lower-total
     add-lower-total
     mul-lower-total-2
     slice-copy-out-lower-total
     lower-total-requires
-    mul-wide
-    shared-slice-read-wide
-    wide-requires
-    shift-load-requires
-    move-vertex-requires
+    carry-requires
     same-length
     same-length-2
     same-length-3

@@ -36,14 +36,14 @@ index-requires c κs = search needs
 sub-x : tie.Need-sub-x Inv-loop μ-loop
 sub-x c = omega (arith, c .index .ensures, rewind-from _ _ _ _ _ _ (c .before .before .before .loop .j) (c .before .before .before .before .before .before .before .before .before .before .before .before .before .pre) (c .before .before .before .loop .inv .2) (omega (arith, c .before .before .loop-test)))
 
-mul-go : tie.Need-mul-go Inv-loop μ-loop
-mul-go c = omega (arith, c .before .before .before .before .before .before .before .before .before .before .before .before .before .before .before .before .before .before .pre .tried-to, c .before .before .before .before .before .before .before .before .loop .inv)
+mul-back : tie.Need-mul-back Inv-loop μ-loop
+mul-back c = omega (arith, c .before .before .before .before .before .before .before .before .before .before .before .before .before .before .before .before .before .before .pre .tried-to, c .before .before .before .before .before .before .before .before .loop .inv)
 
-element-copy-out-go : tie.Need-element-copy-out-go Inv-loop μ-loop
-element-copy-out-go c = omega (arith, c .before .before .before .before .before .before .before .before .before .before .before .before .before .before .before .before .before .before .pre .tried-to, c .before .before .before .before .before .before .before .before .loop .inv)
+element-copy-out-back : tie.Need-element-copy-out-back Inv-loop μ-loop
+element-copy-out-back c = omega (arith, c .before .before .before .before .before .before .before .before .before .before .before .before .before .before .before .before .before .before .pre .tried-to, c .before .before .before .before .before .before .before .before .loop .inv)
 
-go-requires : tie.Need-go-requires Inv-loop μ-loop
-go-requires c κs = rewind-asks _ _ _ _ _ _ (c .before .before .before .before .before .before .before .before .before .loop .j) _ (c .before .before .before .before .before .before .before .before .before .before .before .before .before .before .before .before .before .before .before .pre) (c .before .before .before .before .before .before .before .before .before .loop .inv .2) (omega (arith, c .before .before .before .before .before .before .before .before .loop-test)) (c .before .before .before .before .before .before .index .ensures)
+back-requires : tie.Need-back-requires Inv-loop μ-loop
+back-requires c κs = rewind-asks _ _ _ _ _ _ (c .before .before .before .before .before .before .before .before .before .loop .j) _ (c .before .before .before .before .before .before .before .before .before .before .before .before .before .before .before .before .before .before .before .pre) (c .before .before .before .before .before .before .before .before .before .loop .inv .2) (omega (arith, c .before .before .before .before .before .before .before .before .loop-test)) (c .before .before .before .before .before .before .index .ensures)
 
 loop-less : tie.Need-loop-less Inv-loop μ-loop
 loop-less c = omega (arith, c .before .before .before .before .before .before .before .before .before .before .before .before .before .before .before .before .loop-test)
@@ -52,11 +52,11 @@ loop-again : tie.Need-loop-again Inv-loop μ-loop
 loop-again c = (
   omega (arith, c .before .before .before .before .before .before .before .before .before .before .before .before .before .before .before .before .loop-test),
   omega (arith, c .before .before .before .before .before .before .before .before .before .before .before .before .before .before .before .before .before .loop .inv),
-  λ aboves loaded. rewind-more _ _ _ _ (c .before .before .before .before .before .before .before .before .before .before .before .before .before .before .before .before .before .loop .j) (c .before .before .before .before .before .before .before .before .before .before .before .before .before .before .index .result) refl refl refl refl refl (c .before .before .before .before .before .before .before .before .before .before .before .before .before .before .before .before .before .loop .inv .2 aboves loaded) (c .before .before .before .before .before .before .before .before .before .before .before .before .before .before .before .before .loop-test .taken) (omega (arith, c .before .before .before .before .before .before .before .before .before .before .before .before .before .before .index .ensures, rewind-from _ _ _ _ _ _ (c .before .before .before .before .before .before .before .before .before .before .before .before .before .before .before .before .before .loop .j) (c .before .before .before .before .before .before .before .before .before .before .before .before .before .before .before .before .before .before .before .before .before .before .before .before .before .before .before .pre) (c .before .before .before .before .before .before .before .before .before .before .before .before .before .before .before .before .before .loop .inv .2) (omega (arith, c .before .before .before .before .before .before .before .before .before .before .before .before .before .before .before .before .loop-test)))) (c .before .before .before .before .before .before .before .go .ensures aboves loaded),
-  omega (arith, c .before .before .before .before .before .before .before .before .before .before .before .before .before .before .before .before .before .loop .inv, c .before .before .before .before .before .before .before .go .kept),
-  omega (arith, c .before .before .before .before .before .before .before .before .before .before .before .before .before .before .before .before .before .loop .inv, c .before .before .before .before .before .before .before .go .kept),
-  omega (arith, c .before .before .before .before .before .before .before .before .before .before .before .before .before .before .before .before .before .loop .inv, c .before .before .before .before .before .before .before .go .kept),
-  omega (arith, c .before .before .before .before .before .before .before .before .before .before .before .before .before .before .before .before .before .loop .inv, c .before .before .before .before .before .before .before .go .kept),
+  λ aboves loaded. rewind-more _ _ _ _ (c .before .before .before .before .before .before .before .before .before .before .before .before .before .before .before .before .before .loop .j) (c .before .before .before .before .before .before .before .before .before .before .before .before .before .before .index .result) refl refl refl refl refl (c .before .before .before .before .before .before .before .before .before .before .before .before .before .before .before .before .before .loop .inv .2 aboves loaded) (c .before .before .before .before .before .before .before .before .before .before .before .before .before .before .before .before .loop-test .taken) (omega (arith, c .before .before .before .before .before .before .before .before .before .before .before .before .before .before .index .ensures, rewind-from _ _ _ _ _ _ (c .before .before .before .before .before .before .before .before .before .before .before .before .before .before .before .before .before .loop .j) (c .before .before .before .before .before .before .before .before .before .before .before .before .before .before .before .before .before .before .before .before .before .before .before .before .before .before .before .pre) (c .before .before .before .before .before .before .before .before .before .before .before .before .before .before .before .before .before .loop .inv .2) (omega (arith, c .before .before .before .before .before .before .before .before .before .before .before .before .before .before .before .before .loop-test)))) (c .before .before .before .before .before .before .before .back .ensures aboves loaded),
+  omega (arith, c .before .before .before .before .before .before .before .before .before .before .before .before .before .before .before .before .before .loop .inv, c .before .before .before .before .before .before .before .back .kept),
+  omega (arith, c .before .before .before .before .before .before .before .before .before .before .before .before .before .before .before .before .before .loop .inv, c .before .before .before .before .before .before .before .back .kept),
+  omega (arith, c .before .before .before .before .before .before .before .before .before .before .before .before .before .before .before .before .before .loop .inv, c .before .before .before .before .before .before .before .back .kept),
+  omega (arith, c .before .before .before .before .before .before .before .before .before .before .before .before .before .before .before .before .before .loop .inv, c .before .before .before .before .before .before .before .back .kept),
 )
 
 same-length : tie.Need-same-length Inv-loop μ-loop
@@ -86,9 +86,9 @@ rewind-spec =
     element-copy-out-index
     index-requires
     sub-x
-    mul-go
-    element-copy-out-go
-    go-requires
+    mul-back
+    element-copy-out-back
+    back-requires
     loop-less
     loop-again
     same-length

@@ -33,11 +33,11 @@ index-requires c κs = search needs
 pop-requires : tie.Need-pop-requires
 pop-requires c κs = above-none _ (c .before .before .before .if1 .left)
 
-sub-go : tie.Need-sub-go
-sub-go c = omega (arith, (back-open (c .before .before .before .before .before .before .before .before .before .before .before .before .before .before .before .before .before .before .before .pre .ready .runs) (above-none _ (c .before .before .before .before .before .before .before .before .before .if1 .left))) .0, c .before .before .before .before .before .before .index .ensures)
+sub-back : tie.Need-sub-back
+sub-back c = omega (arith, (back-open (c .before .before .before .before .before .before .before .before .before .before .before .before .before .before .before .before .before .before .before .pre .ready .runs) (above-none _ (c .before .before .before .before .before .before .before .before .before .if1 .left))) .0, c .before .before .before .before .before .before .index .ensures)
 
-go-requires : tie.Need-go-requires
-go-requires c κs =
+back-requires : tie.Need-back-requires
+back-requires c κs =
     let at-index = c .before .before .before .before .before .before in
     let at-if1 = at-index .before .before .before in
     let start = at-if1 .before .before .before .before .before .before .before .before .before .before in
@@ -63,11 +63,11 @@ same-length-4 c = search needs
 
 returns-2 : tie.Need-returns-2
 returns-2 c =
-    let at-go = c .before .before .before .before .before .before .before .before .before in
-    let at-pop = at-go .before .before .before .before .before .before in
+    let at-back = c .before .before .before .before .before .before .before .before .before in
+    let at-pop = at-back .before .before .before .before .before .before in
     let at-index = at-pop .before in
     let at-if1 = at-index .before .before .before in
-    λ aboves loaded S h. accepted-B h _ _ _ _ _ (above-none _ (at-if1 .if1 .left)) (at-index .index .result) (at-index .index .ensures) (at-go .go .ensures aboves loaded) (record { xs-same = at-pop .pop .ensures .0; ys-same = at-pop .pop .ensures .1; len-is = at-pop .pop .ensures .2 }) (c .before .wide .result) (c .wide2 .result) (c .before .wide .ensures) (c .wide2 .ensures)
+    λ aboves loaded S h. accepted-B h _ _ _ _ _ (above-none _ (at-if1 .if1 .left)) (at-index .index .result) (at-index .index .ensures) (at-back .back .ensures aboves loaded) (record { xs-same = at-pop .pop .ensures .0; ys-same = at-pop .pop .ensures .1; len-is = at-pop .pop .ensures .2 }) (c .before .wide .result) (c .wide2 .result) (c .before .wide .ensures) (c .wide2 .ensures)
 
 pub call-back-spec : {M : Type 1} → statement M
 call-back-spec =
@@ -82,8 +82,8 @@ call-back-spec =
     element-copy-out-b
     index-requires
     pop-requires
-    sub-go
-    go-requires
+    sub-back
+    back-requires
     wide-requires
     wide-requires-2
     same-length
