@@ -8,10 +8,11 @@ use native.Mathlib.Decide.{ℕ-discrete}
 use lib.ListN.{length, getD}
 use lib.IntN.{ℤ, pos, natAbs, _+ℤ_, negℤ, +ℤ-idr}
 use Rattle.laws.specs.Integer.{neg-is, abs-is}
+use Rattle.connectivity.specs.Share.{share}
 use Rattle.connectivity.specs.Raised.{Raised, at}
 use Rattle.connectivity.specs.Listed.{vertexAt, clear16}
 use Rattle.connectivity.specs.Matrix.{shareOf}
-use Rattle.connectivity.specs.Row.{read, row, shareOf-none}
+use Rattle.connectivity.specs.Row.{read, row, row-here, row-there, row-not, share-is, shareOf-none}
 
 -- `h a j` is what a vertex that the row `r` has in the block `a` gets at the block `j`
 pub record Laid (h : ℕ → ℕ → ℤ) (r : ℕ → ℕ) (k : ℕ) (g g′ : List ℤ) : Type 0 where
@@ -78,6 +79,30 @@ pub record Net (pins blocks : List ℕ) (first p n k : ℕ) : Type 0 where
   pub in-blocks : (j : ℕ) → j < p → (1 ≤ getD blocks (vertexAt pins first j) 0) × (getD blocks (vertexAt pins first j) 0 ≤ k)
   pub once : (i j : ℕ) → i < j → j < p → getD pins (first + i) 0 ≡ getD pins (first + j) 0 → ⊥
 
+-- no vertex past `n` is in the row
+pub row-past : {pins blocks : List ℕ} {first p n k : ℕ} → Net pins blocks first p n k → (y : ℕ) → n ≤ y → row pins blocks first p y ≡ 0
+row-past {pins} {blocks} {first} {p} s y h = row-not pins blocks first p y (λ i u f. omega (arith, s .in-range i u))
+
+-- the pin `q` comes next: the row of the pins before it does not have it yet
+module _ {pins blocks : List ℕ} {first p n k i q : ℕ} (s : Net pins blocks first p n k) (hi : i < p) (eq : q ≡ getD pins (first + i) 0) where
+  pub pin-range : (1 ≤ q) × (q ≤ n)
+  pin-range = omega (arith, s .in-range i hi)
+
+  pin-at : getD pins (first + i) 0 ≡ q - 1 + 1
+  pin-at = omega (arith, pin-range)
+
+  pub pin-block : {b : ℕ} → b ≡ getD blocks (q - 1) 0 → (1 ≤ b) × (b ≤ k)
+  pin-block eb = omega (arith, eb, s .in-blocks i hi, ap (λ (z : ℕ). getD blocks (z - 1) 0) eq)
+
+  pub next-fresh : row pins blocks first i (q - 1) ≡ 0
+  next-fresh = row-not pins blocks first i (q - 1) (λ j l t. s .once j i l hi (t ∙ sym pin-at))
+
+  pub next-here : row pins blocks first (i + 1) (q - 1) ≡ getD blocks (q - 1) 0
+  next-here = row-here pins blocks first i (q - 1) pin-at
+
+  pub next-there : (y : ℕ) → (y ≡ q - 1 → ⊥) → row pins blocks first (i + 1) y ≡ row pins blocks first i y
+  next-there y ne = row-there pins blocks first i y (λ t. ne (omega (arith, t, pin-at)))
+
 -- only the places of the stretch count
 pub net-ext : {pins pins′ blocks : List ℕ} {f p n k : ℕ} → length pins′ ≡ length pins → ((i : ℕ) → i < p → getD pins′ (f + i) 0 ≡ getD pins (f + i) 0) → Net pins blocks f p n k → Net pins′ blocks f p n k
 net-ext hl h s = record {
@@ -85,6 +110,14 @@ net-ext hl h s = record {
   in-range = λ j l. rw (h j l) (s .in-range j l);
   in-blocks = λ j l. rw (h j l) (s .in-blocks j l);
   once = λ i j l u q. s .once i j l u (sym (h i (omega arith)) ∙ q ∙ h j u);
+}
+
+-- what `share_row` says, by the block from 1
+pub raised-given : {k : ℕ} {g g′ : List ℤ} (t : Bool) (counts : List ℕ) (x e a w : ℕ) → 1 ≤ a → Raised (λ j. signed t (share counts (16 * e) (a - 1) w j)) (16 * x) k g g′ → Raised (given t counts e w a) (16 * x) k g g′
+raised-given {g = g} t counts x e a w h u = record {
+  len = u .len;
+  inside = λ j l. u .inside j l ∙ ap (λ (s : ℤ). at g (16 * x + j) +ℤ signed t s) (share-is counts (16 * e) a w j h);
+  outside = u .outside;
 }
 
 -- what `take_share` and `put_share` say, by the sign

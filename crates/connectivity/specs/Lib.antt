@@ -10,6 +10,7 @@
 -- Change  the rules of the critical counts
 -- Touch   the rules at one vertex, and at all other pins
 -- Steps   the steps of set_pin's proof
+-- Whole   all pins of a net that has none yet
 -- Empty   tables of zeros stand for the matrix of no pins
 pub mod Matrix
 pub mod Listed
@@ -22,4 +23,5 @@ pub mod Set
 pub mod Change
 pub mod Touch
 pub mod Steps
+pub mod Whole
 pub mod Empty

@@ -30,6 +30,10 @@ rowShare n w r y c = shareOf (rowCount n r) w (r y) c
 unfoldable pub setPin : (ℕ → ℕ → ℕ) → ℕ → ℕ → ℕ → ℕ → ℕ → ℕ
 setPin Q e x b d = cond (eqb d e) (place (Q e) x b) (Q d)
 
+-- the matrix with the row `r` for the net `e`
+unfoldable pub setRow : (ℕ → ℕ → ℕ) → ℕ → (ℕ → ℕ) → ℕ → ℕ → ℕ
+setRow Q e r d = cond (eqb d e) r (Q d)
+
 -- the counts and the masks of `m` nets over `n` vertices and `k` blocks
 pub record Tally (Q : ℕ → ℕ → ℕ) (n m k : ℕ) (counts visited : List ℕ) : Type 0 where
   pub block-le : (e y : ℕ) → e < m → y < n → Q e y ≤ k

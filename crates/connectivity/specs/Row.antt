@@ -16,7 +16,7 @@ use Rattle.laws.specs.Integer.{natAbs-diff}
 use Rattle.laws.specs.Place.{place, place-at, place-off}
 use Rattle.connectivity.specs.Share.{when, when-le, share}
 use Rattle.connectivity.specs.Listed.{has, has-none, has-empty, has-here, has-there}
-use Rattle.connectivity.specs.Matrix.{rowCount, shareOf, setPin}
+use Rattle.connectivity.specs.Matrix.{rowCount, shareOf, setPin, setRow}
 
 pub setPin-here : (Q : ℕ → ℕ → ℕ) (e x b : ℕ) → setPin Q e x b e ≡ place (Q e) x b
 unfolding setPin
@@ -25,6 +25,14 @@ setPin-here Q e x b = rw (eq-eqb e e refl)
 pub setPin-there : (Q : ℕ → ℕ → ℕ) (e x b d : ℕ) → (d ≡ e → ⊥) → setPin Q e x b d ≡ Q d
 unfolding setPin
 setPin-there Q e x b d ne = rw (ne-eqb d e ne)
+
+pub setRow-here : (Q : ℕ → ℕ → ℕ) (e : ℕ) (r : ℕ → ℕ) → setRow Q e r e ≡ r
+unfolding setRow
+setRow-here Q e r = rw (eq-eqb e e refl)
+
+pub setRow-there : (Q : ℕ → ℕ → ℕ) (e : ℕ) (r : ℕ → ℕ) (d : ℕ) → (d ≡ e → ⊥) → setRow Q e r d ≡ Q d
+unfolding setRow
+setRow-there Q e r d ne = rw (ne-eqb d e ne)
 
 -- the law of counts
 pub rowCount-place : (n : ℕ) (r : ℕ → ℕ) (x b c : ℕ) → x < n → rowCount n (place r x b) c + one (eqb (r x) c) ≡ rowCount n r c + one (eqb b c)

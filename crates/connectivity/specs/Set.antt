@@ -12,8 +12,8 @@ use Rattle.laws.specs.Bit.{bit}
 use Rattle.laws.specs.Place.{place, place-at, place-off}
 use Rattle.connectivity.specs.Raised.{at}
 use Rattle.connectivity.specs.Matrix.{setPin, Tally, Stands, Kept, KeptTally, KeptGains}
-use Rattle.connectivity.specs.Row.{row, row-not, setPin-here, rowCount-le}
-use Rattle.connectivity.specs.Laid.{Laid, Net}
+use Rattle.connectivity.specs.Row.{row, setPin-here, rowCount-le}
+use Rattle.connectivity.specs.Laid.{Laid, Net, row-past}
 use Rattle.connectivity.specs.Law.{Step, count-of, has-one, tally-depart, tally-arrive, tally-ext, setPin-twice}
 
 -- the tables' sizes
@@ -67,9 +67,12 @@ kept-gains-trans s t = record {
   gains-over = λ y j l u. t .gains-over y j l u ∙ s .gains-over y j l u;
 }
 
+pub kept-tally-none : {m k : ℕ} (cs vs : List ℕ) → KeptTally m k cs cs vs vs
+kept-tally-none cs vs = record { counts-len = refl; masks-len = refl; counts-past = λ d j l u. refl; counts-over = λ i l. refl; masks-past = λ d j l. refl; masks-over = λ d l. refl }
+
 pub kept-none : {n m k : ℕ} (cs vs : List ℕ) (g : List ℤ) → Kept n m k cs cs vs vs g g
 kept-none cs vs g = record {
-  of-tally = record { counts-len = refl; masks-len = refl; counts-past = λ d j l u. refl; counts-over = λ i l. refl; masks-past = λ d j l. refl; masks-over = λ d l. refl };
+  of-tally = kept-tally-none cs vs;
   of-gains = record { gains-len = refl; gains-past = λ y j l u. refl; gains-over = λ y j l u. refl };
 }
 
@@ -92,14 +95,7 @@ pub kept-step : {e b v m k : ℕ} {cs cs′ vs vs′ : List ℕ} → e < m → b
 kept-step {e} {b} {v} {m} {k} {cs} {cs′} {vs} {vs′} he hb few s = by b refl
   where
     by : (z : ℕ) → b ≡ z → KeptTally m k cs cs′ vs vs′
-    by zero q = rw (s .none q .0, s .none q .1) (record {
-      counts-len = refl;
-      masks-len = refl;
-      counts-past = λ d j l u. refl;
-      counts-over = λ i l. refl;
-      masks-past = λ d j l. refl;
-      masks-over = λ d l. refl;
-    })
+    by zero q = rw (s .none q .0, s .none q .1) (kept-tally-none cs vs)
     by (suc z) q = let t = s .some (omega arith) in record {
       counts-len = s .counts-len;
       masks-len = s .masks-len;
@@ -125,7 +121,7 @@ kept-laid {h} {r} {n} {k} {g} none past l = record {
 
 pub past-none : {pins blocks : List ℕ} {first p n k : ℕ} (x a : ℕ) → x < n → Net pins blocks first p n k → (y : ℕ) → n ≤ y → place (row pins blocks first p) x a y ≡ 0
 past-none {pins} {blocks} {first} {p} x a hx net y h =
-    place-off (row pins blocks first p) x a y (λ f. omega arith) ∙ row-not pins blocks first p y (λ i u f. omega (arith, net .in-range i u))
+    place-off (row pins blocks first p) x a y (λ f. omega arith) ∙ row-past net y h
 
 -- ---- the steps of `set_pin`
 module _ {weights cs vs pins blocks : List ℕ} {g : List ℤ} {n m k first p e x a b : ℕ} (o : Sets weights cs vs pins blocks g n m k first p e x a b) where

@@ -13,12 +13,12 @@ use Rattle.laws.specs.IntegerSum.{sumZ, sumZ-change}
 use Rattle.connectivity.specs.Share.{share}
 use Rattle.connectivity.specs.Raised.{Raised, Ready, at}
 use Rattle.connectivity.specs.Matrix.{rowCount, shareOf, rowShare, setPin, Tally, Stands}
-use Rattle.connectivity.specs.Row.{read, row, setPin-here, setPin-there, share-is, shareOf-le, shareOf-none}
+use Rattle.connectivity.specs.Row.{read, row, setPin-here, setPin-there, shareOf-le, shareOf-none}
 use Rattle.connectivity.specs.Law.{Step, count-of, given-is, small-of, stands-ext, setPin-none}
 use Rattle.connectivity.specs.Set.{Sets, Set, come, kept-none, kept-tally-trans, kept-gains-trans, kept-step, kept-laid, past-none}
 use Rattle.connectivity.specs.Change.{delta, delta-none, share-change}
 use Rattle.connectivity.specs.Touch.{Others, Delta}
-use Rattle.connectivity.specs.Laid.{Laid, given, given-none, signed, signed-le, laid-none, laid-more, laid-next}
+use Rattle.connectivity.specs.Laid.{Laid, given, given-none, signed, signed-le, laid-none, laid-more, laid-next, raised-given}
 
 -- the count of a block, and `none` where there is no block
 pub record CountAt (counts : List ℕ) (e a none r : ℕ) : Type 0 where
@@ -52,11 +52,7 @@ module _ {g : List ℤ} {counts : List ℕ} {x e a k w : ℕ} (t : Bool) (c : Ow
   }
 
   pub own-some : {g₁ : List ℤ} → 1 ≤ a → Raised (λ j. signed t (share counts (16 * e) (a - 1) w j)) (16 * x) k g g₁ → Laid (given t counts e w) (place (λ _. 0) x a) k g g₁
-  own-some h u = laid-more (given-none t counts e w) (c .few) (laid-none (given-none t counts e w) (λ _. 0) g (λ y. refl)) refl (place-at (λ _. 0) x a) (λ y ne. place-off (λ _. 0) x a y ne) (record {
-    len = u .len;
-    inside = λ j l. u .inside j l ∙ ap (λ (s : ℤ). at g (16 * x + j) +ℤ signed t s) (share-is counts (16 * e) a w j h);
-    outside = u .outside;
-  })
+  own-some h u = laid-more (given-none t counts e w) (c .few) (laid-none (given-none t counts e w) (λ _. 0) g (λ y. refl)) refl (place-at (λ _. 0) x a) (λ y ne. place-off (λ _. 0) x a y ne) (raised-given t counts x e a w h u)
 
 -- ---- the law of the whole change
 moved-by : (s f d : ℤ) → (s -ℤ f) +ℤ (f +ℤ d) ≡ s +ℤ d

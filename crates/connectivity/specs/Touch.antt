@@ -14,8 +14,8 @@ use mir.Val.{toZ, ofZ}
 use Rattle.laws.specs.Integer.{read32, grow, natAbs-add, abs-is, pos-is}
 use Rattle.laws.specs.Place.{place, place-at, place-off, place-ext}
 use Rattle.connectivity.specs.Raised.{Raised, at}
-use Rattle.connectivity.specs.Row.{row, row-none, row-here, row-there, row-not}
-use Rattle.connectivity.specs.Laid.{Laid, Net, signed, signed-none, signed-le, laid-none, laid-next, laid-more, laid-ext}
+use Rattle.connectivity.specs.Row.{row, row-none}
+use Rattle.connectivity.specs.Laid.{Laid, Net, signed, signed-none, signed-le, laid-none, laid-next, laid-more, laid-ext, pin-block, next-fresh, next-here, next-there}
 use Rattle.connectivity.specs.Change.{rowBut, single, delta, zero-sum, delta-none, delta-some, when-yes, rowBut-le, single-le, rowBut-idle, rowBut-other, rowBut-own, rowBut-here, single-idle, single-here, single-other}
 
 -- the entries of a vertex's row are at most `B`
@@ -192,22 +192,19 @@ module _ {g : List ℤ} {pins blocks : List ℕ} {n k first p x a b fa fb w : �
     pub pin-in : (1 ≤ q) × (q ≤ n) × (q ≤ length blocks) × (16 * q ≤ length g)
     pin-in = omega (arith, c .net .in-range i hi, c .blocks-fit, c .gains-fit)
 
-    pub home-in : {s : ℕ} → s ≡ getD blocks (q - 1) 0 → (1 ≤ s) × (s ≤ k)
-    home-in es = omega (arith, es, c .net .in-blocks i hi, ap (λ (z : ℕ). getD blocks (z - 1) 0) eq)
-
     fresh : (q - 1 ≡ x → ⊥) → place (row pins blocks first i) x 0 (q - 1) ≡ 0
-    fresh ne = place-off (row pins blocks first i) x 0 (q - 1) ne ∙ row-not pins blocks first i (q - 1) (λ j l s. c .net .once j i l hi (omega (arith, c .net .in-range i hi)))
+    fresh ne = place-off (row pins blocks first i) x 0 (q - 1) ne ∙ next-fresh (c .net) hi eq
 
     pub others-skip : {g₁ : List ℤ} → q - 1 ≡ x → Laid (Delta a b fa fb w) (place (row pins blocks first i) x 0) k g g₁ → Laid (Delta a b fa fb w) (place (row pins blocks first (i + 1)) x 0) k g g₁
     others-skip z l = laid-ext none l
-        (λ y. place-ext (row pins blocks first (i + 1)) (row pins blocks first i) x 0 y (λ ne. row-there pins blocks first i y (λ s. ne (omega (arith, c .net .in-range i hi)))))
+        (λ y. place-ext (row pins blocks first (i + 1)) (row pins blocks first i) x 0 y (λ ne. next-there (c .net) hi eq y (λ s. ne (s ∙ z))))
 
     pub others-touch : {g₁ : List ℤ} {s : ℕ} → (q - 1 ≡ x → ⊥) → s ≡ getD blocks (q - 1) 0 → Laid (Delta a b fa fb w) (place (row pins blocks first i) x 0) k g g₁ → Touches g₁ (q - 1) s a b fa fb k w
     others-touch ne es l = record {
       fit = omega (arith, pin-in, l .len);
       few = c .few;
       weight = c .weight;
-      o-in = home-in es .0;
+      o-in = pin-block (c .net) hi eq es .0;
       a-in = c .a-in;
       b-in = c .b-in;
       a-some = c .a-some;
@@ -218,8 +215,8 @@ module _ {g : List ℤ} {pins blocks : List ℕ} {n k first p x a b fa fb w : �
     pub others-more : {g₁ g₂ : List ℤ} {s : ℕ} → (q - 1 ≡ x → ⊥) → s ≡ getD blocks (q - 1) 0 → Laid (Delta a b fa fb w) (place (row pins blocks first i) x 0) k g g₁ →
         Raised (Delta a b fa fb w s) (16 * (q - 1)) k g₁ g₂ → Laid (Delta a b fa fb w) (place (row pins blocks first (i + 1)) x 0) k g g₂
     others-more {s} ne es l u = laid-more none (c .few) l (fresh ne)
-        (place-off (row pins blocks first (i + 1)) x 0 (q - 1) ne ∙ row-here pins blocks first i (q - 1) (omega (arith, c .net .in-range i hi)) ∙ sym es)
-        (λ y d. place-ext (row pins blocks first (i + 1)) (row pins blocks first i) x 0 y (λ f. row-there pins blocks first i y (λ v. d (omega (arith, c .net .in-range i hi)))))
+        (place-off (row pins blocks first (i + 1)) x 0 (q - 1) ne ∙ next-here (c .net) hi eq ∙ sym es)
+        (λ y d. place-ext (row pins blocks first (i + 1)) (row pins blocks first i) x 0 y (λ f. next-there (c .net) hi eq y d))
         u
 
 -- ---- the stores of `shift_at`

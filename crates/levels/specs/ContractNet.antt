@@ -16,12 +16,11 @@ use Rattle.laws.specs.Place.{place, place-at, place-off}
 use Rattle.incidence.specs.On.{on}
 use Rattle.connectivity.specs.Listed.{has, vertexAt, in-has, has-in, has-iff, has-not, has-yes, has-no}
 use Rattle.pins.specs.Link.{Contracted, Becomes}
-use Rattle.connectivity.specs.Matrix.{setPin, Stands, Kept}
-use Rattle.connectivity.specs.Row.{row, row-yes, row-no, row-by, setPin-here, setPin-there}
+use Rattle.connectivity.specs.Matrix.{setPin, setRow, Stands, Kept}
+use Rattle.connectivity.specs.Row.{row, row-yes, row-no, row-by, setPin-here, setPin-there, setRow-here, setRow-there}
 use Rattle.connectivity.specs.Laid.{Net}
 use Rattle.connectivity.specs.Law.{stands-ext}
 use Rattle.connectivity.specs.Set.{Frame, Seen, Sets, Set, frame-kept, kept-trans}
-use Rattle.levels.specs.World.{setRow, setRow-here, setRow-there}
 
 -- what `contract_net` needs
 pub record ContractNetNeeds (weights counts visited pins blocks bits : List ℕ) (gains : List ℤ) (n m k first p e u v : ℕ) : Type 0 where

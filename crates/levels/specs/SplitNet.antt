@@ -14,12 +14,11 @@ use Rattle.laws.specs.Occurrence.{occ, In, occ-at, occ-in}
 use Rattle.laws.specs.Place.{place, place-at, place-off}
 use Rattle.model.specs.Measure.{Contraction}
 use Rattle.connectivity.specs.Listed.{has, vertexAt, has-in, has-yes, has-no, has-same}
-use Rattle.connectivity.specs.Matrix.{setPin, Stands, Kept}
-use Rattle.connectivity.specs.Row.{row, row-yes, row-no, row-by, setPin-here, setPin-there}
+use Rattle.connectivity.specs.Matrix.{setPin, setRow, Stands, Kept}
+use Rattle.connectivity.specs.Row.{row, row-yes, row-no, row-by, setPin-here, setPin-there, setRow-here, setRow-there}
 use Rattle.connectivity.specs.Laid.{Net}
 use Rattle.connectivity.specs.Law.{stands-ext}
 use Rattle.connectivity.specs.Set.{Frame, Seen, Sets, Set, frame-kept, kept-trans}
-use Rattle.levels.specs.World.{setRow, setRow-here, setRow-there}
 use Rattle.pins.specs.Stack.{present, present-on, present-gone, present-into, present-other}
 use Rattle.pins.specs.Stretch.{Stretch, stretch-distinct}
 use Rattle.pins.specs.Board.{join}

@@ -2,18 +2,16 @@
 -- connectivity's Set.
 use Prim.Native.Nat.{ℕ, _+_, _-_, _<_, _≤_}
 use mathlib.Core.Path.{_≡_, refl, sym, ap, _∙_}
-use mathlib.Core.Bool.{true, false, cond}
+use mathlib.Core.Bool.{true, false}
 use mathlib.Core.List.{List}
 use native.Mathlib.Omega.{arith}
 use native.Mathlib.Decide.{ℕ-discrete}
-use borrow.Author.Tests.{eq-eqb, ne-eqb}
-use lib.Dec.{eqb}
 use lib.ListN.{length, getD, set, length-set}
 use lib.Seq.{getD-set-same, getD-set-other}
 use lib.IntN.{ℤ}
 use Rattle.connectivity.specs.Listed.{has, in-has, has-ext, vertexAt}
-use Rattle.connectivity.specs.Matrix.{Stands, Kept}
-use Rattle.connectivity.specs.Row.{row, row-no, row-by, row-set}
+use Rattle.connectivity.specs.Matrix.{setRow, Stands, Kept}
+use Rattle.connectivity.specs.Row.{row, row-no, row-by, row-set, setRow-here, setRow-there}
 use Rattle.connectivity.specs.Laid.{Net, net-ext}
 use Rattle.connectivity.specs.Law.{stands-ext}
 use Rattle.connectivity.specs.Set.{Frame, frame-kept}
@@ -33,18 +31,6 @@ pub record World (weights counts visited pins blocks firsts sizes : List ℕ) (g
   pub stands : Stands (mat pins blocks firsts sizes) n m k weights counts visited gains
   pub frame : Frame weights counts visited gains n m k
   pub lists : Lists pins blocks firsts sizes n m k
-
--- the matrix with the row `r` for the net `e`
-unfoldable pub setRow : (ℕ → ℕ → ℕ) → ℕ → (ℕ → ℕ) → ℕ → ℕ → ℕ
-setRow Q e r d = cond (eqb d e) r (Q d)
-
-pub setRow-here : (Q : ℕ → ℕ → ℕ) (e : ℕ) (r : ℕ → ℕ) → setRow Q e r e ≡ r
-unfolding setRow
-setRow-here Q e r = rw (eq-eqb e e refl)
-
-pub setRow-there : (Q : ℕ → ℕ → ℕ) (e : ℕ) (r : ℕ → ℕ) (d : ℕ) → (d ≡ e → ⊥) → setRow Q e r d ≡ Q d
-unfolding setRow
-setRow-there Q e r d ne = rw (ne-eqb d e ne)
 
 -- the stretch of the net e, which begins at f, becomes one of r pins; the other nets' stretches stand as they stood
 pub world-net : {weights cs cs′ vs vs′ pins pins′ blocks firsts sizes : List ℕ} {g g′ : List ℤ} {n m k e f p r : ℕ} → e < m → f ≡ getD firsts e 0 → p ≡ getD sizes e 0 → length pins′ ≡ length pins →
