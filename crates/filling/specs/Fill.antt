@@ -1,4 +1,4 @@
--- The tables filled after loading: each net counts its pins one after another, and the bitset gets them. Rests on levels' World.
+-- The tables filled after loading: each net counts its pins, and the bitset gets them. Rests on levels' World.
 use Prim.Native.Nat.{ℕ, _+_, _*_, _-_, _<_, _≤_}
 use mathlib.Core.Path.{_≡_, refl, sym, ap, _∙_}
 use mathlib.Core.List.{List}
@@ -7,16 +7,15 @@ use native.Mathlib.Decide.{ℕ-discrete}
 use lib.ListN.{length, getD}
 use lib.IntN.{ℤ}
 use Rattle.laws.specs.Choice.{one}
-use Rattle.laws.specs.Place.{place, place-at, place-off}
 use Rattle.incidence.specs.On.{on, Changed}
-use Rattle.connectivity.specs.Listed.{has, vertexAt, has-here, has-there, has-empty}
-use Rattle.connectivity.specs.Matrix.{setPin, Stands, Kept}
-use Rattle.connectivity.specs.Row.{row, row-none, row-here, row-there, row-not, setPin-here, setPin-there}
+use Rattle.connectivity.specs.Listed.{has, has-here, has-there, has-empty}
+use Rattle.connectivity.specs.Matrix.{setRow, Stands, Kept}
+use Rattle.connectivity.specs.Row.{row, setRow-here, setRow-there}
 use Rattle.connectivity.specs.Laid.{Net}
 use Rattle.connectivity.specs.Law.{stands-ext}
 use Rattle.connectivity.specs.Empty.{Blank, stands-empty}
-use Rattle.connectivity.specs.Set.{Frame, Seen, Sets, Set, kept-none, kept-trans, frame-kept}
-use Rattle.levels.specs.World.{mat, Lists, World, setRow, setRow-here, setRow-there}
+use Rattle.connectivity.specs.Set.{Frame, kept-none, kept-trans, frame-kept}
+use Rattle.levels.specs.World.{mat, Lists, World}
 
 -- ---- one net
 
@@ -32,103 +31,55 @@ pub record FillsNet (weights counts visited pins blocks bits : List ℕ) (gains 
   pub bare : (x : ℕ) → x < n → on bits x e ≡ 0
   pub e-in : e < m
 
--- what it has done with the first i pins
-pub record FilledNet (weights pins blocks : List ℕ) (n m k first i e : ℕ) (bits bits′ cs cs′ vs vs′ : List ℕ) (g g′ : List ℤ) : Type 0 where
-  pub stands : (Q : ℕ → ℕ → ℕ) → Stands Q n m k weights cs vs g → ((y : ℕ) → y < n → Q e y ≡ 0) → Stands (setRow Q e (row pins blocks first i)) n m k weights cs′ vs′ g′
+-- what it does: whatever matrix the tables stood for, they stand for it with the row of the pin list, and the bitset has the pins
+pub record FilledNet (weights pins blocks : List ℕ) (n m k first p e : ℕ) (bits bits′ cs cs′ vs vs′ : List ℕ) (g g′ : List ℤ) : Type 0 where
+  pub stands : (Q : ℕ → ℕ → ℕ) → Stands Q n m k weights cs vs g → ((y : ℕ) → y < n → Q e y ≡ 0) → Stands (setRow Q e (row pins blocks first p)) n m k weights cs′ vs′ g′
   pub kept : Kept n m k cs cs′ vs vs′ g g′
+  pub marked : (x : ℕ) → x < n → on bits′ x e ≡ one (has pins first p x)
+  pub elsewhere : (x d : ℕ) → d < 1024 → (d ≡ e → ⊥) → on bits′ x d ≡ on bits x d
+  pub bits-len : length bits′ ≡ length bits
+
+-- ---- its pins in the bitset
+
+-- what `mark_pins` needs: the bitset has no pin of the net yet
+pub record MarksPins (pins bits : List ℕ) (n first p e : ℕ) : Type 0 where
+  pub pins-fit : first + p ≤ length pins
+  pub in-range : (j : ℕ) → j < p → (1 ≤ getD pins (first + j) 0) × (getD pins (first + j) 0 ≤ n)
+  pub bits-fit : 16 * n ≤ length bits
+  pub bare : (x : ℕ) → x < n → on bits x e ≡ 0
+  pub e-in : e < 1024
+
+-- what it has done with the first i pins
+pub record MarkedPins (pins : List ℕ) (n first i e : ℕ) (bits bits′ : List ℕ) : Type 0 where
   pub marked : (x : ℕ) → x < n → on bits′ x e ≡ one (has pins first i x)
   pub elsewhere : (x d : ℕ) → d < 1024 → (d ≡ e → ⊥) → on bits′ x d ≡ on bits x d
   pub bits-len : length bits′ ≡ length bits
 
-pub filled-all : {weights pins blocks : List ℕ} {n m k first i p e : ℕ} {bits bits′ cs cs′ vs vs′ : List ℕ} {g g′ : List ℤ} → i ≡ p →
-    FilledNet weights pins blocks n m k first i e bits bits′ cs cs′ vs vs′ g g′ → FilledNet weights pins blocks n m k first p e bits bits′ cs cs′ vs vs′ g g′
-filled-all q c = rw (← q) c
-
-module _ {weights cs₀ vs₀ pins blocks bits₀ : List ℕ} {g₀ : List ℤ} {n m k first p e : ℕ} (o : FillsNet weights cs₀ vs₀ pins blocks bits₀ g₀ n m k first p e) where
-  pub filled-none : FilledNet weights pins blocks n m k first 0 e bits₀ bits₀ cs₀ cs₀ vs₀ vs₀ g₀ g₀
-  filled-none = record {
-    stands = λ Q s z. stands-ext (λ d y l h. by Q z d y h (ℕ-discrete d e)) s;
-    kept = kept-none cs₀ vs₀ g₀;
+module _ {pins bits₀ : List ℕ} {n first p e : ℕ} (o : MarksPins pins bits₀ n first p e) where
+  pub marked-none : MarkedPins pins n first 0 e bits₀ bits₀
+  marked-none = record {
     marked = λ x l. o .bare x l ∙ sym (ap one (has-empty pins first x));
     elsewhere = λ x d l ne. refl;
     bits-len = refl;
   }
-    where
-      by : (Q : ℕ → ℕ → ℕ) → ((y : ℕ) → y < n → Q e y ≡ 0) → (d y : ℕ) → y < n → Dec (d ≡ e) → Q d y ≡ setRow Q e (row pins blocks first 0) d y
-      by Q z d y h (yes q) = rw (q, setRow-here) (z y h ∙ sym (row-none pins blocks first y))
-      by Q z d y h (no q) = ap (λ (r : ℕ → ℕ). r y) (sym (setRow-there Q e (row pins blocks first 0) d q))
 
-  module _ {i q b : ℕ} {cs vs bits : List ℕ} {g : List ℤ} (hi : i < p) (c : FilledNet weights pins blocks n m k first i e bits₀ bits cs₀ cs vs₀ vs g₀ g)
-      (eq : q ≡ getD pins (first + i) 0) (eb : b ≡ getD blocks (q - 1) 0) where
-    pub pin-in : (1 ≤ q) × (q ≤ n)
-    pin-in = omega (arith, eq, o .net .in-range i hi)
+  pub marked-all : {i : ℕ} {bits : List ℕ} → i ≡ p → MarkedPins pins n first i e bits₀ bits → MarkedPins pins n first p e bits₀ bits
+  marked-all q c = rw (← q) c
 
-    pin-at : getD pins (first + i) 0 ≡ q - 1 + 1
-    pin-at = omega (arith, eq, pin-in)
+  module _ {i q : ℕ} {bits : List ℕ} (hi : i < p) (c : MarkedPins pins n first i e bits₀ bits) (eq : q ≡ getD pins (first + i) 0) where
+    pub pin-room : (1 ≤ q) × (16 * q ≤ length bits)
+    pin-room = omega (arith, o .in-range i hi, o .bits-fit, c .bits-len)
 
-    fresh : row pins blocks first i (q - 1) ≡ 0
-    fresh = row-not pins blocks first i (q - 1) (λ j l s. o .net .once j i l hi (s ∙ sym pin-at))
-
-    seen : (Q : ℕ → ℕ → ℕ) → Seen (setRow Q e (row pins blocks first i) e) pins blocks first i n (q - 1) 0
-    seen Q y l = ap (λ (r : ℕ → ℕ). r y) (setRow-here Q e (row pins blocks first i)) ∙ by (ℕ-discrete y (q - 1))
-      where
-        by : Dec (y ≡ q - 1) → row pins blocks first i y ≡ place (row pins blocks first i) (q - 1) 0 y
-        by (yes z) = rw z (fresh ∙ sym (place-at (row pins blocks first i) (q - 1) 0))
-        by (no z) = sym (place-off (row pins blocks first i) (q - 1) 0 y z)
-
-    in-block : (1 ≤ b) × (b ≤ k)
-    in-block =
-        let z : vertexAt pins first i ≡ q - 1 = omega (arith, eq) in
-        omega (arith, eb, o .net .in-blocks i hi, ap (λ (y : ℕ). getD blocks y 0) z)
-
-    pub fill-sets : Sets weights cs vs pins blocks g n m k first i e (q - 1) 0 b
-    fill-sets = record {
-      Q = setRow (o .Q) e (row pins blocks first i);
-      stands = c .stands (o .Q) (o .stands) (o .empty);
-      seen = seen (o .Q);
-      frame = frame-kept (o .frame) (c .kept);
-      net = record {
-        pins-fit = omega (arith, o .net .pins-fit);
-        in-range = λ j l. o .net .in-range j (omega arith);
-        in-blocks = λ j l. o .net .in-blocks j (omega arith);
-        once = λ a d l h. o .net .once a d l (omega arith);
-      };
-      blocks-fit = o .blocks-fit;
-      e-in = o .e-in;
-      x-in = omega (arith, pin-in);
-      a-in = omega arith;
-      b-in = in-block .1;
-    }
-
-    pub filled-more : {cs₁ vs₁ bits₁ : List ℕ} {g₁ : List ℤ} → Set weights pins blocks n m k first i e (q - 1) 0 b cs cs₁ vs vs₁ g g₁ → Changed bits bits₁ (q - 1) e 1 →
-        FilledNet weights pins blocks n m k first (i + 1) e bits₀ bits₁ cs₀ cs₁ vs₀ vs₁ g₀ g₁
-    filled-more {bits₁ = bits₁} t w = record {
-      stands = λ Q s z. stands-ext (λ d y l h. by Q d y (ℕ-discrete d e)) (t .stands (setRow Q e (row pins blocks first i)) (c .stands Q s z) (seen Q));
-      kept = kept-trans (c .kept) (t .kept);
+    pub marked-more : {bits₁ : List ℕ} → Changed bits bits₁ (q - 1) e 1 → MarkedPins pins n first (i + 1) e bits₀ bits₁
+    marked-more {bits₁} w = record {
       marked = λ x l. mark x l (ℕ-discrete x (q - 1));
       elsewhere = λ x d l ne. w .elsewhere x d l (λ a z. ne z) ∙ c .elsewhere x d l ne;
       bits-len = w .len ∙ c .bits-len;
     }
       where
-        at-e : (y : ℕ) → Dec (y ≡ q - 1) → place (row pins blocks first i) (q - 1) b y ≡ row pins blocks first (i + 1) y
-        at-e y (yes z) = rw z (place-at (row pins blocks first i) (q - 1) b ∙ eb ∙ sym (row-here pins blocks first i (q - 1) pin-at))
-        at-e y (no z) = place-off (row pins blocks first i) (q - 1) b y z ∙ sym (row-there pins blocks first i y (λ s. z (omega (arith, s, eq))))
-
-        by : (Q : ℕ → ℕ → ℕ) → (d y : ℕ) → Dec (d ≡ e) → setPin (setRow Q e (row pins blocks first i)) e (q - 1) b d y ≡ setRow Q e (row pins blocks first (i + 1)) d y
-        by Q d y (yes z) = rw z (
-            ap (λ (r : ℕ → ℕ). r y) (setPin-here (setRow Q e (row pins blocks first i)) e (q - 1) b)
-            ∙ ap (λ (r : ℕ → ℕ). place r (q - 1) b y) (setRow-here Q e (row pins blocks first i))
-            ∙ at-e y (ℕ-discrete y (q - 1))
-            ∙ ap (λ (r : ℕ → ℕ). r y) (sym (setRow-here Q e (row pins blocks first (i + 1)))))
-        by Q d y (no z) = ap (λ (r : ℕ → ℕ). r y) (
-            setPin-there (setRow Q e (row pins blocks first i)) e (q - 1) b d z
-            ∙ setRow-there Q e (row pins blocks first i) d z
-            ∙ sym (setRow-there Q e (row pins blocks first (i + 1)) d z))
-
         mark : (x : ℕ) → x < n → Dec (x ≡ q - 1) → on bits₁ x e ≡ one (has pins first (i + 1) x)
-        mark x l (yes z) = rw z (w .here ∙ sym (ap one (has-here pins first i (q - 1) pin-at)))
-        mark x l (no z) = w .elsewhere x e (omega (arith, o .e-in, o .frame .few-nets)) (λ a s. z a) ∙ c .marked x l
-            ∙ ap one (sym (has-there pins first i x (λ s. z (omega (arith, s, eq)))))
+        mark x l (yes z) = rw z (w .here ∙ sym (ap one (has-here pins first i (q - 1) (omega (arith, eq, pin-room)))))
+        mark x l (no z) = w .elsewhere x e (o .e-in) (λ a s. z a) ∙ c .marked x l ∙ ap one (sym (has-there pins first i x (λ s. z (omega (arith, s, eq)))))
 
 -- ---- all nets
 

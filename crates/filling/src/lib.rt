@@ -5,12 +5,12 @@ mod clear;
 
 ghost use Prim.Native.Nat.{_+_, _<_};
 ghost use mathlib.Core.Path.{_≡_};
-ghost use Rattle.filling.specs.Fill.{FillsNet, FilledNet, Fills, Filled};
+ghost use Rattle.filling.specs.Fill.{FillsNet, FilledNet, MarksPins, MarkedPins, Fills, Filled};
 ghost use Rattle.filling.specs.Prepare.{Prepares, Prepared};
 use clear::clear_counts;
 use clear::clear_gains;
 use clear::clear_row;
-use connectivity::set_pin;
+use connectivity::whole::fill_pins;
 use incidence::put;
 
 // A table's number as an index.
@@ -18,6 +18,19 @@ fn index(x: u16) -> usize
     ensures { λ r. ⌜ r ≡ x ⌝ }
 {
     x as usize
+}
+
+// Puts the `p` pins from `first` into the bitset, as pins of the net `e`.
+fn mark_pins(bits: &mut [u64], pins: &[u16], n: usize, first: usize, p: usize, e: usize)
+    requires { ⌜ MarksPins (now pins) (now bits) n first p e ⌝ }
+    ensures { λ _. ⌜ MarkedPins (now (pins .entry)) n first p e (now (bits .entry)) (now (bits .exit)) ⌝ }
+{
+    let mut i = 0;
+    while i < p {
+        let x = index(pins[first + i]) - 1;
+        put(bits, x, e);
+        i += 1;
+    }
 }
 
 // Counts the `p` pins from `first` in the net `e`, which has none yet, each in its block.
@@ -39,30 +52,21 @@ fn fill_net(
     requires { ⌜ FillsNet (now weights) (now counts) (now visited) (now pins) (now blocks) (now bits) (now gains) n m k first p e ⌝ }
     ensures { λ _. ⌜ FilledNet (now (weights .entry)) (now (pins .entry)) (now (blocks .entry)) n m k first p e (now (bits .entry)) (now (bits .exit)) (now (counts .entry)) (now (counts .exit)) (now (visited .entry)) (now (visited .exit)) (now (gains .entry)) (now (gains .exit)) ⌝ }
 {
-    let mut i = 0;
-    while i < p {
-        let x = index(pins[first + i]) - 1;
-        let b = index(blocks[x]);
-        set_pin(
-            counts,
-            visited,
-            gains,
-            weights,
-            pins,
-            blocks,
-            n,
-            m,
-            k,
-            first,
-            i,
-            e,
-            x,
-            0,
-            b,
-        );
-        put(bits, x, e);
-        i += 1;
-    }
+    fill_pins(
+        counts,
+        visited,
+        gains,
+        weights,
+        pins,
+        blocks,
+        n,
+        m,
+        k,
+        first,
+        p,
+        e,
+    );
+    mark_pins(bits, pins, n, first, p, e);
 }
 
 // Counts the pins of every net. Counts, connectivity sets, gains and bits are blank before.
