@@ -32,7 +32,7 @@ pub fn both(a: bool, b: bool) -> bool
 }
 
 // Whether one holds, with no branch.
-pub fn some(a: bool, b: bool) -> bool
+pub fn either(a: bool, b: bool) -> bool
     ensures { λ r. ⌜ r ≡ (a || b) ⌝ }
 {
     a | b

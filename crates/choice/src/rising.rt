@@ -2,7 +2,7 @@
 // four gains are tested at a time, with no branch between them, and only a candidate that passes is weighed. Vertices and blocks count from 0,
 // a vertex's own block from 1.
 use crate::numbers::both;
-use crate::numbers::some;
+use crate::numbers::either;
 use incidence::next_bit;
 ghost use mathlib.Core.Path.{_≡_};
 ghost use mathlib.Core.Bool.{false};
@@ -79,12 +79,12 @@ fn four_rise(
     requires { ⌜ (row + 16 ≤ length (now gains)) × (b < 13) ⌝ }
     ensures { λ r. ⌜ (r ≡ false → (j : ℕ) → b ≤ j → j < b + 4 → Sunk (now (gains .entry)) (now (rooms .entry)) row low weight own j) ⌝ }
 {
-    some(
-        some(
+    either(
+        either(
             may_rise(gains, rooms, row, b, low, weight, own),
             may_rise(gains, rooms, row, b + 1, low, weight, own),
         ),
-        some(
+        either(
             may_rise(gains, rooms, row, b + 2, low, weight, own),
             may_rise(gains, rooms, row, b + 3, low, weight, own),
         ),

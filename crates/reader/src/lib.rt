@@ -52,7 +52,7 @@ pub fn read_calls(s: &[u8], at: usize, n: usize, calls: &mut [u32]) -> Ended
         if c == 512 {
             return Ended::Stop(7, n + c);
         }
-        let e = text::find(s, i, len, 10);
+        let e = text::line_end(s, i, len);
         if e == len {
             return Ended::Stop(2, n + c);
         }
@@ -89,7 +89,7 @@ pub fn read_vertices(
     let mut i = at;
     let mut k: usize = 0;
     while k < vertices {
-        let e = text::find(s, i, len, 10);
+        let e = text::line_end(s, i, len);
         if e == len {
             return Ended::Stop(2, k + 2);
         }
@@ -129,7 +129,7 @@ pub fn read_nets(
     let mut j: usize = 0;
     let mut m: usize = 0;
     while j < nets {
-        let e = text::find(s, i, len, 10);
+        let e = text::line_end(s, i, len);
         if e == len {
             return Nets::Cut(2, base + j);
         }
@@ -354,7 +354,7 @@ pub fn read(
     if 60000 < len {
         return Outcome::Refused(1, 0);
     }
-    let e = text::find(s, 0, len, 10);
+    let e = text::line_end(s, 0, len);
     if e == len {
         return Outcome::Refused(2, 1);
     }

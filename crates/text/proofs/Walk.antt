@@ -2,7 +2,8 @@
 use Prim.Native.Nat.{ℕ, zero, suc, _+_, _-_, _≤_, _<_}
 use mathlib.Core.Path.{_≡_, refl, ap, sym, _∙_}
 use mathlib.Core.List.{List, [], _∷_}
-use mathlib.Core.Bool.{Bool, true, false, cond}
+use mathlib.Core.Bool.{Bool, true, false, _||_, cond, true≢false}
+use native.Mathlib.Decide.{ℕ-discrete}
 use native.Mathlib.Omega.{arith}
 use native.Mathlib.Numerals.{add-one}
 use native.Mathlib.Nat.{zero-add, suc-add}
@@ -11,7 +12,7 @@ use lib.Seq.{slice, slice-cons, slice-empty, length-slice, take-nil, take-take, 
 use lib.Dec.{eqb}
 use borrow.Author.Tests.{eq-eqb, ne-eqb}
 use Rattle.model.specs.Grammar.{onto, parts}
-use Rattle.text.specs.Field.{first}
+use Rattle.text.specs.Field.{first, FirstAt, Without}
 
 module _ (s : List ℕ) (i end : ℕ) (lt : i < end) (within : end ≤ length s) where
   pub slice-at : slice i end s ≡ getD s i 0 ∷ slice (i + 1) end s
@@ -22,6 +23,31 @@ module _ (s : List ℕ) (i end : ℕ) (lt : i < end) (within : end ≤ length s)
 
   pub first-on : (sep : ℕ) → (getD s i 0 ≡ sep → ⊥) → first sep (slice i end s) ≡ suc (first sep (slice (i + 1) end s))
   first-on sep e = rw (slice-at, ne-eqb _ _ e)
+
+-- one byte more is tested
+pub without-more : (s : List ℕ) (at j b : ℕ) (found : Bool) {r : Bool} → r ≡ (found || eqb (getD s (at + j) 0) b) → (found ≡ false → Without s at j b) → r ≡ false → Without s at (j + 1) b
+without-more s at j b found e h z i l q = go (ℕ-discrete i j) (either-false found (eqb (getD s (at + j) 0) b) (sym e ∙ z))
+  where
+    either-false : (x y : Bool) → (x || y) ≡ false → (x ≡ false) × (y ≡ false)
+    either-false true y p = absurd (true≢false p)
+    either-false false y p = (refl, p)
+
+    go : Dec (i ≡ j) → (found ≡ false) × (eqb (getD s (at + j) 0) b ≡ false) → ⊥
+    go (yes k) f = true≢false (sym (eq-eqb _ _ (ap (λ (n : ℕ). getD s (at + n) 0) (sym k) ∙ q)) ∙ f .1)
+    go (no k) f = h (f .0) i (omega arith) q
+
+-- bytes that are no separator are passed over
+pub first-past : (s : List ℕ) (n i end sep : ℕ) → i + n ≤ end → end ≤ length s → Without s i n sep → first sep (slice i end s) ≡ n + first sep (slice (i + n) end s)
+first-past s zero i end sep h within w = let e : i ≡ i + 0 = omega arith in omega (arith, ap (λ (k : ℕ). first sep (slice k end s)) e)
+first-past s (suc n) i end sep h within w =
+    let here : getD s i 0 ≡ sep → ⊥ = λ q. let e : i + 0 ≡ i = omega arith in w 0 (omega arith) (ap (λ (k : ℕ). getD s k 0) e ∙ q) in
+    let past = first-past s n (i + 1) end sep (omega arith) within (λ j l q. let e : i + suc j ≡ i + 1 + j = omega arith in w (suc j) (omega arith) (ap (λ (k : ℕ). getD s k 0) e ∙ q)) in
+    let e : i + 1 + n ≡ i + suc n = omega arith in
+    omega (arith, first-on s i end (omega arith) within sep here, past, ap (λ (k : ℕ). first sep (slice k end s)) e)
+
+-- the first separator from `at` on is the first from i on
+pub first-from : (s : List ℕ) (at i end sep r : ℕ) → at ≤ i → at + first sep (slice at end s) ≡ i + first sep (slice i end s) → FirstAt s i end sep r → FirstAt s at end sep r
+first-from s at i end sep r l e f = record { is = f .is ∙ sym e; low = omega (arith, f .low); high = f .high }
 
 pub first-none : (s : List ℕ) (i end sep : ℕ) → i ≡ end → first sep (slice i end s) ≡ 0
 first-none s i end sep e = rw (e, slice-empty)

@@ -20,6 +20,10 @@ pub record FirstAt (s : List ℕ) (at end sep r : ℕ) : Type 0 where
   pub low : at ≤ r
   pub high : r ≤ end
 
+-- none of the n bytes of s from `at` on is b
+abbrev pub Without : List ℕ → ℕ → ℕ → ℕ → Type 0
+Without s at n b = (j : ℕ) → j < n → getD s (at + j) 0 ≡ b → ⊥
+
 -- how many digits stand before the first element that is none
 abbrev pub run : List ℕ → ℕ
 run [] = zero

@@ -1,11 +1,12 @@
 // Fields, lines and numbers of a sale file, and numbers written into a buffer. Each function is proved against a definition of model.
 ghost use mathlib.Core.Path.{_≡_};
+ghost use mathlib.Core.Bool.{false, _||_};
 ghost use Prim.Native.Nat.{_+_, _-_, _≤_, _<_};
 ghost use lib.ListN.{length};
 ghost use lib.Seq.{slice};
 ghost use Rattle.model.specs.Grammar.{same, parts, fields, at as fieldAt};
 ghost use Rattle.model.specs.Report.{digits, signed};
-ghost use Rattle.text.specs.Field.{FirstAt, DigitsEnd, NumberEnd, FieldRead, counted, formOf, Numbered, Third};
+ghost use Rattle.text.specs.Field.{FirstAt, Without, DigitsEnd, NumberEnd, FieldRead, counted, formOf, Numbered, Third};
 ghost use Rattle.text.specs.Output.{written, signOf};
 
 // A number, and where its field ends.
@@ -33,6 +34,42 @@ pub fn find(s: &[u8], at: usize, end: usize, sep: u8) -> usize
         i += 1;
     }
     i
+}
+
+// Whether one of two tests holds, with no branch.
+fn either(a: bool, b: bool) -> bool
+    ensures { λ r. ⌜ r ≡ (a || b) ⌝ }
+{
+    a | b
+}
+
+// Whether one of the 16 bytes from `at` on is `b`. All are tested, with no branch between them, so that the compiler tests them at once.
+fn sixteen_have(s: &[u8], at: usize, b: u8) -> bool
+    requires { ⌜ at + 16 ≤ length (now s) ⌝ }
+    ensures { λ r. ⌜ (r ≡ false → Without (now (s .entry)) at 16 b) ⌝ }
+{
+    let mut found = false;
+    let mut j: usize = 0;
+    while j < 16 {
+        found = either(found, s[at + j] == b);
+        j += 1;
+    }
+    found
+}
+
+// Where the line from `at` on ends: the first line feed before `end`, or `end`. A line may be long, so 16 bytes at a time are passed over.
+pub fn line_end(s: &[u8], at: usize, end: usize) -> usize
+    requires { ⌜ (at ≤ end) × (end ≤ length (now s)) ⌝ }
+    ensures { λ r. ⌜ FirstAt (now (s .entry)) at end 10 r ⌝ }
+{
+    let mut i = at;
+    while 16 <= end - i {
+        if sixteen_have(s, i, 10) {
+            return find(s, i, end, 10);
+        }
+        i += 16;
+    }
+    find(s, i, end, 10)
 }
 
 // The first byte at or after `at` and before `end` that is no digit, or `end`.

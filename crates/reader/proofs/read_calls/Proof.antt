@@ -30,8 +30,8 @@ same-length c = c .before .before .loop .inv .same
 returns : tie.Need-returns Inv-loop μ-loop
 returns c = let a = c .before .before .before .before .before .args in let l = c .before .before .loop in calls-full (now (a .s)) (a .at) (a .n) (now (a .calls)) (l .calls) (l .i) (l .c) (l .inv) (omega arith) (c .if1 .taken)
 
-find-requires : tie.Need-find-requires Inv-loop μ-loop
-find-requires c κs = search needs
+line-end-requires : tie.Need-line-end-requires Inv-loop μ-loop
+line-end-requires c κs = search needs
 
 add-t15 : tie.Need-add-t15 Inv-loop μ-loop
 add-t15 c = omega arith
@@ -40,7 +40,7 @@ same-length-2 : tie.Need-same-length-2 Inv-loop μ-loop
 same-length-2 c = c .before .before .before .before .loop .inv .same
 
 returns-2 : tie.Need-returns-2 Inv-loop μ-loop
-returns-2 c = let a = c .before .before .before .before .before .before .before .args in let l = c .before .before .before .before .loop in calls-unended (now (a .s)) (a .at) (a .n) (now (a .calls)) (l .calls) (l .i) (l .c) (l .inv) (omega arith) (c .before .find .result) (c .before .find .ensures) (omega arith) (omega arith)
+returns-2 c = let a = c .before .before .before .before .before .before .before .args in let l = c .before .before .before .before .loop in calls-unended (now (a .s)) (a .at) (a .n) (now (a .calls)) (l .calls) (l .i) (l .c) (l .inv) (omega arith) (c .before .line-end .result) (c .before .line-end .ensures) (omega arith) (omega arith)
 
 call-line-requires : tie.Need-call-line-requires Inv-loop μ-loop
 call-line-requires c κs = search needs
@@ -55,7 +55,7 @@ same-length-3 : tie.Need-same-length-3 Inv-loop μ-loop
 same-length-3 c = c .before .before .before .before .before .before .before .loop .inv .same
 
 returns-3 : tie.Need-returns-3 Inv-loop μ-loop
-returns-3 c = let a = c .before .before .before .before .before .before .before .before .before .before .args in let l = c .before .before .before .before .before .before .before .loop in calls-bad (now (a .s)) (a .at) (a .n) (now (a .calls)) (l .calls) (l .i) (l .c) (l .inv) (omega arith) (c .before .before .before .before .find .result) (c .before .before .before .before .find .ensures) (omega arith) (omega arith) (subst (CallRead (fields (slice (l .i) (c .before .before .before .before .find .result) (now (a .s))))) (c .enum-told .given .1) (c .before .before .call-line .ensures))
+returns-3 c = let a = c .before .before .before .before .before .before .before .before .before .before .args in let l = c .before .before .before .before .before .before .before .loop in calls-bad (now (a .s)) (a .at) (a .n) (now (a .calls)) (l .calls) (l .i) (l .c) (l .inv) (omega arith) (c .before .before .before .before .line-end .result) (c .before .before .before .before .line-end .ensures) (omega arith) (omega arith) (subst (CallRead (fields (slice (l .i) (c .before .before .before .before .line-end .result) (now (a .s))))) (c .enum-told .given .1) (c .before .before .call-line .ensures))
 
 enum-known-k : tie.Need-enum-known-k Inv-loop μ-loop
 enum-known-k c = search needs
@@ -97,7 +97,7 @@ loop-less : tie.Need-loop-less Inv-loop μ-loop
 loop-less c = omega arith
 
 loop-again : tie.Need-loop-again Inv-loop μ-loop
-loop-again c = let a = c .before .before .before .before .before .before .before .before .before .before .before .args in let l = c .before .before .before .before .before .before .before .before .loop in calls-on (now (a .s)) (a .at) (a .n) (now (a .calls)) (l .calls) (l .i) (l .c) (l .inv) (omega arith) (c .before .before .before .before .before .find .result) (c .before .before .before .before .before .find .ensures) (omega arith) (omega arith) (c .before .k .given .0 .0) (c .before .k .given .0 .1 .0) (c .before .k .given .0 .1 .1 .0) (subst (CallRead (fields (slice (l .i) (c .before .before .before .before .before .find .result) (now (a .s))))) (c .before .k .given .1) (c .before .before .before .call-line .ensures))
+loop-again c = let a = c .before .before .before .before .before .before .before .before .before .before .before .args in let l = c .before .before .before .before .before .before .before .before .loop in calls-on (now (a .s)) (a .at) (a .n) (now (a .calls)) (l .calls) (l .i) (l .c) (l .inv) (omega arith) (c .before .before .before .before .before .line-end .result) (c .before .before .before .before .before .line-end .ensures) (omega arith) (omega arith) (c .before .k .given .0 .0) (c .before .k .given .0 .1 .0) (c .before .k .given .0 .1 .1 .0) (subst (CallRead (fields (slice (l .i) (c .before .before .before .before .before .line-end .result) (now (a .s))))) (c .before .k .given .1) (c .before .before .before .call-line .ensures))
 
 same-length-4 : tie.Need-same-length-4 Inv-loop μ-loop
 same-length-4 c = c .before .loop .inv .same
@@ -115,7 +115,7 @@ read-calls-spec =
     add-t14
     same-length
     returns
-    find-requires
+    line-end-requires
     add-t15
     same-length-2
     returns-2

@@ -22,8 +22,8 @@ loop-holds c =
     let start = c .before .before .before .before in
     let a = start .args in buys-start (now (a .s)) (a .at) (a .vertices) (a .nets) (now (a .costs)) (now (a .firsts)) (now (a .sizes)) (now (a .pins)) (now (a .stamps)) (start .pre)
 
-find-requires : tie.Need-find-requires Inv-loop μ-loop
-find-requires c κs = (omega arith, omega arith)
+line-end-requires : tie.Need-line-end-requires Inv-loop μ-loop
+line-end-requires c κs = (omega arith, omega arith)
 
 add-t21 : tie.Need-add-t21 Inv-loop μ-loop
 add-t21 c = omega arith
@@ -38,7 +38,7 @@ same-length-3 : tie.Need-same-length-3 Inv-loop μ-loop
 same-length-3 c = c .before .before .before .loop .inv .m-same
 
 returns : tie.Need-returns Inv-loop μ-loop
-returns c = let a = c .before .before .before .before .before .before .before .before .args in let l = c .before .before .before .loop in buys-none (now (a .s)) (a .at) (a .vertices) (a .nets) (now (a .firsts)) (now (a .sizes)) (now (a .pins)) (l .costs) (l .firsts) (l .sizes) (l .pins) (l .stamps) (l .i) (l .j) (l .m) (l .inv) (omega arith) (c .before .find .result) (c .before .find .ensures) (omega arith)
+returns c = let a = c .before .before .before .before .before .before .before .before .args in let l = c .before .before .before .loop in buys-none (now (a .s)) (a .at) (a .vertices) (a .nets) (now (a .firsts)) (now (a .sizes)) (now (a .pins)) (l .costs) (l .firsts) (l .sizes) (l .pins) (l .stamps) (l .i) (l .j) (l .m) (l .inv) (omega arith) (c .before .line-end .result) (c .before .line-end .ensures) (omega arith)
 
 add-buy-line : tie.Need-add-buy-line Inv-loop μ-loop
 add-buy-line c = omega arith
@@ -72,7 +72,7 @@ same-length-6 c =
     at-buy-line .buy-line .ensures .len ∙ at-loop .loop .inv .m-same
 
 returns-2 : tie.Need-returns-2 Inv-loop μ-loop
-returns-2 c = let a = c .before .before .before .before .before .before .before .before .before .before .before .before .before .before .before .before .args in let l = c .before .before .before .before .before .before .before .before .before .before .before .loop in buys-stop (now (a .s)) (a .at) (a .vertices) (a .nets) (now (a .firsts)) (now (a .sizes)) (now (a .pins)) (l .costs) (l .firsts) (l .sizes) (l .pins) (l .stamps) (l .i) (l .j) (l .m) (l .inv) (omega arith) (c .before .before .before .before .before .before .before .before .before .find .result) (c .before .before .before .before .before .before .before .before .before .find .ensures) (omega arith) (c .before .before .before .before .before .buy-line .result) (c .before .before .before .before .before .buy-line .last .1 .1 .1 .1 .1 .1 .0) (c .before .before .before .before .before .buy-line .last .1 .1 .1 .1 .1 .1 .1 .0) (c .before .before .before .before .before .buy-line .ensures) (c .before .q .given .0 .0) (c .before .q .given .1)
+returns-2 c = let a = c .before .before .before .before .before .before .before .before .before .before .before .before .before .before .before .before .args in let l = c .before .before .before .before .before .before .before .before .before .before .before .loop in buys-stop (now (a .s)) (a .at) (a .vertices) (a .nets) (now (a .firsts)) (now (a .sizes)) (now (a .pins)) (l .costs) (l .firsts) (l .sizes) (l .pins) (l .stamps) (l .i) (l .j) (l .m) (l .inv) (omega arith) (c .before .before .before .before .before .before .before .before .before .line-end .result) (c .before .before .before .before .before .before .before .before .before .line-end .ensures) (omega arith) (c .before .before .before .before .before .buy-line .result) (c .before .before .before .before .before .buy-line .last .1 .1 .1 .1 .1 .1 .0) (c .before .before .before .before .before .buy-line .last .1 .1 .1 .1 .1 .1 .1 .0) (c .before .before .before .before .before .buy-line .ensures) (c .before .q .given .0 .0) (c .before .q .given .1)
 
 enum-known-w : tie.Need-enum-known-w Inv-loop μ-loop
 enum-known-w c = search needs
@@ -114,7 +114,7 @@ loop-less : tie.Need-loop-less Inv-loop μ-loop
 loop-less c = omega arith
 
 loop-again : tie.Need-loop-again Inv-loop μ-loop
-loop-again c = let a = c .before .before .before .before .before .before .before .before .before .before .before .before .before .before .before .before .args in let l = c .before .before .before .before .before .before .before .before .before .before .before .loop in buys-on (now (a .s)) (a .at) (a .vertices) (a .nets) (now (a .firsts)) (now (a .sizes)) (now (a .pins)) (l .costs) (l .firsts) (l .sizes) (l .pins) (l .stamps) (l .i) (l .j) (l .m) (l .inv) (omega arith) (c .before .before .before .before .before .before .before .before .before .find .result) (c .before .before .before .before .before .before .before .before .before .find .ensures) (omega arith) (c .before .before .before .before .before .buy-line .result) (c .before .before .before .before .before .buy-line .last .1 .1 .1 .1 .1 .1 .0) (c .before .before .before .before .before .buy-line .last .1 .1 .1 .1 .1 .1 .1 .0) (c .before .before .before .before .before .buy-line .ensures) (c .before .w .given .0 .0) (c .before .w .given .0 .1 .0) (c .before .w .given .1)
+loop-again c = let a = c .before .before .before .before .before .before .before .before .before .before .before .before .before .before .before .before .args in let l = c .before .before .before .before .before .before .before .before .before .before .before .loop in buys-on (now (a .s)) (a .at) (a .vertices) (a .nets) (now (a .firsts)) (now (a .sizes)) (now (a .pins)) (l .costs) (l .firsts) (l .sizes) (l .pins) (l .stamps) (l .i) (l .j) (l .m) (l .inv) (omega arith) (c .before .before .before .before .before .before .before .before .before .line-end .result) (c .before .before .before .before .before .before .before .before .before .line-end .ensures) (omega arith) (c .before .before .before .before .before .buy-line .result) (c .before .before .before .before .before .buy-line .last .1 .1 .1 .1 .1 .1 .0) (c .before .before .before .before .before .buy-line .last .1 .1 .1 .1 .1 .1 .1 .0) (c .before .before .before .before .before .buy-line .ensures) (c .before .w .given .0 .0) (c .before .w .given .0 .1 .0) (c .before .w .given .1)
 
 same-length-7 : tie.Need-same-length-7 Inv-loop μ-loop
 same-length-7 c = c .before .loop .inv .f-same
@@ -136,7 +136,7 @@ read-nets-spec =
     μ-loop
     add-base
     loop-holds
-    find-requires
+    line-end-requires
     add-t21
     same-length
     same-length-2

@@ -16,8 +16,8 @@ abbrev μ-loop : tie.MeasureT-loop
 loop-holds : tie.Need-loop-holds Inv-loop μ-loop
 loop-holds c = let a = c .before .before .before .args in lots-start (now (a .s)) (a .at) (a .vertices) (a .blocks) (now (a .weights)) (now (a .draft)) (omega arith) (omega arith) (omega arith) (c .before .before .before .pre .3) (c .before .before .before .pre .4)
 
-find-requires : tie.Need-find-requires Inv-loop μ-loop
-find-requires c κs = search needs
+line-end-requires : tie.Need-line-end-requires Inv-loop μ-loop
+line-end-requires c κs = search needs
 
 add-t15 : tie.Need-add-t15 Inv-loop μ-loop
 add-t15 c = omega arith
@@ -29,7 +29,7 @@ same-length-2 : tie.Need-same-length-2 Inv-loop μ-loop
 same-length-2 c = c .before .before .before .loop .inv .d-same
 
 returns : tie.Need-returns Inv-loop μ-loop
-returns c = let a = c .before .before .before .before .before .before .before .args in let l = c .before .before .before .loop in lots-none (now (a .s)) (a .at) (a .vertices) (a .blocks) (now (a .weights)) (now (a .draft)) (l .weights) (l .draft) (l .i) (l .k) (l .inv) (omega arith) (c .before .find .result) (c .before .find .ensures) (omega arith)
+returns c = let a = c .before .before .before .before .before .before .before .args in let l = c .before .before .before .loop in lots-none (now (a .s)) (a .at) (a .vertices) (a .blocks) (now (a .weights)) (now (a .draft)) (l .weights) (l .draft) (l .i) (l .k) (l .inv) (omega arith) (c .before .line-end .result) (c .before .line-end .ensures) (omega arith)
 
 lot-line-requires : tie.Need-lot-line-requires Inv-loop μ-loop
 lot-line-requires c κs = search needs
@@ -47,7 +47,7 @@ same-length-4 : tie.Need-same-length-4 Inv-loop μ-loop
 same-length-4 c = c .before .before .before .before .before .before .before .loop .inv .d-same
 
 returns-2 : tie.Need-returns-2 Inv-loop μ-loop
-returns-2 c = let a = c .before .before .before .before .before .before .before .before .before .before .before .args in let l = c .before .before .before .before .before .before .before .loop in lots-stop (now (a .s)) (a .at) (a .vertices) (a .blocks) (now (a .weights)) (now (a .draft)) (l .weights) (l .draft) (l .i) (l .k) (l .inv) (omega arith) (c .before .before .before .before .before .find .result) (c .before .before .before .before .before .find .ensures) (omega arith) (c .before .before .before .lot-line .result) (c .before .before .before .lot-line .ensures) (c .before .q .given .0 .0) (c .before .q .given .1)
+returns-2 c = let a = c .before .before .before .before .before .before .before .before .before .before .before .args in let l = c .before .before .before .before .before .before .before .loop in lots-stop (now (a .s)) (a .at) (a .vertices) (a .blocks) (now (a .weights)) (now (a .draft)) (l .weights) (l .draft) (l .i) (l .k) (l .inv) (omega arith) (c .before .before .before .before .before .line-end .result) (c .before .before .before .before .before .line-end .ensures) (omega arith) (c .before .before .before .lot-line .result) (c .before .before .before .lot-line .ensures) (c .before .q .given .0 .0) (c .before .q .given .1)
 
 enum-known-w : tie.Need-enum-known-w Inv-loop μ-loop
 enum-known-w c = search needs
@@ -74,7 +74,7 @@ loop-less : tie.Need-loop-less Inv-loop μ-loop
 loop-less c = omega arith
 
 loop-again : tie.Need-loop-again Inv-loop μ-loop
-loop-again c = let a = c .before .before .before .before .before .before .before .before .before .before .before .args in let l = c .before .before .before .before .before .before .before .loop in lots-on (now (a .s)) (a .at) (a .vertices) (a .blocks) (now (a .weights)) (now (a .draft)) (l .weights) (l .draft) (l .i) (l .k) (l .inv) (omega arith) (c .before .before .before .before .before .find .result) (c .before .before .before .before .before .find .ensures) (omega arith) (c .before .before .before .lot-line .result) (c .before .before .before .lot-line .ensures) (c .before .w .given .0 .0) (c .before .w .given .0 .1 .0) (c .before .w .given .1)
+loop-again c = let a = c .before .before .before .before .before .before .before .before .before .before .before .args in let l = c .before .before .before .before .before .before .before .loop in lots-on (now (a .s)) (a .at) (a .vertices) (a .blocks) (now (a .weights)) (now (a .draft)) (l .weights) (l .draft) (l .i) (l .k) (l .inv) (omega arith) (c .before .before .before .before .before .line-end .result) (c .before .before .before .before .before .line-end .ensures) (omega arith) (c .before .before .before .lot-line .result) (c .before .before .before .lot-line .ensures) (c .before .w .given .0 .0) (c .before .w .given .0 .1 .0) (c .before .w .given .1)
 
 same-length-5 : tie.Need-same-length-5 Inv-loop μ-loop
 same-length-5 c = c .before .loop .inv .w-same
@@ -92,7 +92,7 @@ read-vertices-spec =
     Inv-loop
     μ-loop
     loop-holds
-    find-requires
+    line-end-requires
     add-t15
     same-length
     same-length-2

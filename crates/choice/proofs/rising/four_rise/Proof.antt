@@ -18,8 +18,8 @@ add-may-rise c = search needs
 may-rise-requires-2 : tie.Need-may-rise-requires-2
 may-rise-requires-2 c κs = search needs
 
-some-requires : tie.Need-some-requires
-some-requires c κs = search needs
+either-requires : tie.Need-either-requires
+either-requires c κs = search needs
 
 add-may-rise-2 : tie.Need-add-may-rise-2
 add-may-rise-2 c = search needs
@@ -33,11 +33,11 @@ add-may-rise-3 c = search needs
 may-rise-requires-4 : tie.Need-may-rise-requires-4
 may-rise-requires-4 c κs = search needs
 
-some-requires-2 : tie.Need-some-requires-2
-some-requires-2 c κs = search needs
+either-requires-2 : tie.Need-either-requires-2
+either-requires-2 c κs = search needs
 
-some-requires-3 : tie.Need-some-requires-3
-some-requires-3 c κs = search needs
+either-requires-3 : tie.Need-either-requires-3
+either-requires-3 c κs = search needs
 
 returns : tie.Need-returns
 returns c =
@@ -47,7 +47,7 @@ returns c =
     let a = start .args in
     λ e j l u. subst (λ (z : ℤ). Sunk (now (a .gains)) (now (a .rooms)) (a .row) z (a .weight) (a .own) j) (read32 (a .low) (start .fits .low .sfits))
     (sunk-four (now (a .gains)) (now (a .rooms)) (a .row) _ (a .weight) (a .own) (a .b) (at-two .before .may-rise .ensures) (at-two .may-rise2 .ensures) (at-four .before .may-rise3 .ensures) (at-four .may-rise4 .ensures)
-    (at-four .before .before .some .ensures) (c .before .some2 .ensures) (c .some3 .ensures) e j l u)
+    (at-four .before .before .either .ensures) (c .before .either2 .ensures) (c .either3 .ensures) e j l u)
 
 pub four-rise-spec : {M : Type 1} → statement M
 four-rise-spec =
@@ -56,11 +56,11 @@ four-rise-spec =
     may-rise-requires
     add-may-rise
     may-rise-requires-2
-    some-requires
+    either-requires
     add-may-rise-2
     may-rise-requires-3
     add-may-rise-3
     may-rise-requires-4
-    some-requires-2
-    some-requires-3
+    either-requires-2
+    either-requires-3
     returns)
