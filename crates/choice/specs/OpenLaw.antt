@@ -13,7 +13,7 @@ use lib.Signed.{mag, ltZ}
 use mir.Syntax.{w32, w64}
 use mir.Val.{SFits, ofZ, toZ}
 use mir.Facts.{toZ-ofZ}
-use borrow.Author.Tests.{lt-ltb, le-leb, lt-leb, leb-true, leb-false, eq-eqb, ne-eqb}
+use borrow.Author.Tests.{lt-ltb, le-leb, lt-leb, leb-true, leb-false, eq-eqb}
 use Rattle.laws.specs.Sum.{foldTo, foldTo-zero, foldTo-step, foldTo-skip}
 use Rattle.model.specs.Search.{Best, none, best, better, consider, bestPair}
 use Rattle.guarantees.specs.Tops.{Top, best-top}

@@ -10,14 +10,14 @@ use native.Mathlib.Omega.{arith}
 use lib.Dec.{leb, eqb}
 use lib.ListN.{length, getD, set, length-set}
 use lib.Seq.{getD-set-same, getD-set-other}
-use lib.IntN.{ℤ, pos, negsuc, natAbs, _+ℤ_}
+use lib.IntN.{ℤ, pos, negsuc, _+ℤ_}
 use lib.Signed.{mag, ltZ, leZ}
 use mir.Syntax.{w32, w64}
 use mir.Val.{SFits, ofZ, toZ}
-use borrow.Author.Tests.{ltb-true, ltb-false, leb-true, leb-false, le-leb, eqb-true}
+use borrow.Author.Tests.{leb-true, leb-false, le-leb, eqb-true}
 use Rattle.laws.specs.Bit.{bit}
-use Rattle.laws.specs.Choice.{and-left, and-right}
-use Rattle.laws.specs.Integer.{up, dn, add-is, pos-is, abs-is, one-zero, read32}
+use Rattle.laws.specs.Choice.{and-left, and-right, or-none}
+use Rattle.laws.specs.Integer.{up, dn, add-is, pos-is, abs-is, lt-test, lt-test-no, le-test-no, one-zero, read32}
 use Rattle.incidence.specs.On.{on, on-is}
 use Rattle.incidence.specs.Word.{NextBit}
 use Rattle.choice.specs.declared.open.Lead.{Lead}
@@ -41,32 +41,11 @@ rooms-more loads capacity b rooms r l h f = record { len = length-set rooms b r 
 
 -- ---- the lowest gain that is better, by the parts of ℤ
 
-below-parts : (a b : ℤ) → ltZ a b ≡ true → up a + dn b < up b + dn a
-unfolding up dn
-below-parts (pos a) (pos b) h = omega (arith, ltb-true a b h)
-below-parts (pos a) (negsuc b) h = absurd (true≢false (sym h))
-below-parts (negsuc a) (pos b) h = omega arith
-below-parts (negsuc a) (negsuc b) h = omega (arith, ltb-true b a h)
-
-not-below-parts : (a b : ℤ) → ltZ a b ≡ false → up b + dn a ≤ up a + dn b
-unfolding up dn
-not-below-parts (pos a) (pos b) h = omega (arith, ltb-false a b h)
-not-below-parts (pos a) (negsuc b) h = omega arith
-not-below-parts (negsuc a) (pos b) h = absurd (true≢false h)
-not-below-parts (negsuc a) (negsuc b) h = omega (arith, ltb-false b a h)
-
-above-parts : (a b : ℤ) → leZ a b ≡ false → up b + dn a < up a + dn b
-unfolding up dn
-above-parts (pos a) (pos b) h = omega (arith, leb-false a b h)
-above-parts (pos a) (negsuc b) h = omega arith
-above-parts (negsuc a) (pos b) h = absurd (true≢false h)
-above-parts (negsuc a) (negsuc b) h = omega (arith, leb-false b a h)
-
 least-by : (top low : ℤ) → up low + dn top ≤ up top + dn low + 1 → Least top low
 least-by top low h gain f l = go (ltZ top gain) refl
   where
     go : (t : Bool) → ltZ top gain ≡ t → ltZ top gain ≡ false
-    go true e = absurd (omega (arith, below-parts top gain e, above-parts low gain l))
+    go true e = absurd (omega (arith, lt-test top gain e, le-test-no low gain l))
     go false e = e
 
 -- no gain of 32 bits is below the lowest of them
@@ -75,7 +54,7 @@ least-all top (pos a) f l = absurd (true≢false l)
 least-all top (negsuc a) f l = absurd (omega (arith, f, leb-false a 2147483647 l))
 
 pub least-most : (top : ℤ) → ltZ (pos 2147483646) top ≡ true → Least top (pos 2147483647)
-least-most top t = least-by top (pos 2147483647) (omega (arith, below-parts (pos 2147483646) top t, pos-is 2147483646, pos-is 2147483647))
+least-most top t = least-by top (pos 2147483647) (omega (arith, lt-test (pos 2147483646) top t, pos-is 2147483646, pos-is 2147483647))
 
 least-next : (top low : ℤ) → low ≡ top +ℤ pos 1 → Least top low
 least-next top low e = rw e (least-by top (top +ℤ pos 1) (omega (arith, add-is top (pos 1), pos-is 1)))
@@ -86,8 +65,8 @@ lowest-is = (refl, refl)
 
 next-small : (top : ℤ) → ltZ top (negsuc 2147483647) ≡ false → ltZ (pos 2147483646) top ≡ false → mag (top +ℤ pos 1) < 2 ^ 31
 next-small top lo hi =
-    let a = not-below-parts top (negsuc 2147483647) lo in
-    let b = not-below-parts (pos 2147483646) top hi in
+    let a = lt-test-no top (negsuc 2147483647) lo in
+    let b = lt-test-no (pos 2147483646) top hi in
     ⊎-elim (λ e. omega (arith, e, a, b, lowest-is, pos-is 2147483646, pos-is 1, add-is top (pos 1), abs-is (top +ℤ pos 1)))
     (λ e. omega (arith, e, a, b, lowest-is, pos-is 2147483646, pos-is 1, add-is top (pos 1), abs-is (top +ℤ pos 1)))
     (one-zero (top +ℤ pos 1))
@@ -131,10 +110,6 @@ pub sunk-told : (gains : List ℤ) (rooms : List ℕ) (row : ℕ) (low : ℤ) (w
     → r ≡ (leZ l g && s) → s ≡ (leb weight (getD rooms b 0) && not (eqb own (b + 1))) → r ≡ false → Sunk gains rooms row low weight own b
 sunk-told gains rooms row low weight own b f w el eg er es e = record { fits = f; light = w; shut = cc }
 
-neither : (a b : Bool) → (a || b) ≡ false → (a ≡ false) × (b ≡ false)
-neither true b e = absurd (true≢false e)
-neither false b e = (refl, e)
-
 -- the tests of four blocks as the code joins them
 pub sunk-four : (gains : List ℤ) (rooms : List ℕ) (row : ℕ) (low : ℤ) (weight own b : ℕ) {r s t p₀ p₁ p₂ p₃ : Bool} → (p₀ ≡ false → Sunk gains rooms row low weight own b) → (p₁ ≡ false → Sunk gains rooms row low weight own (b + 1))
     → (p₂ ≡ false → Sunk gains rooms row low weight own (b + 2)) → (p₃ ≡ false → Sunk gains rooms row low weight own (b + 3)) → s ≡ (p₀ || p₁) → t ≡ (p₂ || p₃) → r ≡ (s || t) → r ≡ false
@@ -142,13 +117,13 @@ pub sunk-four : (gains : List ℤ) (rooms : List ℕ) (row : ℕ) (low : ℤ) (w
 sunk-four gains rooms row low weight own b {s = s} {t} {p₀} {p₁} {p₂} {p₃} h₀ h₁ h₂ h₃ es et er e j l u = go (j - b) (omega arith) (omega arith)
   where
     halves : (s ≡ false) × (t ≡ false)
-    halves = neither s t (sym er ∙ e)
+    halves = or-none s t (sym er ∙ e)
 
     low-two : (p₀ ≡ false) × (p₁ ≡ false)
-    low-two = neither p₀ p₁ (sym es ∙ halves .0)
+    low-two = or-none p₀ p₁ (sym es ∙ halves .0)
 
     high-two : (p₂ ≡ false) × (p₃ ≡ false)
-    high-two = neither p₂ p₃ (sym et ∙ halves .1)
+    high-two = or-none p₂ p₃ (sym et ∙ halves .1)
 
     go : (d : ℕ) → d < 4 → j ≡ b + d → Sunk gains rooms row low weight own j
     go zero k q = let z : j ≡ b = omega arith in rw z (h₀ (low-two .0))

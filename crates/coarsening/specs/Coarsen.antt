@@ -20,12 +20,12 @@ use Rattle.guarantees.specs.StateBounds.{board-stack}
 use Rattle.calls.specs.Pairs.{stackOf, Pushed, pairs-push, pairs-length}
 use Rattle.calls.specs.Tables.{Tables, Sound, Keeps}
 use Rattle.calls.specs.Join.{Pair, Joined}
-use Rattle.choice.specs.Rating.{scoreOf}
-use Rattle.choice.specs.JoinPair.{BestJoin, joinOf, joinOf-none, joinOf-some}
-use Rattle.choice.specs.JoinLink.{Linked, join-is, join-may}
-use Rattle.choice.specs.Bound.{Bounded, Planned, riseOf}
-use Rattle.choice.specs.BoundLink.{bounded-after}
-use Rattle.choice.specs.declared.join.Join.{Join}
+use Rattle.pairing.specs.Rating.{scoreOf}
+use Rattle.pairing.specs.JoinPair.{BestJoin, joinOf, joinOf-none, joinOf-some}
+use Rattle.pairing.specs.JoinLink.{Linked, join-is, join-may}
+use Rattle.pairing.specs.Bound.{Bounded, Planned, riseOf}
+use Rattle.pairing.specs.BoundLink.{bounded-after}
+use Rattle.pairing.specs.declared.join.Join.{Join}
 use Rattle.calls.specs.Keeping.{keeps-none, keeps-more}
 use Rattle.coarsening.specs.Linked.{linked, block-at, block-from}
 

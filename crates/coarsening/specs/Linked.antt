@@ -17,8 +17,8 @@ use Rattle.pins.specs.Stack.{present-le, present-pin, loadedPin, row-pin}
 use Rattle.levels.specs.Running.{netAt}
 use Rattle.calls.specs.Tables.{Tables, Sound}
 use Rattle.calls.specs.Move.{back, own-block, own-weight, in-range}
-use Rattle.choice.specs.Rating.{TablesOk, Blank}
-use Rattle.choice.specs.JoinLink.{Linked}
+use Rattle.pairing.specs.Rating.{TablesOk, Blank}
+use Rattle.pairing.specs.JoinLink.{Linked}
 
 -- a table of zeros
 pub blank : (n : ℕ) → n ≡ 1025 → Blank (replicate n 0)

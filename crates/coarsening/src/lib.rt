@@ -3,13 +3,13 @@ ghost use Prim.Native.Nat.{ℕ, _-_, _*_, _<_, _≤_};
 ghost use mathlib.Core.Path.{_≡_};
 ghost use mathlib.Core.List.{List};
 ghost use Rattle.calls.specs.Tables.{tables};
-ghost use Rattle.choice.specs.Rating.{Blank, scoreOf};
-ghost use Rattle.choice.specs.Bound.{Bounded};
+ghost use Rattle.pairing.specs.Rating.{Blank, scoreOf};
+ghost use Rattle.pairing.specs.Bound.{Bounded};
 ghost use Rattle.coarsening.specs.Coarsen.{locals, OnceOk, Once, CoarsenOk, Coarsens};
 use calls::joins::join;
 use calls::pairs::Stack;
-use choice::bounds::begin;
-use choice::join::plan_join;
+use pairing::bounds::begin;
+use pairing::join::plan_join;
 
 // The stack, and how many vertices have still to leave the board: 0 too where no pair is left.
 pub struct Round {

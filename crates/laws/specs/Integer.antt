@@ -3,13 +3,13 @@
 -- (`add-is`, `sub-is`, `neg-is`) listed for each operation in it. Assumes nothing.
 use mathlib.Core.Path.{_≡_, refl, sym, ap, _∙_, subst}
 use mathlib.Core.Logic.{⊎-elim, _⊎_, inl, inr}
-use mathlib.Core.Bool.{Bool, true, false, not, cond}
+use mathlib.Core.Bool.{Bool, true, false, not, cond, true≢false}
 use Prim.Native.Nat.{ℕ, zero, suc, _+_, _-_, _^_, _≤_, _<_}
 use native.Mathlib.Omega.{arith}
 use lib.Dec.{T, leb, ltb, leb→le, le→leb, ltb→lt, lt→ltb}
 use lib.IntN.{ℤ, pos, negsuc, negℤ, natAbs, subℕ, _+ℤ_, _-ℤ_, +ℤ-comm, +ℤ-assoc}
-use lib.Signed.{mag, ltZ, _≤ℤ_, _<ℤ_, ltZ-no}
-use borrow.Author.Tests.{ltb-true, ltb-false}
+use lib.Signed.{mag, ltZ, leZ, _≤ℤ_, _<ℤ_, ltZ-no}
+use borrow.Author.Tests.{ltb-true, ltb-false, leb-false}
 use mir.Syntax.{w32}
 use mir.Val.{SFits, ofZ, toZ}
 use mir.Facts.{toZ-ofZ}
@@ -99,6 +99,28 @@ lt-parts (pos a) (pos b) h = let l : a < b = ltb→lt a b (h .lt) in omega arith
 lt-parts (pos a) (negsuc b) h = absurd (h .lt)
 lt-parts (negsuc a) (pos b) h = omega arith
 lt-parts (negsuc a) (negsuc b) h = let l : b < a = ltb→lt b a (h .lt) in omega arith
+
+-- and of a test, passed or failed
+pub lt-test : (a b : ℤ) → ltZ a b ≡ true → up a + dn b < up b + dn a
+unfolding up dn
+lt-test (pos a) (pos b) h = omega (arith, ltb-true a b h)
+lt-test (pos a) (negsuc b) h = absurd (true≢false (sym h))
+lt-test (negsuc a) (pos b) h = omega arith
+lt-test (negsuc a) (negsuc b) h = omega (arith, ltb-true b a h)
+
+pub lt-test-no : (a b : ℤ) → ltZ a b ≡ false → up b + dn a ≤ up a + dn b
+unfolding up dn
+lt-test-no (pos a) (pos b) h = omega (arith, ltb-false a b h)
+lt-test-no (pos a) (negsuc b) h = omega arith
+lt-test-no (negsuc a) (pos b) h = absurd (true≢false h)
+lt-test-no (negsuc a) (negsuc b) h = omega (arith, ltb-false b a h)
+
+pub le-test-no : (a b : ℤ) → leZ a b ≡ false → up b + dn a < up a + dn b
+unfolding up dn
+le-test-no (pos a) (pos b) h = omega (arith, leb-false a b h)
+le-test-no (pos a) (negsuc b) h = omega arith
+le-test-no (negsuc a) (pos b) h = absurd (true≢false h)
+le-test-no (negsuc a) (negsuc b) h = omega (arith, leb-false b a h)
 
 -- ---- the order's laws
 pub le-or-lt : (m n : ℕ) → (m ≤ n) ⊎ (n < m)

@@ -21,8 +21,8 @@ use Rattle.choice.specs.declared.open.Pick.{Pick}
 use Rattle.choice.specs.declared.open.Pick.the-variants.{Move as Step, Nothing}
 use Rattle.choice.specs.Open.{bestOf, gainIn, openIn, Chosen}
 use Rattle.choice.specs.OpenLink.{polish-is}
-use Rattle.search.specs.Marks.{candidateBit, blank-bit, Marked}
-use Rattle.search.specs.Tabled.{holds, pair-open}
+use Rattle.shifting.specs.Marks.{candidateBit, blank-bit, Marked}
+use Rattle.shifting.specs.Tabled.{holds, pair-open}
 use Rattle.calls.specs.Keeping.{keeps-none, keeps-more}
 use Rattle.search.specs.Polishing.{sits, rise, riseOf, rise-open}
 

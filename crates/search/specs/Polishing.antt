@@ -19,7 +19,7 @@ use Rattle.choice.specs.declared.open.Pick.{Pick}
 use Rattle.choice.specs.declared.open.Pick.the-variants.{Move as Step, Nothing}
 use Rattle.choice.specs.Open.{bestOf, PickIn, gainIn, openIn, Chosen}
 use Rattle.choice.specs.OpenLaw.{pick-open}
-use Rattle.search.specs.Marks.{Marked, marked-none, marked-ext, marked-more}
+use Rattle.shifting.specs.Marks.{Marked, marked-none, marked-ext, marked-more}
 
 -- ---- the vertices on the board
 

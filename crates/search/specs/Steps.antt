@@ -16,12 +16,8 @@ use Rattle.calls.specs.Pairs.{journalOf}
 use Rattle.calls.specs.Tables.{Tables, tables, Sound, Keeps}
 use Rattle.calls.specs.Move.{Open}
 use Rattle.choice.specs.Open.{gainIn, openIn}
-use Rattle.search.specs.Marks.{candidateBit, movedBit, Covered}
+use Rattle.shifting.specs.Marks.{candidateBit, movedBit, Covered}
 use Rattle.search.specs.Back.{Backs}
-
--- the tables in the order in which the functions take them; they take neither the vertices above nor the loaded sizes
-abbrev pub lent : (counts visited : List ℕ) (gains : List ℤ) (blocks loads pins sizes bits weights netWeights firsts : List ℕ) (n m k total : ℕ) → List ℕ → List ℕ → Tables
-lent counts visited gains blocks loads pins sizes bits weights netWeights firsts n m k total aboves loaded = tables counts visited gains pins sizes bits blocks weights aboves loads netWeights firsts loaded n m k total
 
 -- the code's variables beside the tables: the candidates, the journal, how many moves were tried, the length of the kept prefix, its metric
 pub record Locals : Type 0 where

@@ -19,8 +19,8 @@ use Rattle.guarantees.specs.Walks.{moved}
 use Rattle.calls.specs.Pairs.{journalOf, Pushed, pairs-push}
 use Rattle.calls.specs.Tables.{Tables, Sound}
 use Rattle.calls.specs.Move.{Open, CanGo, Went, on-board, own-block, in-range}
-use Rattle.search.specs.Marks.{candidateBit, movedBit, Covered, near, NetsOk, Spread}
-use Rattle.search.specs.Tabled.{near-is, near-on, nets-ok}
+use Rattle.shifting.specs.Marks.{candidateBit, movedBit, Covered, near, NetsOk, Spread}
+use Rattle.shifting.specs.Tabled.{near-is, near-on, nets-ok}
 use Rattle.search.specs.Back.{backs-more}
 use Rattle.search.specs.Steps.{Locals, locals, At, TakeOk}
 

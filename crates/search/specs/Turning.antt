@@ -20,8 +20,8 @@ use Rattle.choice.specs.declared.open.Pick.the-variants.{Move as Step, Nothing}
 use Rattle.choice.specs.Open.{bestOf, gainIn, openIn, Chosen}
 use Rattle.choice.specs.OpenLaw.{pick-open}
 use Rattle.choice.specs.OpenLink.{walk-is}
-use Rattle.search.specs.Marks.{candidateBit}
-use Rattle.search.specs.Tabled.{holds, pair-open}
+use Rattle.shifting.specs.Marks.{candidateBit}
+use Rattle.shifting.specs.Tabled.{holds, pair-open}
 use Rattle.calls.specs.Keeping.{keeps-none}
 use Rattle.search.specs.Steps.{Locals, At, nextOf, TakeOk, Took, TurnOk, Turned}
 

@@ -17,7 +17,7 @@ use Rattle.model.specs.Search.{Walk, walkOn, walk, walked, reversed}
 use Rattle.calls.specs.Pairs.{journalOf, pairs-none}
 use Rattle.calls.specs.Tables.{Tables, Sound}
 use Rattle.calls.specs.Move.{on-board}
-use Rattle.search.specs.Marks.{candidateBit, movedBit, blank-bit, Marked, marked-more, SameNets, nets-then, covered-none}
+use Rattle.shifting.specs.Marks.{candidateBit, movedBit, blank-bit, Marked, marked-more, SameNets, nets-then, covered-none}
 use Rattle.calls.specs.Keeping.{keeps-none, keeps-more}
 use Rattle.search.specs.Back.{Backs, backs-none, RewindOk, Rewinds}
 use Rattle.search.specs.Steps.{Locals, locals, At, TurnOk, Turned, WalkOk, Going, Ended, Walks}

@@ -1,6 +1,3 @@
 // The searches: W, a walk from two vertices, and P, a greedy polish, on the tables of a running sale.
-pub mod marks;
-mod numbers;
-mod peaks;
 pub mod polishing;
 pub mod walks;

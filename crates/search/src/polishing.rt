@@ -1,10 +1,10 @@
 // P, a greedy polish: over all vertices on the board, the best open pair is moved while its gain is at least 1.
-use crate::marks::mark_vertex;
-use crate::numbers::index;
-use crate::peaks::shift;
 use choice::open::Pick;
 use choice::open::best_open;
 use choice::peaks::survey;
+use shifting::marks::mark_vertex;
+use shifting::numbers::index;
+use shifting::peaks::shift;
 ghost use mathlib.Core.Path.{_≡_};
 ghost use mathlib.Core.List.{List};
 ghost use Prim.Native.Nat.{ℕ, _+_, _-_, _*_, _<_, _≤_};
@@ -13,8 +13,8 @@ ghost use lib.ListN.{length};
 ghost use lib.Signed.{ltZ};
 ghost use Rattle.choice.specs.Open.{SearchOk, Chosen, gainIn};
 ghost use Rattle.choice.specs.Peak.{Peaked};
-ghost use Rattle.search.specs.Marks.{Marked};
-ghost use Rattle.search.specs.Steps.{lent};
+ghost use Rattle.shifting.specs.Marks.{Marked};
+ghost use Rattle.shifting.specs.Lent.{lent};
 ghost use Rattle.search.specs.Polishing.{sits, placed, RiseOk, riseOf};
 ghost use Rattle.search.specs.Polished.{PassOk, Passed, PolishOk, Polishes};
 

@@ -1,13 +1,13 @@
 // W, a walk from two vertices (localized FM search): the best open pair is moved, also where its gain is negative, until none is open or 25
 // moves have been made since the first prefix of lowest metric; then the moves after that prefix are reversed.
-use crate::marks::mark_vertex;
-use crate::marks::spread;
-use crate::numbers::index;
-use crate::peaks::shift;
 use calls::moves::back;
 use choice::open::Pick;
 use choice::open::best_open;
 use choice::peaks::survey;
+use shifting::marks::mark_vertex;
+use shifting::marks::spread;
+use shifting::numbers::index;
+use shifting::peaks::shift;
 ghost use mathlib.Core.Path.{_≡_};
 ghost use mathlib.Core.Bool.{cond};
 ghost use mathlib.Core.List.{List};
@@ -17,7 +17,8 @@ ghost use lib.ListN.{length};
 ghost use Rattle.choice.specs.Open.{SearchOk, Chosen, gainIn};
 ghost use Rattle.choice.specs.Peak.{Peaked};
 ghost use Rattle.search.specs.Back.{RewindOk, Rewinds};
-ghost use Rattle.search.specs.Steps.{lent, locals, nextOf, TakeOk, Took, TurnOk, Turned, WalkOk, Walks};
+ghost use Rattle.shifting.specs.Lent.{lent};
+ghost use Rattle.search.specs.Steps.{locals, nextOf, TakeOk, Took, TurnOk, Turned, WalkOk, Walks};
 
 // What W answers: how many moves were made, the length of the kept prefix, and the metric after it.
 pub struct Walked {

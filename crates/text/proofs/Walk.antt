@@ -11,6 +11,7 @@ use lib.ListN.{length, getD, take, drop}
 use lib.Seq.{slice, slice-cons, slice-empty, length-slice, take-nil, take-take, drop-drop}
 use lib.Dec.{eqb}
 use borrow.Author.Tests.{eq-eqb, ne-eqb}
+use Rattle.laws.specs.Choice.{or-none}
 use Rattle.model.specs.Grammar.{onto, parts}
 use Rattle.text.specs.Field.{first, FirstAt, Without}
 
@@ -26,12 +27,8 @@ module _ (s : List ℕ) (i end : ℕ) (lt : i < end) (within : end ≤ length s)
 
 -- one byte more is tested
 pub without-more : (s : List ℕ) (at j b : ℕ) (found : Bool) {r : Bool} → r ≡ (found || eqb (getD s (at + j) 0) b) → (found ≡ false → Without s at j b) → r ≡ false → Without s at (j + 1) b
-without-more s at j b found e h z i l q = go (ℕ-discrete i j) (either-false found (eqb (getD s (at + j) 0) b) (sym e ∙ z))
+without-more s at j b found e h z i l q = go (ℕ-discrete i j) (or-none found (eqb (getD s (at + j) 0) b) (sym e ∙ z))
   where
-    either-false : (x y : Bool) → (x || y) ≡ false → (x ≡ false) × (y ≡ false)
-    either-false true y p = absurd (true≢false p)
-    either-false false y p = (refl, p)
-
     go : Dec (i ≡ j) → (found ≡ false) × (eqb (getD s (at + j) 0) b ≡ false) → ⊥
     go (yes k) f = true≢false (sym (eq-eqb _ _ (ap (λ (n : ℕ). getD s (at + n) 0) (sym k) ∙ q)) ∙ f .1)
     go (no k) f = h (f .0) i (omega arith) q

@@ -3,7 +3,7 @@ ghost use Prim.Native.Nat.{ℕ};
 ghost use mathlib.Core.List.{List};
 ghost use Rattle.model.specs.Catalogue.{Hypergraph};
 ghost use Rattle.model.specs.Machine.{callW, callP, saysW, saysP};
-ghost use Rattle.search.specs.Steps.{lent};
+ghost use Rattle.shifting.specs.Lent.{lent};
 ghost use Rattle.steps.specs.Steps.{Two, two, told};
 ghost use Rattle.steps.specs.Called.{CapacityIs, Called};
 ghost use Rattle.turns.specs.Searching.{ReadyW};

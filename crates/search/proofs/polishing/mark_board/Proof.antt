@@ -2,7 +2,7 @@ use native.Mathlib.Omega.{arith}
 use mathlib.Core.Path.{_≡_, refl}
 use denote.Ref.{now}
 use Prim.Native.Nat.{_≤_, _-_}
-use Rattle.search.specs.Marks.{Marked}
+use Rattle.shifting.specs.Marks.{Marked}
 use Rattle.search.specs.Polishing.{sits, sits-none, sits-more}
 use Rattle.search.proofs.polishing.mark_board.Statement.{statement}
 use Rattle.search.proofs.polishing.mark_board.Tie as tie

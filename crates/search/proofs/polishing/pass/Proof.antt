@@ -3,7 +3,7 @@ use mathlib.Core.Path.{refl, ap}
 use denote.Ref.{now}
 use borrow.Author.Needs.{needs}
 use Prim.Native.Nat.{ℕ, _-_}
-use Rattle.search.specs.Tabled.{search-ok}
+use Rattle.shifting.specs.Tabled.{search-ok}
 use Rattle.search.specs.Polished.{pass-in, pass-goes, pass-none, pass-move}
 use Rattle.search.proofs.polishing.pass.Statement.{statement}
 use Rattle.search.proofs.polishing.pass.Tie as tie

@@ -5,7 +5,7 @@ use mathlib.Core.List.{List}
 use lib.IntN.{ℤ, pos}
 use lib.ListN.{length, length-replicate}
 use Rattle.choice.specs.Peak.{Peaked}
-use Rattle.search.specs.Steps.{lent}
+use Rattle.shifting.specs.Lent.{lent}
 use Rattle.search.specs.Polished.{Passing, passing-none, pass-asks, passing-more, polishes-all}
 use Rattle.search.proofs.polishing.polish.Statement.{statement}
 use Rattle.search.proofs.polishing.polish.Tie as tie

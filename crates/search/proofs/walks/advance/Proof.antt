@@ -1,7 +1,7 @@
 use native.Mathlib.Omega.{arith}
 use denote.Ref.{now}
 use borrow.Author.Needs.{needs}
-use Rattle.search.specs.Tabled.{search-ok}
+use Rattle.shifting.specs.Tabled.{search-ok}
 use Rattle.search.specs.Turning.{take-asks, turn-none, turn-move}
 use Rattle.search.proofs.walks.advance.Statement.{statement}
 use Rattle.search.proofs.walks.advance.Tie as tie

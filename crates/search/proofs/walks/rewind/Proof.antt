@@ -4,7 +4,7 @@ use borrow.Author.Needs.{needs}
 use Prim.Native.Nat.{ℕ, _≤_}
 use mathlib.Core.List.{List}
 use lib.ListN.{length}
-use Rattle.search.specs.Steps.{lent}
+use Rattle.shifting.specs.Lent.{lent}
 use Rattle.search.specs.Back.{Rewinding, rewind-none, rewind-asks, rewind-from, rewind-more, rewind-done}
 use Rattle.search.proofs.walks.rewind.Statement.{statement}
 use Rattle.search.proofs.walks.rewind.Tie as tie

@@ -5,7 +5,8 @@ use mathlib.Core.List.{List}
 use lib.IntN.{ℤ, pos}
 use lib.ListN.{length, length-replicate}
 use Rattle.choice.specs.Peak.{Peaked}
-use Rattle.search.specs.Steps.{lent, locals, Going}
+use Rattle.shifting.specs.Lent.{lent}
+use Rattle.search.specs.Steps.{locals, Going}
 use Rattle.search.specs.Whole.{going-none, turn-asks, going-more, end-asks, walks-all}
 use Rattle.search.proofs.walks.walk.Statement.{statement}
 use Rattle.search.proofs.walks.walk.Tie as tie
