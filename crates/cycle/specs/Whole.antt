@@ -13,7 +13,7 @@ use Rattle.guarantees.specs.StateBounds.{board-stack}
 use Rattle.calls.specs.Pairs.{stackOf, pairs-none, pairs-length}
 use Rattle.calls.specs.Tables.{Tables, Sound, Keeps}
 use Rattle.calls.specs.Keeping.{keeps-more}
-use Rattle.search.specs.Polished.{PolishOk, Polishes}
+use Rattle.greedy.specs.Polished.{PolishOk, Polishes}
 use Rattle.coarsening.specs.Coarsen.{Stands, CoarsenOk, Coarsens}
 use Rattle.cycle.specs.Refine.{RefineOk, Fined, Refines}
 

@@ -5,7 +5,7 @@ use crate::numbers::counted;
 use crate::refining::refine;
 use calls::pairs::Stack;
 use coarsening::coarsen;
-use search::polishing::polish;
+use greedy::polishing::polish;
 
 // How many contractions were made, the moves that the walks made and kept, all together, and the metric.
 struct Descent {

@@ -1,3 +1,2 @@
-// The searches: W, a walk from two vertices, and P, a greedy polish, on the tables of a running sale.
-pub mod polishing;
+// W, a walk from two vertices, on the tables of a running sale.
 pub mod walks;

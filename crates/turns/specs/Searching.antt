@@ -17,7 +17,7 @@ use Rattle.guarantees.specs.SearchBounds.{tried-le, walk-counts}
 use Rattle.calls.specs.Tables.{Tables}
 use Rattle.calls.specs.Keeping.{keeps-none}
 use Rattle.search.specs.Steps.{WalkOk, Ended, Walks}
-use Rattle.search.specs.Polished.{PolishOk, Polishes}
+use Rattle.greedy.specs.Polished.{PolishOk, Polishes}
 use Rattle.steps.specs.Refusal.{known, here, refusalW, refusalW-is, known-range}
 use Rattle.steps.specs.Steps.{Two, Runs, Ready, told}
 use Rattle.steps.specs.Called.{Called, Cleared, stepped, refused, settle-no, settle-yes}

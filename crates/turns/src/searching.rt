@@ -8,7 +8,7 @@ ghost use Rattle.steps.specs.Steps.{Two, two, told};
 ghost use Rattle.steps.specs.Called.{CapacityIs, Called};
 ghost use Rattle.turns.specs.Searching.{ReadyW};
 use calls::pairs::Journal;
-use search::polishing::polish;
+use greedy::polishing::polish;
 use search::walks::walk;
 use steps::refusals::refuses_walk;
 use steps::widths::short;

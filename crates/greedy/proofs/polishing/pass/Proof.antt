@@ -4,9 +4,9 @@ use denote.Ref.{now}
 use borrow.Author.Needs.{needs}
 use Prim.Native.Nat.{ℕ, _-_}
 use Rattle.shifting.specs.Tabled.{search-ok}
-use Rattle.search.specs.Polished.{pass-in, pass-goes, pass-none, pass-move}
-use Rattle.search.proofs.polishing.pass.Statement.{statement}
-use Rattle.search.proofs.polishing.pass.Tie as tie
+use Rattle.greedy.specs.Polished.{pass-in, pass-goes, pass-none, pass-move}
+use Rattle.greedy.proofs.polishing.pass.Statement.{statement}
+use Rattle.greedy.proofs.polishing.pass.Tie as tie
 
 next-rise-requires : tie.Need-next-rise-requires
 next-rise-requires c κs =

@@ -24,7 +24,7 @@ use Rattle.choice.specs.OpenLink.{polish-is}
 use Rattle.shifting.specs.Marks.{candidateBit, blank-bit, Marked}
 use Rattle.shifting.specs.Tabled.{holds, pair-open}
 use Rattle.calls.specs.Keeping.{keeps-none, keeps-more}
-use Rattle.search.specs.Polishing.{sits, rise, riseOf, rise-open}
+use Rattle.greedy.specs.Polishing.{sits, rise, riseOf, rise-open}
 
 -- tables and variables are those of the polish q; the vertices on the board are marked
 pub record PolishAt (h : Hypergraph) (cs : List Contraction) (q : Polish) (T : Tables) (marks : List ℕ) (moves : ℕ) : Type 0 where

@@ -2,9 +2,9 @@ use mathlib.Core.Path.{sym, _∙_}
 use denote.Ref.{now}
 use borrow.Author.Needs.{needs}
 use Rattle.choice.specs.Open.{gainIn}
-use Rattle.search.specs.Polishing.{rise-none, rise-yes, rise-no, rise-in}
-use Rattle.search.proofs.polishing.next_rise.Statement.{statement}
-use Rattle.search.proofs.polishing.next_rise.Tie as tie
+use Rattle.greedy.specs.Polishing.{rise-none, rise-yes, rise-no, rise-in}
+use Rattle.greedy.proofs.polishing.next_rise.Statement.{statement}
+use Rattle.greedy.proofs.polishing.next_rise.Tie as tie
 
 best-open-requires : tie.Need-best-open-requires
 best-open-requires c κs = search needs

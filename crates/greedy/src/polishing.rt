@@ -15,8 +15,8 @@ ghost use Rattle.choice.specs.Open.{SearchOk, Chosen, gainIn};
 ghost use Rattle.choice.specs.Peak.{Peaked};
 ghost use Rattle.shifting.specs.Marks.{Marked};
 ghost use Rattle.shifting.specs.Lent.{lent};
-ghost use Rattle.search.specs.Polishing.{sits, placed, RiseOk, riseOf};
-ghost use Rattle.search.specs.Polished.{PassOk, Passed, PolishOk, Polishes};
+ghost use Rattle.greedy.specs.Polishing.{sits, placed, RiseOk, riseOf};
+ghost use Rattle.greedy.specs.Polished.{PassOk, Passed, PolishOk, Polishes};
 
 // What P answers: how many moves were made, and the metric after them.
 pub struct Polished {

@@ -3,9 +3,9 @@ use mathlib.Core.Path.{_≡_, refl}
 use denote.Ref.{now}
 use Prim.Native.Nat.{_≤_, _-_}
 use Rattle.shifting.specs.Marks.{Marked}
-use Rattle.search.specs.Polishing.{sits, sits-none, sits-more}
-use Rattle.search.proofs.polishing.mark_board.Statement.{statement}
-use Rattle.search.proofs.polishing.mark_board.Tie as tie
+use Rattle.greedy.specs.Polishing.{sits, sits-none, sits-more}
+use Rattle.greedy.proofs.polishing.mark_board.Statement.{statement}
+use Rattle.greedy.proofs.polishing.mark_board.Tie as tie
 
 abbrev Inv-loop : tie.InvT-loop
 Inv-loop marks₀ blocks n x₀ marks x = (x ≤ n) × Marked marks₀ marks (sits blocks x)

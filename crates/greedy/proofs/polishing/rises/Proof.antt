@@ -1,8 +1,8 @@
 use denote.Ref.{now}
 use borrow.Author.Needs.{needs}
-use Rattle.search.specs.Polishing.{rise-read}
-use Rattle.search.proofs.polishing.rises.Statement.{statement}
-use Rattle.search.proofs.polishing.rises.Tie as tie
+use Rattle.greedy.specs.Polishing.{rise-read}
+use Rattle.greedy.proofs.polishing.rises.Statement.{statement}
+use Rattle.greedy.proofs.polishing.rises.Tie as tie
 
 index-requires : tie.Need-index-requires
 index-requires c κs = search needs

@@ -6,9 +6,9 @@ use lib.IntN.{ℤ, pos}
 use lib.ListN.{length, length-replicate}
 use Rattle.choice.specs.Peak.{Peaked}
 use Rattle.shifting.specs.Lent.{lent}
-use Rattle.search.specs.Polished.{Passing, passing-none, pass-asks, passing-more, polishes-all}
-use Rattle.search.proofs.polishing.polish.Statement.{statement}
-use Rattle.search.proofs.polishing.polish.Tie as tie
+use Rattle.greedy.specs.Polished.{Passing, passing-none, pass-asks, passing-more, polishes-all}
+use Rattle.greedy.proofs.polishing.polish.Statement.{statement}
+use Rattle.greedy.proofs.polishing.polish.Tie as tie
 
 abbrev Inv-loop : tie.InvT-loop
 Inv-loop counts₀ visited₀ gains₀ blocks₀ loads₀ pins sizes bits weights netweights firsts n m k capacity total marks peaks₀ p₀ counts visited gains blocks loads peaks p =

@@ -1,8 +1,8 @@
 use denote.Ref.{now}
 use borrow.Author.Needs.{needs}
-use Rattle.search.specs.Polishing.{placed-yes, placed-no}
-use Rattle.search.proofs.polishing.mark_placed.Statement.{statement}
-use Rattle.search.proofs.polishing.mark_placed.Tie as tie
+use Rattle.greedy.specs.Polishing.{placed-yes, placed-no}
+use Rattle.greedy.proofs.polishing.mark_placed.Statement.{statement}
+use Rattle.greedy.proofs.polishing.mark_placed.Tie as tie
 
 returns : tie.Need-returns
 returns c = placed-no (now (c .before .args .marks)) (c .before .args .x) (c .before .args .b) (c .if1 .taken)

@@ -1,0 +1,2 @@
+// P, a greedy polish, on the tables of a running sale.
+pub mod polishing;
