@@ -1,14 +1,18 @@
 /* The proved splitter as C functions: a sale file in, its report and its tables out.
- * Link target/staticlib/libengine.a (`rt staticlib engine` writes it) for kapokdrill_run and
- * kapokdrill_list, and target/staticlib/librecords.a (`rt staticlib records`) for
- * kapokdrill_run_lots.
+ * Link target/staticlib/libengine.a, which `rt staticlib engine` writes.
  *
  * The functions keep nothing between calls, so calls on different memory may run at the same time.
  * Beside what they are lent they need some hundreds of kilobytes of stack and no heap. Lent memory
- * needs no clearing beforehand. */
+ * needs no clearing beforehand.
+ *
+ * Each pointer is followed by the number of entries (not bytes) that it may use; pieces of lent
+ * memory must not overlap. A pointer must not be null, even with 0 entries.
+ *
+ * Vertices are lots, nets are buyers, pins are marks and blocks are sessions; all count from 1. */
 #ifndef KAPOKDRILL_H
 #define KAPOKDRILL_H
 
+#include <stdbool.h>
 #include <stddef.h>
 #include <stdint.h>
 
@@ -18,9 +22,9 @@ extern "C" {
 
 /* Entries that each piece of lent memory must have at least. */
 #define KAPOKDRILL_OUTPUT 60000
-#define KAPOKDRILL_LOTS 1024
-#define KAPOKDRILL_BUYERS 1024
-#define KAPOKDRILL_MARKS 8192
+#define KAPOKDRILL_VERTICES 1024
+#define KAPOKDRILL_NETS 1024
+#define KAPOKDRILL_PINS 8192
 #define KAPOKDRILL_COUNTS 16384
 #define KAPOKDRILL_GAINS 16384
 
@@ -35,45 +39,46 @@ typedef struct {
     size_t written;
 } kapokdrill_result;
 
+/* A lot's record. */
+typedef struct {
+    /* Its bales, with those of the lots joined into it; off the board, what it had when joined. */
+    uint32_t bales;
+    /* Its session; 0 off the board. */
+    uint16_t session;
+    /* The lot that it was joined into; 0 on the board. */
+    uint16_t above;
+} kapokdrill_lot;
+
 /* Reads a sale file, runs its calls and writes the report.
  *
- * Each pointer is followed by the number of entries (not bytes) that it may use; pieces of lent
- * memory must not overlap. A pointer must not be null, even with 0 entries.
- *
- * Lots, buyers and sessions count from 1. Under 0 the tables hold the sale as the calls left it:
- * a lot's entries are at number - 1, a buyer's likewise, and those of counts and gains at
- * 16 * (number - 1) + session - 1. Entries that the sale has no use for, and output past the
- * report, keep what they held. Under 1 to 7 the tables hold nothing of use; under 8 nothing is
- * touched. */
+ * Under 0 the tables hold the sale as the calls left it: a lot's record is at number - 1, a net's
+ * entry likewise, and those of counts and gains at 16 * (number - 1) + block - 1. Entries that the
+ * sale has no use for, and output past the report, keep what they held. Under 1 to 7 the tables
+ * hold nothing of use; under 8 nothing is touched. */
 kapokdrill_result kapokdrill_run(
     const uint8_t *file, size_t file_length,
+    kapokdrill_lot *lots, size_t lots_length,
     uint8_t *output, size_t output_length,
-    /* A lot's bales, with those of the lots joined into it; off the board, what it had when joined. */
-    uint32_t *bales, size_t bales_length,
-    /* A lot's session; 0 off the board. */
-    uint16_t *sessions, size_t sessions_length,
-    /* The lot that this one was joined into; 0 on the board. */
-    uint16_t *above, size_t above_length,
-    /* All marks, buyer by buyer, in the file's order. */
-    uint16_t *loaded_marks, size_t loaded_marks_length,
-    /* The marks as they stand, each buyer's at the front of the stretch it was loaded into. */
-    uint16_t *present_marks, size_t present_marks_length,
-    /* Where a buyer's stretch begins in both tables of marks, from 0. */
-    uint16_t *first_places, size_t first_places_length,
-    /* How many marks a buyer has in each of the two. */
-    uint16_t *loaded_counts, size_t loaded_counts_length,
-    uint16_t *present_counts, size_t present_counts_length,
-    /* How many present marks a buyer has in a session. */
+    /* All pins, net by net, in the file's order. */
+    uint16_t *loadedpins, size_t loadedpins_length,
+    /* The pins as they stand, each net's at the front of the stretch it was loaded into. */
+    uint16_t *presentpins, size_t presentpins_length,
+    /* Where a net's stretch begins in both tables of pins, from 0. */
+    uint16_t *firsts, size_t firsts_length,
+    /* How many pins a net has in each of the two. */
+    uint16_t *loadedsizes, size_t loadedsizes_length,
+    uint16_t *presentsizes, size_t presentsizes_length,
+    /* How many present pins a net has in a block. */
     uint16_t *counts, size_t counts_length,
-    /* By how much the total falls if the lot goes to the session; 0 at its own and off the board. */
+    /* By how much the total falls if the lot goes to the block; 0 at its own and off the board. */
     int32_t *gains, size_t gains_length,
-    /* The sessions that a buyer visits: session s is bit s - 1 from the lowest. */
+    /* The blocks that a net visits: block s is bit s - 1 from the lowest. */
     uint16_t *visited, size_t visited_length);
 
 /* The joins that stand: lot gone[i] was joined into lot into[i], the earliest first. */
 typedef struct {
-    uint16_t into[KAPOKDRILL_LOTS];
-    uint16_t gone[KAPOKDRILL_LOTS];
+    uint16_t into[KAPOKDRILL_VERTICES];
+    uint16_t gone[KAPOKDRILL_VERTICES];
     size_t depth;
 } kapokdrill_stack;
 
@@ -91,43 +96,41 @@ typedef struct {
 
 /* Reads a sale file and runs a list of calls on its catalogue: three numbers for each call, the
  * letter's byte and two numbers, which are not looked at where the call has none. Calls that the
- * file holds are read and do not run. The list need not fit into a file with the catalogue. */
+ * file holds are read and do not run. The list need not fit into a file with the catalogue. The
+ * fields of the lots' records are three tables here. */
 kapokdrill_list_result kapokdrill_list(
     const uint8_t *file, size_t file_length,
     const uint32_t *list, size_t list_length,
     uint8_t *output, size_t output_length,
-    uint32_t *bales, size_t bales_length,
-    uint16_t *sessions, size_t sessions_length,
-    uint16_t *above, size_t above_length,
-    uint16_t *loaded_marks, size_t loaded_marks_length,
-    uint16_t *present_marks, size_t present_marks_length,
-    uint16_t *first_places, size_t first_places_length,
-    uint16_t *loaded_counts, size_t loaded_counts_length,
-    uint16_t *present_counts, size_t present_counts_length,
+    /* bales, sessions and lots above */
+    uint32_t *weights, size_t weights_length,
+    uint16_t *blocks, size_t blocks_length,
+    uint16_t *aboves, size_t aboves_length,
+    uint16_t *loadedpins, size_t loadedpins_length,
+    uint16_t *presentpins, size_t presentpins_length,
+    uint16_t *firsts, size_t firsts_length,
+    uint16_t *loadedsizes, size_t loadedsizes_length,
+    uint16_t *presentsizes, size_t presentsizes_length,
     uint16_t *counts, size_t counts_length,
     int32_t *gains, size_t gains_length,
     uint16_t *visited, size_t visited_length);
 
-/* A lot's record: what kapokdrill_run's tables of bales, sessions and lots above hold of a lot. */
+/* A stretch of a table of pins: its first place, from 0, and how many places it has. */
 typedef struct {
-    uint32_t bales;
-    uint16_t session;
-    uint16_t above;
-} kapokdrill_lot;
+    size_t first;
+    size_t size;
+} kapokdrill_stretch;
 
-/* The same, with the lots as records; the record of a lot is at number - 1. */
-kapokdrill_result kapokdrill_run_lots(
-    const uint8_t *file, size_t file_length,
-    kapokdrill_lot *lots, size_t lots_length,
-    uint8_t *output, size_t output_length,
-    uint16_t *loaded_marks, size_t loaded_marks_length,
-    uint16_t *present_marks, size_t present_marks_length,
-    uint16_t *first_places, size_t first_places_length,
-    uint16_t *loaded_counts, size_t loaded_counts_length,
-    uint16_t *present_counts, size_t present_counts_length,
-    uint16_t *counts, size_t counts_length,
-    int32_t *gains, size_t gains_length,
-    uint16_t *visited, size_t visited_length);
+/* The stretch of presentpins that holds a net's present pins, or of loadedpins with its loaded ones.
+ * A net number of 0 or above 1,024, a table below its length, or a stretch that reaches past its
+ * table gives the empty stretch at the table's start. */
+kapokdrill_stretch kapokdrill_pins(
+    const uint16_t *loadedpins, size_t loadedpins_length,
+    const uint16_t *presentpins, size_t presentpins_length,
+    const uint16_t *firsts, size_t firsts_length,
+    const uint16_t *loadedsizes, size_t loadedsizes_length,
+    const uint16_t *presentsizes, size_t presentsizes_length,
+    bool present, uint32_t net);
 
 #ifdef __cplusplus
 }

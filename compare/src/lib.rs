@@ -3,34 +3,27 @@
 //! engine and on the reference, which works every entry out afresh.
 
 use kapokdrill::lent::{
-    self, Lent, LentLots, ListOutcome, Lot, Outcome, LOTS, MARKS, OUTPUT, ROWS,
+    self, Columns, Lent, ListOutcome, Lot, NetTables, Outcome, Stretch, NETS, OUTPUT, PINS, ROWS,
+    VERTICES,
 };
-use reference::generator::Random;
+use reference::generator::{calls, Random};
 use reference::tables::{entry, Tables};
 use reference::{parse, report, run_calls, Call};
+use std::path::PathBuf;
 
 /// Lent memory of lengths that the caller settles.
 #[derive(Clone, Debug, PartialEq, Eq)]
 pub struct Memory {
+    pub lots: Vec<Lot>,
     pub output: Vec<u8>,
-    pub bales: Vec<u32>,
-    pub sessions: Vec<u16>,
-    pub above: Vec<u16>,
-    pub loaded_marks: Vec<u16>,
-    pub present_marks: Vec<u16>,
-    pub first_places: Vec<u16>,
-    pub loaded_counts: Vec<u16>,
-    pub present_counts: Vec<u16>,
+    pub loadedpins: Vec<u16>,
+    pub presentpins: Vec<u16>,
+    pub firsts: Vec<u16>,
+    pub loadedsizes: Vec<u16>,
+    pub presentsizes: Vec<u16>,
     pub counts: Vec<u16>,
     pub gains: Vec<i32>,
     pub visited: Vec<u16>,
-}
-
-/// The engine's two entries: the lots as three tables, or as records.
-#[derive(Clone, Copy, Debug)]
-pub enum Entry {
-    Tables,
-    Records,
 }
 
 /// Random entries, and up to three more of them than there must be.
@@ -43,118 +36,151 @@ impl Memory {
     /// Memory filled with random bytes.
     pub fn noise(random: &mut Random) -> Self {
         let short = |bits: u64| bits as u16;
+        let lot = |bits: u64| Lot {
+            bales: bits as u32,
+            session: (bits >> 32) as u16,
+            above: (bits >> 48) as u16,
+        };
         Memory {
+            lots: noise(random, VERTICES, lot),
             output: noise(random, OUTPUT, |bits| bits as u8),
-            bales: noise(random, LOTS, |bits| bits as u32),
-            sessions: noise(random, LOTS, short),
-            above: noise(random, LOTS, short),
-            loaded_marks: noise(random, MARKS, short),
-            present_marks: noise(random, MARKS, short),
-            first_places: noise(random, LOTS, short),
-            loaded_counts: noise(random, LOTS, short),
-            present_counts: noise(random, LOTS, short),
+            loadedpins: noise(random, PINS, short),
+            presentpins: noise(random, PINS, short),
+            firsts: noise(random, NETS, short),
+            loadedsizes: noise(random, NETS, short),
+            presentsizes: noise(random, NETS, short),
             counts: noise(random, ROWS, short),
             gains: noise(random, ROWS, |bits| bits as i32),
-            visited: noise(random, LOTS, short),
+            visited: noise(random, NETS, short),
         }
     }
 
-    /// Runs the engine on this memory.
-    pub fn run(&mut self, through: Entry, file: &[u8]) -> Outcome {
-        match through {
-            Entry::Tables => lent::run(file, self.lent()),
-            Entry::Records => self.run_records(file),
-        }
-    }
-
-    fn lent(&mut self) -> Lent<'_> {
-        Lent {
+    fn lent(&mut self) -> (&mut [Lot], Lent<'_>) {
+        let lent = Lent {
             output: &mut self.output,
-            bales: &mut self.bales,
-            sessions: &mut self.sessions,
-            above: &mut self.above,
-            loaded_marks: &mut self.loaded_marks,
-            present_marks: &mut self.present_marks,
-            first_places: &mut self.first_places,
-            loaded_counts: &mut self.loaded_counts,
-            present_counts: &mut self.present_counts,
+            loadedpins: &mut self.loadedpins,
+            presentpins: &mut self.presentpins,
+            firsts: &mut self.firsts,
+            loadedsizes: &mut self.loadedsizes,
+            presentsizes: &mut self.presentsizes,
             counts: &mut self.counts,
             gains: &mut self.gains,
             visited: &mut self.visited,
-        }
+        };
+        (&mut self.lots, lent)
+    }
+
+    /// Runs the engine on this memory.
+    pub fn run(&mut self, file: &[u8]) -> Outcome {
+        let (lots, lent) = self.lent();
+        lent::run(file, lots, lent)
     }
 
     /// Runs a list of calls on the catalogue of a file, on this memory.
     pub fn run_list(&mut self, file: &[u8], list: &[u32]) -> ListOutcome {
-        lent::run_list(file, list, self.lent())
+        let entries = [self.lots.len(); 3];
+        self.run_list_with(file, list, entries)
     }
 
-    /// As many records as the shortest of the lots' three tables has entries; they hold what the
-    /// tables hold, and what they hold at the end is put back.
-    fn run_records(&mut self, file: &[u8]) -> Outcome {
-        let entries = self.bales.iter().zip(&self.sessions).zip(&self.above);
-        let mut lots: Vec<Lot> = entries
-            .map(|((&bales, &session), &above)| Lot {
-                bales,
-                session,
-                above,
-            })
-            .collect();
-        let outcome = lent::run_lots(
-            file,
-            LentLots {
-                lots: &mut lots,
-                output: &mut self.output,
-                loaded_marks: &mut self.loaded_marks,
-                present_marks: &mut self.present_marks,
-                first_places: &mut self.first_places,
-                loaded_counts: &mut self.loaded_counts,
-                present_counts: &mut self.present_counts,
-                counts: &mut self.counts,
-                gains: &mut self.gains,
-                visited: &mut self.visited,
-            },
-        );
-        for (i, lot) in lots.iter().enumerate() {
-            self.bales[i] = lot.bales;
-            self.sessions[i] = lot.session;
-            self.above[i] = lot.above;
+    /// The same, with so many entries in the tables of bales, sessions and lots above: they begin as
+    /// the records' fields, and what they hold at the end is put back.
+    pub fn run_list_with(&mut self, file: &[u8], list: &[u32], entries: [usize; 3]) -> ListOutcome {
+        let of = |n: usize| self.lots.iter().take(n);
+        let mut weights: Vec<u32> = of(entries[0]).map(|lot| lot.bales).collect();
+        let mut blocks: Vec<u16> = of(entries[1]).map(|lot| lot.session).collect();
+        let mut aboves: Vec<u16> = of(entries[2]).map(|lot| lot.above).collect();
+        let columns = Columns {
+            weights: &mut weights,
+            blocks: &mut blocks,
+            aboves: &mut aboves,
+        };
+        let (lots, lent) = self.lent();
+        let outcome = lent::run_list(file, list, columns, lent);
+        for (lot, &bales) in lots.iter_mut().zip(&weights) {
+            lot.bales = bales;
+        }
+        for (lot, &session) in lots.iter_mut().zip(&blocks) {
+            lot.session = session;
+        }
+        for (lot, &above) in lots.iter_mut().zip(&aboves) {
+            lot.above = above;
         }
         outcome
     }
 
+    /// Compares the stretch that the engine hands out for a net's pins with document 01's.
+    pub fn compare_pins(&self, present: bool, net: u32) -> Result<(), String> {
+        let tables = NetTables {
+            loadedpins: &self.loadedpins,
+            presentpins: &self.presentpins,
+            firsts: &self.firsts,
+            loadedsizes: &self.loadedsizes,
+            presentsizes: &self.presentsizes,
+        };
+        let (found, wanted) = (lent::pins(tables, present, net), self.stretch(present, net));
+        if found == wanted {
+            return Ok(());
+        }
+        Err(format!("net {net}, present {present}: {found:?}, not {wanted:?}"))
+    }
+
+    /// The stretch of a buyer's marks. A buyer number of 0 or above 1,024, a buyers table or either
+    /// mark table below its length, or a stretch reaching past its table gets the empty stretch at
+    /// the table's start.
+    fn stretch(&self, present: bool, net: u32) -> Stretch {
+        let none = Stretch { first: 0, size: 0 };
+        let nets = [&self.firsts, &self.loadedsizes, &self.presentsizes];
+        let tables = [&self.loadedpins, &self.presentpins];
+        let named = (1..=1_024).contains(&net);
+        if !named
+            || nets.iter().any(|table| table.len() < NETS)
+            || tables.iter().any(|table| table.len() < PINS)
+        {
+            return none;
+        }
+        let i = net as usize - 1;
+        let sizes = nets[1 + usize::from(present)];
+        let (first, size) = (usize::from(self.firsts[i]), usize::from(sizes[i]));
+        if first + size > tables[usize::from(present)].len() {
+            return none;
+        }
+        Stretch { first, size }
+    }
+
     /// Puts in what the reference says that the tables hold; all else stays. What is free in the
-    /// present marks is taken from `found`, the marks of each set apart, and an error says that
+    /// present pins is taken from `found`, the pins of each set apart, and an error says that
     /// these are not the reference's.
     fn finish(&mut self, tables: &Tables, found: &Memory) -> Result<(), String> {
         for (i, lot) in tables.lots.iter().enumerate() {
-            self.bales[i] = lot.bales as u32;
-            self.sessions[i] = lot.session as u16;
-            self.above[i] = lot.above as u16;
+            self.lots[i] = Lot {
+                bales: lot.bales as u32,
+                session: lot.session as u16,
+                above: lot.above as u16,
+            };
             for (j, &gain) in tables.gains[i].iter().enumerate() {
                 self.gains[entry(i + 1, j + 1)] = gain as i32;
             }
         }
         for (i, &mark) in tables.loaded_marks.iter().enumerate() {
-            self.loaded_marks[i] = mark as u16;
+            self.loadedpins[i] = mark as u16;
         }
         for (i, buyer) in tables.buyers.iter().enumerate() {
-            self.first_places[i] = buyer.first_place as u16;
-            self.loaded_counts[i] = buyer.loaded_marks as u16;
-            self.present_counts[i] = buyer.present_marks as u16;
+            self.firsts[i] = buyer.first_place as u16;
+            self.loadedsizes[i] = buyer.loaded_marks as u16;
+            self.presentsizes[i] = buyer.present_marks as u16;
             self.visited[i] = tables.visited[i] as u16;
             for (j, &count) in tables.counts[i].iter().enumerate() {
                 self.counts[entry(i + 1, j + 1)] = count as u16;
             }
             let stretch = buyer.first_place..buyer.first_place + buyer.loaded_marks;
-            let free = &found.present_marks[stretch.clone()];
+            let free = &found.presentpins[stretch.clone()];
             let mut present = free[..buyer.present_marks].to_vec();
             present.sort_unstable();
             let wanted = tables.present_marks[i].iter().map(|&mark| mark as u16);
             if !wanted.eq(present) {
-                return Err("the sets of present marks".into());
+                return Err("the sets of present pins".into());
             }
-            self.present_marks[stretch].copy_from_slice(free);
+            self.presentpins[stretch].copy_from_slice(free);
         }
         Ok(())
     }
@@ -169,18 +195,13 @@ impl Memory {
     /// An error names the first table that differs.
     fn same_as(&self, other: &Memory) -> Result<(), String> {
         let tables = [
+            ("lots", self.lots == other.lots),
             ("output", self.output == other.output),
-            ("bales", self.bales == other.bales),
-            ("sessions", self.sessions == other.sessions),
-            ("lots above", self.above == other.above),
-            ("loaded marks", self.loaded_marks == other.loaded_marks),
-            ("present marks", self.present_marks == other.present_marks),
-            ("first places", self.first_places == other.first_places),
-            ("loaded counts", self.loaded_counts == other.loaded_counts),
-            (
-                "present counts",
-                self.present_counts == other.present_counts,
-            ),
+            ("loadedpins", self.loadedpins == other.loadedpins),
+            ("presentpins", self.presentpins == other.presentpins),
+            ("firsts", self.firsts == other.firsts),
+            ("loadedsizes", self.loadedsizes == other.loadedsizes),
+            ("presentsizes", self.presentsizes == other.presentsizes),
             ("counts", self.counts == other.counts),
             ("gains", self.gains == other.gains),
             ("visited", self.visited == other.visited),
@@ -192,12 +213,12 @@ impl Memory {
     }
 }
 
-/// Runs a file on memory of random bytes through an entry and compares all with the reference:
-/// the return, or what differs.
-pub fn compare(through: Entry, file: &[u8], random: &mut Random) -> Result<u32, String> {
+/// Runs a file on memory of random bytes and compares all with the reference: the return, or what
+/// differs. The stretches of pins are compared for numbers that name a net and for some that don't.
+pub fn compare(file: &[u8], random: &mut Random) -> Result<u32, String> {
     let before = Memory::noise(random);
     let mut found = before.clone();
-    let outcome = found.run(through, file);
+    let outcome = found.run(file);
 
     let mut wanted = before;
     let (code, text) = match parse(file) {
@@ -217,6 +238,10 @@ pub fn compare(through: Entry, file: &[u8], random: &mut Random) -> Result<u32, 
     }
     wanted.output[..written].copy_from_slice(&text);
     found.same_as(&wanted)?;
+    for net in [0, 1, random.between(1, 1_024) as u32, 1_024, 1_025] {
+        found.compare_pins(false, net)?;
+        found.compare_pins(true, net)?;
+    }
     Ok(code)
 }
 
@@ -296,17 +321,64 @@ fn last_number(line: &[u8]) -> u64 {
     field.parse().expect("a number")
 }
 
-/// The sale files of the folder `sales`, with their names.
-pub fn sales_on_file() -> Vec<(String, Vec<u8>)> {
+/// The sale files of the folder `sales`.
+pub fn sales_on_file() -> Vec<PathBuf> {
     let folder = concat!(env!("CARGO_MANIFEST_DIR"), "/../sales");
-    let mut sales = Vec::new();
-    for entry in std::fs::read_dir(folder).expect("the folder sales") {
-        let path = entry.expect("an entry").path();
-        if path.extension().is_some_and(|ending| ending == "sale") {
-            let name = path.file_name().expect("a name").to_string_lossy().into();
-            sales.push((name, std::fs::read(&path).expect("a sale file")));
-        }
-    }
+    let entries = std::fs::read_dir(folder).expect("the folder sales");
+    let mut sales: Vec<PathBuf> = entries
+        .map(|entry| entry.expect("an entry").path())
+        .filter(|path| path.extension().is_some_and(|ending| ending == "sale"))
+        .collect();
     sales.sort();
     sales
+}
+
+/// Up to 300 bytes, of all values or of those that sale files are made of.
+pub fn random_bytes(seed: u64) -> Vec<u8> {
+    let mut random = Random::new(seed);
+    let any = random.in_hundred(30);
+    let length = random.between(0, 300);
+    (0..length)
+        .map(|_| {
+            if any {
+                random.bits() as u8
+            } else {
+                *random.pick(b"SALEOTBUYJMWP,,,,0123456789\n\n\n")
+            }
+        })
+        .collect()
+}
+
+/// A list of calls for the catalogue of a file, now and then one that is refused.
+pub fn random_list(seed: u64, file: &[u8]) -> Vec<u32> {
+    let mut random = Random::new(seed);
+    let count = if random.in_hundred(2) {
+        512
+    } else {
+        random.between(0, 24) as usize
+    };
+    let calls = match parse(file) {
+        Ok(sale) => calls(seed, &sale.catalogue, count),
+        Err(_) => vec![Call::A; count],
+    };
+    let mut numbers = Vec::new();
+    for call in calls {
+        let (letter, x, y) = match call {
+            Call::J { u, v } => (b'J', u, v),
+            Call::S => (b'S', random.bits(), random.bits()),
+            Call::M { u, t } => (b'M', u, t),
+            Call::B => (b'B', random.bits(), random.bits()),
+            Call::W { u, v } => (b'W', u, v),
+            Call::P => (b'P', random.bits(), random.bits()),
+            Call::A => (b'A', random.bits(), random.bits()),
+        };
+        numbers.extend([letter.into(), x as u32, y as u32]);
+    }
+    match random.between(0, 19) {
+        0 => numbers.push(b'A'.into()),
+        1 => numbers.extend([random.bits() as u32, 1, 2]),
+        2 => numbers.resize(3 * 513, b'A'.into()),
+        _ => {}
+    }
+    numbers
 }

@@ -1,13 +1,15 @@
 //! The proved engine against the reference on sales on file, generated ones, damaged ones and
-//! random bytes; on lists of calls apart from their catalogue; then on short memory. The lots are
-//! lent as tables, and as records with every sale on file and every fourth of the others. The
-//! environment's SEED, a number, gives other sales than the usual ones.
+//! random bytes; on lists of calls apart from their catalogue; then on short memory. The program
+//! `splitter` on the sales on file. The environment's SEED, a number, gives other sales than the
+//! usual ones.
 
-use compare::{compare, compare_list, sales_on_file, Entry, Memory};
-use kapokdrill::lent::{Outcome, LOTS, MARKS, OUTPUT, ROWS};
+use compare::{compare, compare_list, random_bytes, random_list, sales_on_file, Memory};
+use kapokdrill::lent::{Outcome, NETS, OUTPUT, PINS, ROWS, VERTICES};
 use reference::catalogue::{Buyer, Lot};
 use reference::generator::{calls, damaged, sale, sale_of_kind, write_sale, Kind, Random};
-use reference::{parse, Call, Catalogue, Sale};
+use reference::{Catalogue, Sale};
+use std::fs::File;
+use std::process::Command;
 
 fn seed() -> u64 {
     match std::env::var("SEED") {
@@ -22,13 +24,9 @@ fn all_agree(name: &str, count: u64, make: impl Fn(u64) -> Vec<u8>) -> [u64; 8] 
     let first = seed() * 1_000_000;
     for seed in first..first + count {
         let file = make(seed);
-        let agrees = |through| match compare(through, &file, &mut Random::new(seed)) {
-            Ok(code) => code as usize,
-            Err(what) => panic!("{name}, seed {seed}, {through:?}: {what}"),
-        };
-        returns[agrees(Entry::Tables)] += 1;
-        if seed % 4 == 0 {
-            agrees(Entry::Records);
+        match compare(&file, &mut Random::new(seed)) {
+            Ok(code) => returns[code as usize] += 1,
+            Err(what) => panic!("{name}, seed {seed}: {what}"),
         }
     }
     returns
@@ -39,12 +37,24 @@ fn sales_on_file_agree() {
     let sales = sales_on_file();
     assert!(sales.len() >= 150);
     let mut random = Random::new(seed());
-    for (name, file) in &sales {
-        for through in [Entry::Tables, Entry::Records] {
-            if let Err(what) = compare(through, file, &mut random) {
-                panic!("{name}, {through:?}: {what}");
-            }
+    for path in &sales {
+        let file = std::fs::read(path).expect("a sale file");
+        if let Err(what) = compare(&file, &mut random) {
+            panic!("{}: {what}", path.display());
         }
+    }
+}
+
+#[test]
+fn the_program_prints_the_reports_on_file() {
+    let program = concat!(env!("CARGO_MANIFEST_DIR"), "/../target/bin/splitter");
+    for path in sales_on_file() {
+        let sale = File::open(&path).expect("a sale file");
+        let end = Command::new(program).stdin(sale).output();
+        let end = end.expect("the program runs");
+        assert!(end.status.success());
+        let report = std::fs::read(path.with_extension("report")).expect("its report");
+        assert!(end.stdout == report, "{}", path.display());
     }
 }
 
@@ -61,22 +71,6 @@ fn damaged_sales_agree() {
     for code in [1, 2, 3, 4, 6, 7] {
         assert!(returns[code] > 0, "no damaged file gave {code}");
     }
-}
-
-/// Up to 300 bytes, of all values or of those that sale files are made of.
-fn random_bytes(seed: u64) -> Vec<u8> {
-    let mut random = Random::new(seed);
-    let any = random.in_hundred(30);
-    let length = random.between(0, 300);
-    (0..length)
-        .map(|_| {
-            if any {
-                random.bits() as u8
-            } else {
-                *random.pick(b"SALEOTBUYJMWP,,,,0123456789\n\n\n")
-            }
-        })
-        .collect()
 }
 
 #[test]
@@ -131,40 +125,6 @@ fn full_tables_agree() {
     assert_eq!(returns[0], 2);
 }
 
-/// A list of calls for the catalogue of a file, now and then one that is refused.
-fn list(seed: u64, file: &[u8]) -> Vec<u32> {
-    let mut random = Random::new(seed);
-    let count = if random.in_hundred(2) {
-        512
-    } else {
-        random.between(0, 24) as usize
-    };
-    let calls = match parse(file) {
-        Ok(sale) => calls(seed, &sale.catalogue, count),
-        Err(_) => vec![Call::A; count],
-    };
-    let mut numbers = Vec::new();
-    for call in calls {
-        let (letter, x, y) = match call {
-            Call::J { u, v } => (b'J', u, v),
-            Call::S => (b'S', random.bits(), random.bits()),
-            Call::M { u, t } => (b'M', u, t),
-            Call::B => (b'B', random.bits(), random.bits()),
-            Call::W { u, v } => (b'W', u, v),
-            Call::P => (b'P', random.bits(), random.bits()),
-            Call::A => (b'A', random.bits(), random.bits()),
-        };
-        numbers.extend([letter.into(), x as u32, y as u32]);
-    }
-    match random.between(0, 19) {
-        0 => numbers.push(b'A'.into()),
-        1 => numbers.extend([random.bits() as u32, 1, 2]),
-        2 => numbers.resize(3 * 513, b'A'.into()),
-        _ => {}
-    }
-    numbers
-}
-
 #[test]
 fn lists_apart_from_their_catalogue_agree() {
     let mut returns = [0; 8];
@@ -175,7 +135,7 @@ fn lists_apart_from_their_catalogue_agree() {
         } else {
             sale(seed)
         };
-        match compare_list(&file, &list(seed, &file), &mut Random::new(seed)) {
+        match compare_list(&file, &random_list(seed, &file), &mut Random::new(seed)) {
             Ok(code) => returns[code as usize] += 1,
             Err(what) => panic!("list, seed {seed}: {what}"),
         }
@@ -186,28 +146,52 @@ fn lists_apart_from_their_catalogue_agree() {
     }
 }
 
+#[test]
+fn stretches_of_pins_agree_in_short_and_odd_tables() {
+    let mut random = Random::new(seed());
+    for _ in 0..2_000 {
+        let mut memory = Memory::noise(&mut random);
+        // most stretches then lie in their table
+        let span = *random.pick(&[64, 8_192, 65_536]);
+        for table in [&mut memory.firsts, &mut memory.loadedsizes] {
+            for entry in table.iter_mut() {
+                *entry = (u32::from(*entry) % span) as u16;
+            }
+        }
+        match random.between(0, 9) {
+            0 => memory.loadedpins.truncate(PINS - 1),
+            1 => memory.presentpins.truncate(PINS - 1),
+            2 => memory.firsts.truncate(NETS - 1),
+            3 => memory.loadedsizes.truncate(NETS - 1),
+            4 => memory.presentsizes.truncate(0),
+            _ => {}
+        }
+        for net in [0, 1, 2, 1_023, 1_024, 1_025, u32::MAX] {
+            for present in [false, true] {
+                if let Err(what) = memory.compare_pins(present, net) {
+                    panic!("{what}");
+                }
+            }
+        }
+    }
+}
+
 /// The entries that a piece of lent memory must have, and how it is cut to fewer.
 type Cut = (usize, fn(&mut Memory, usize));
 
 #[test]
 fn short_memory_is_told_first_and_nothing_is_touched() {
-    let cuts: [Cut; 12] = [
+    let cuts: [Cut; 10] = [
+        (VERTICES, |memory, length| memory.lots.truncate(length)),
         (OUTPUT, |memory, length| memory.output.truncate(length)),
-        (LOTS, |memory, length| memory.bales.truncate(length)),
-        (LOTS, |memory, length| memory.sessions.truncate(length)),
-        (LOTS, |memory, length| memory.above.truncate(length)),
-        (MARKS, |memory, length| memory.loaded_marks.truncate(length)),
-        (MARKS, |memory, length| {
-            memory.present_marks.truncate(length)
-        }),
-        (LOTS, |memory, length| memory.first_places.truncate(length)),
-        (LOTS, |memory, length| memory.loaded_counts.truncate(length)),
-        (LOTS, |memory, length| {
-            memory.present_counts.truncate(length)
-        }),
+        (PINS, |memory, length| memory.loadedpins.truncate(length)),
+        (PINS, |memory, length| memory.presentpins.truncate(length)),
+        (NETS, |memory, length| memory.firsts.truncate(length)),
+        (NETS, |memory, length| memory.loadedsizes.truncate(length)),
+        (NETS, |memory, length| memory.presentsizes.truncate(length)),
         (ROWS, |memory, length| memory.counts.truncate(length)),
         (ROWS, |memory, length| memory.gains.truncate(length)),
-        (LOTS, |memory, length| memory.visited.truncate(length)),
+        (NETS, |memory, length| memory.visited.truncate(length)),
     ];
     let accepted: &[u8] = b"SALE,1,0,2,1000\nLOT,7,1\n";
     let too_long = [b'\n'; 60_001];
@@ -222,15 +206,24 @@ fn short_memory_is_told_first_and_nothing_is_touched() {
                 let mut memory = Memory::noise(&mut random);
                 cut(&mut memory, short);
                 let before = memory.clone();
-                for through in [Entry::Tables, Entry::Records] {
-                    assert_eq!(memory.run(through, file), told);
-                    assert!(memory == before, "8 touched something");
-                }
+                assert_eq!(memory.run(file), told);
+                assert!(memory == before, "8 touched something");
                 let list = memory.run_list(file, &[b'X'.into()]);
                 assert_eq!((list.code, list.written, list.total), (8, 0, 0));
                 assert_eq!(list.stack.joins().count(), 0);
                 assert!(memory == before, "8 touched something");
             }
+        }
+    }
+    for column in 0..3 {
+        for short in [VERTICES - 1, 0] {
+            let mut memory = Memory::noise(&mut random);
+            let before = memory.clone();
+            let mut entries = [VERTICES; 3];
+            entries[column] = short;
+            let list = memory.run_list_with(accepted, &[], entries);
+            assert_eq!((list.code, list.written, list.total), (8, 0, 0));
+            assert!(memory == before, "8 touched something");
         }
     }
 }

@@ -1,35 +1,21 @@
-//! The engine over memory of the caller's, the lots as three tables (`run`) or as records
-//! (`run_lots`), and with a list of calls apart from the catalogue (`run_list`). Every slice
-//! crosses with its own length, and the engine tests the lengths, so no call of these functions
-//! can be wrong.
+//! The engine over memory of the caller's: a sale file (`run`), a list of calls apart from the
+//! catalogue (`run_list`), and a net's pins as a stretch of a table (`pins`). Every slice crosses
+//! with its own length, and the engine tests the lengths, so no call of these functions can be
+//! wrong. The tables have the names that the engine gives them.
 
 /// Bytes that the output must have.
 pub const OUTPUT: usize = 60_000;
-/// Entries of a table by lot or by buyer.
-pub const LOTS: usize = 1_024;
-/// Entries of a table of marks.
-pub const MARKS: usize = 8_192;
+/// Records of lots, and entries of a table by lot.
+pub const VERTICES: usize = 1_024;
+/// Entries of a table by net.
+pub const NETS: usize = 1_024;
+/// Entries of a table of pins.
+pub const PINS: usize = 8_192;
 /// Entries of the tables of counts and gains.
 pub const ROWS: usize = 16_384;
 
-/// What the engine is lent. A slice shorter than it must be gives 8.
-pub struct Lent<'a> {
-    pub output: &'a mut [u8],
-    pub bales: &'a mut [u32],
-    pub sessions: &'a mut [u16],
-    pub above: &'a mut [u16],
-    pub loaded_marks: &'a mut [u16],
-    pub present_marks: &'a mut [u16],
-    pub first_places: &'a mut [u16],
-    pub loaded_counts: &'a mut [u16],
-    pub present_counts: &'a mut [u16],
-    pub counts: &'a mut [u16],
-    pub gains: &'a mut [i32],
-    pub visited: &'a mut [u16],
-}
-
-/// A lot: its bales, its session (0 off the board) and the lot that it was joined into (0 on the
-/// board).
+/// A lot's record: its bales, its session (0 off the board) and the lot that it was joined into (0
+/// on the board).
 #[repr(C)]
 #[derive(Clone, Copy, Debug, PartialEq, Eq)]
 pub struct Lot {
@@ -38,18 +24,34 @@ pub struct Lot {
     pub above: u16,
 }
 
-/// What the engine is lent where the lots are records.
-pub struct LentLots<'a> {
-    pub lots: &'a mut [Lot],
+/// What the engine is lent beside the lots. A slice shorter than it must be gives 8.
+pub struct Lent<'a> {
     pub output: &'a mut [u8],
-    pub loaded_marks: &'a mut [u16],
-    pub present_marks: &'a mut [u16],
-    pub first_places: &'a mut [u16],
-    pub loaded_counts: &'a mut [u16],
-    pub present_counts: &'a mut [u16],
+    pub loadedpins: &'a mut [u16],
+    pub presentpins: &'a mut [u16],
+    pub firsts: &'a mut [u16],
+    pub loadedsizes: &'a mut [u16],
+    pub presentsizes: &'a mut [u16],
     pub counts: &'a mut [u16],
     pub gains: &'a mut [i32],
     pub visited: &'a mut [u16],
+}
+
+/// The fields of the lots' records, a table each: what `run_list` is lent for the lots.
+pub struct Columns<'a> {
+    pub weights: &'a mut [u32],
+    pub blocks: &'a mut [u16],
+    pub aboves: &'a mut [u16],
+}
+
+/// The tables that hand out a net's pins.
+#[derive(Clone, Copy)]
+pub struct NetTables<'a> {
+    pub loadedpins: &'a [u16],
+    pub presentpins: &'a [u16],
+    pub firsts: &'a [u16],
+    pub loadedsizes: &'a [u16],
+    pub presentsizes: &'a [u16],
 }
 
 /// 0 or the refusal's number of 1 to 8, and how many bytes of the output hold the report.
@@ -60,12 +62,20 @@ pub struct Outcome {
     pub written: usize,
 }
 
+/// A stretch of a table: its first place, from 0, and how many places it has.
+#[repr(C)]
+#[derive(Clone, Copy, Debug, PartialEq, Eq)]
+pub struct Stretch {
+    pub first: usize,
+    pub size: usize,
+}
+
 /// The joins that stand after a list of calls.
 #[repr(C)]
 #[derive(Clone, Debug)]
 pub struct Stack {
-    into: [u16; LOTS],
-    gone: [u16; LOTS],
+    into: [u16; VERTICES],
+    gone: [u16; VERTICES],
     depth: usize,
 }
 
@@ -94,49 +104,20 @@ extern "C" {
     fn kapokdrill_run(
         file: *const u8,
         file_length: usize,
-        output: *mut u8,
-        output_length: usize,
-        bales: *mut u32,
-        bales_length: usize,
-        sessions: *mut u16,
-        sessions_length: usize,
-        above: *mut u16,
-        above_length: usize,
-        loaded_marks: *mut u16,
-        loaded_marks_length: usize,
-        present_marks: *mut u16,
-        present_marks_length: usize,
-        first_places: *mut u16,
-        first_places_length: usize,
-        loaded_counts: *mut u16,
-        loaded_counts_length: usize,
-        present_counts: *mut u16,
-        present_counts_length: usize,
-        counts: *mut u16,
-        counts_length: usize,
-        gains: *mut i32,
-        gains_length: usize,
-        visited: *mut u16,
-        visited_length: usize,
-    ) -> Outcome;
-
-    fn kapokdrill_run_lots(
-        file: *const u8,
-        file_length: usize,
         lots: *mut Lot,
         lots_length: usize,
         output: *mut u8,
         output_length: usize,
-        loaded_marks: *mut u16,
-        loaded_marks_length: usize,
-        present_marks: *mut u16,
-        present_marks_length: usize,
-        first_places: *mut u16,
-        first_places_length: usize,
-        loaded_counts: *mut u16,
-        loaded_counts_length: usize,
-        present_counts: *mut u16,
-        present_counts_length: usize,
+        loadedpins: *mut u16,
+        loadedpins_length: usize,
+        presentpins: *mut u16,
+        presentpins_length: usize,
+        firsts: *mut u16,
+        firsts_length: usize,
+        loadedsizes: *mut u16,
+        loadedsizes_length: usize,
+        presentsizes: *mut u16,
+        presentsizes_length: usize,
         counts: *mut u16,
         counts_length: usize,
         gains: *mut i32,
@@ -152,22 +133,22 @@ extern "C" {
         list_length: usize,
         output: *mut u8,
         output_length: usize,
-        bales: *mut u32,
-        bales_length: usize,
-        sessions: *mut u16,
-        sessions_length: usize,
-        above: *mut u16,
-        above_length: usize,
-        loaded_marks: *mut u16,
-        loaded_marks_length: usize,
-        present_marks: *mut u16,
-        present_marks_length: usize,
-        first_places: *mut u16,
-        first_places_length: usize,
-        loaded_counts: *mut u16,
-        loaded_counts_length: usize,
-        present_counts: *mut u16,
-        present_counts_length: usize,
+        weights: *mut u32,
+        weights_length: usize,
+        blocks: *mut u16,
+        blocks_length: usize,
+        aboves: *mut u16,
+        aboves_length: usize,
+        loadedpins: *mut u16,
+        loadedpins_length: usize,
+        presentpins: *mut u16,
+        presentpins_length: usize,
+        firsts: *mut u16,
+        firsts_length: usize,
+        loadedsizes: *mut u16,
+        loadedsizes_length: usize,
+        presentsizes: *mut u16,
+        presentsizes_length: usize,
         counts: *mut u16,
         counts_length: usize,
         gains: *mut i32,
@@ -175,65 +156,45 @@ extern "C" {
         visited: *mut u16,
         visited_length: usize,
     ) -> ListOutcome;
+
+    fn kapokdrill_pins(
+        loadedpins: *const u16,
+        loadedpins_length: usize,
+        presentpins: *const u16,
+        presentpins_length: usize,
+        firsts: *const u16,
+        firsts_length: usize,
+        loadedsizes: *const u16,
+        loadedsizes_length: usize,
+        presentsizes: *const u16,
+        presentsizes_length: usize,
+        present: bool,
+        net: u32,
+    ) -> Stretch;
 }
 
 /// Reads a sale file, runs its calls and writes the report, on slices of any length.
-pub fn run(file: &[u8], lent: Lent<'_>) -> Outcome {
-    // SAFETY: each pointer with its length is a slice that lives through the call, and the
-    // `&mut` ones overlap nothing.
+pub fn run(file: &[u8], lots: &mut [Lot], lent: Lent<'_>) -> Outcome {
+    // SAFETY: each pointer with its length is a slice that lives through the call, the `&mut`
+    // ones overlap nothing, and `Lot` has the fields and the layout of the engine's own.
     unsafe {
         kapokdrill_run(
             file.as_ptr(),
             file.len(),
+            lots.as_mut_ptr(),
+            lots.len(),
             lent.output.as_mut_ptr(),
             lent.output.len(),
-            lent.bales.as_mut_ptr(),
-            lent.bales.len(),
-            lent.sessions.as_mut_ptr(),
-            lent.sessions.len(),
-            lent.above.as_mut_ptr(),
-            lent.above.len(),
-            lent.loaded_marks.as_mut_ptr(),
-            lent.loaded_marks.len(),
-            lent.present_marks.as_mut_ptr(),
-            lent.present_marks.len(),
-            lent.first_places.as_mut_ptr(),
-            lent.first_places.len(),
-            lent.loaded_counts.as_mut_ptr(),
-            lent.loaded_counts.len(),
-            lent.present_counts.as_mut_ptr(),
-            lent.present_counts.len(),
-            lent.counts.as_mut_ptr(),
-            lent.counts.len(),
-            lent.gains.as_mut_ptr(),
-            lent.gains.len(),
-            lent.visited.as_mut_ptr(),
-            lent.visited.len(),
-        )
-    }
-}
-
-/// The same, with the lots as records.
-pub fn run_lots(file: &[u8], lent: LentLots<'_>) -> Outcome {
-    // SAFETY: as in `run`; `Lot` has the fields and the layout of the engine's own.
-    unsafe {
-        kapokdrill_run_lots(
-            file.as_ptr(),
-            file.len(),
-            lent.lots.as_mut_ptr(),
-            lent.lots.len(),
-            lent.output.as_mut_ptr(),
-            lent.output.len(),
-            lent.loaded_marks.as_mut_ptr(),
-            lent.loaded_marks.len(),
-            lent.present_marks.as_mut_ptr(),
-            lent.present_marks.len(),
-            lent.first_places.as_mut_ptr(),
-            lent.first_places.len(),
-            lent.loaded_counts.as_mut_ptr(),
-            lent.loaded_counts.len(),
-            lent.present_counts.as_mut_ptr(),
-            lent.present_counts.len(),
+            lent.loadedpins.as_mut_ptr(),
+            lent.loadedpins.len(),
+            lent.presentpins.as_mut_ptr(),
+            lent.presentpins.len(),
+            lent.firsts.as_mut_ptr(),
+            lent.firsts.len(),
+            lent.loadedsizes.as_mut_ptr(),
+            lent.loadedsizes.len(),
+            lent.presentsizes.as_mut_ptr(),
+            lent.presentsizes.len(),
             lent.counts.as_mut_ptr(),
             lent.counts.len(),
             lent.gains.as_mut_ptr(),
@@ -247,7 +208,7 @@ pub fn run_lots(file: &[u8], lent: LentLots<'_>) -> Outcome {
 /// Runs a list of calls on the catalogue of a sale file, whose own calls are read and do not run:
 /// three numbers for each call, the letter's byte and two numbers. A list of more than 512 calls is
 /// refused as 7, one that is not made of such threes as 2.
-pub fn run_list(file: &[u8], list: &[u32], lent: Lent<'_>) -> ListOutcome {
+pub fn run_list(file: &[u8], list: &[u32], lots: Columns<'_>, lent: Lent<'_>) -> ListOutcome {
     // SAFETY: as in `run`; `ListOutcome` has the fields and the layout of the engine's own.
     unsafe {
         kapokdrill_list(
@@ -257,28 +218,51 @@ pub fn run_list(file: &[u8], list: &[u32], lent: Lent<'_>) -> ListOutcome {
             list.len(),
             lent.output.as_mut_ptr(),
             lent.output.len(),
-            lent.bales.as_mut_ptr(),
-            lent.bales.len(),
-            lent.sessions.as_mut_ptr(),
-            lent.sessions.len(),
-            lent.above.as_mut_ptr(),
-            lent.above.len(),
-            lent.loaded_marks.as_mut_ptr(),
-            lent.loaded_marks.len(),
-            lent.present_marks.as_mut_ptr(),
-            lent.present_marks.len(),
-            lent.first_places.as_mut_ptr(),
-            lent.first_places.len(),
-            lent.loaded_counts.as_mut_ptr(),
-            lent.loaded_counts.len(),
-            lent.present_counts.as_mut_ptr(),
-            lent.present_counts.len(),
+            lots.weights.as_mut_ptr(),
+            lots.weights.len(),
+            lots.blocks.as_mut_ptr(),
+            lots.blocks.len(),
+            lots.aboves.as_mut_ptr(),
+            lots.aboves.len(),
+            lent.loadedpins.as_mut_ptr(),
+            lent.loadedpins.len(),
+            lent.presentpins.as_mut_ptr(),
+            lent.presentpins.len(),
+            lent.firsts.as_mut_ptr(),
+            lent.firsts.len(),
+            lent.loadedsizes.as_mut_ptr(),
+            lent.loadedsizes.len(),
+            lent.presentsizes.as_mut_ptr(),
+            lent.presentsizes.len(),
             lent.counts.as_mut_ptr(),
             lent.counts.len(),
             lent.gains.as_mut_ptr(),
             lent.gains.len(),
             lent.visited.as_mut_ptr(),
             lent.visited.len(),
+        )
+    }
+}
+
+/// The stretch of `presentpins` that holds a net's present pins, or of `loadedpins` with its loaded
+/// ones; the empty stretch at the table's start for a number that names no net, a short table or a
+/// stretch that reaches past its table.
+pub fn pins(tables: NetTables<'_>, present: bool, net: u32) -> Stretch {
+    // SAFETY: each pointer with its length is a slice that lives through the call.
+    unsafe {
+        kapokdrill_pins(
+            tables.loadedpins.as_ptr(),
+            tables.loadedpins.len(),
+            tables.presentpins.as_ptr(),
+            tables.presentpins.len(),
+            tables.firsts.as_ptr(),
+            tables.firsts.len(),
+            tables.loadedsizes.as_ptr(),
+            tables.loadedsizes.len(),
+            tables.presentsizes.as_ptr(),
+            tables.presentsizes.len(),
+            present,
+            net,
         )
     }
 }

@@ -1,23 +1,21 @@
 //! The proved splitter for Rust: `Memory` owns all that the engine is lent and runs sales on it.
-//! Rests on the static libraries of the crates `engine` and `records`; `lent` has the calls across.
+//! Rests on the static library of the crate `engine`; `lent` has the calls across.
 
 pub mod lent;
 
-use lent::{Lent, ListOutcome, LOTS, MARKS, OUTPUT, ROWS};
+use lent::{Columns, Lent, ListOutcome, Lot, NetTables, NETS, OUTPUT, PINS, ROWS, VERTICES};
 
 /// The lent output and tables of document 01, used again by every run and never cleared. Lots,
-/// buyers and sessions count from 1. After a run with code 0 the entries of the sale's own lots
-/// and buyers hold what document 01 says; others keep what they held.
+/// buyers (the nets) and sessions (the blocks) count from 1. After a run with code 0 the entries of
+/// the sale's own lots and buyers hold what document 01 says; others keep what they held.
 pub struct Memory {
+    lots: Box<[Lot]>,
     output: Box<[u8]>,
-    bales: Box<[u32]>,
-    sessions: Box<[u16]>,
-    above: Box<[u16]>,
-    loaded_marks: Box<[u16]>,
-    present_marks: Box<[u16]>,
-    first_places: Box<[u16]>,
-    loaded_counts: Box<[u16]>,
-    present_counts: Box<[u16]>,
+    loadedpins: Box<[u16]>,
+    presentpins: Box<[u16]>,
+    firsts: Box<[u16]>,
+    loadedsizes: Box<[u16]>,
+    presentsizes: Box<[u16]>,
     counts: Box<[u16]>,
     gains: Box<[i32]>,
     visited: Box<[u16]>,
@@ -25,19 +23,22 @@ pub struct Memory {
 
 impl Default for Memory {
     fn default() -> Self {
+        let lot = Lot {
+            bales: 0,
+            session: 0,
+            above: 0,
+        };
         Memory {
+            lots: vec![lot; VERTICES].into(),
             output: vec![0; OUTPUT].into(),
-            bales: vec![0; LOTS].into(),
-            sessions: vec![0; LOTS].into(),
-            above: vec![0; LOTS].into(),
-            loaded_marks: vec![0; MARKS].into(),
-            present_marks: vec![0; MARKS].into(),
-            first_places: vec![0; LOTS].into(),
-            loaded_counts: vec![0; LOTS].into(),
-            present_counts: vec![0; LOTS].into(),
+            loadedpins: vec![0; PINS].into(),
+            presentpins: vec![0; PINS].into(),
+            firsts: vec![0; NETS].into(),
+            loadedsizes: vec![0; NETS].into(),
+            presentsizes: vec![0; NETS].into(),
             counts: vec![0; ROWS].into(),
             gains: vec![0; ROWS].into(),
-            visited: vec![0; LOTS].into(),
+            visited: vec![0; NETS].into(),
         }
     }
 }
@@ -46,63 +47,68 @@ impl Memory {
     /// Reads a sale file, runs its calls and writes the report. The code is 0, or 1 to 7 for a
     /// file turned down, whose report is one line.
     pub fn run(&mut self, file: &[u8]) -> (u32, &[u8]) {
-        let outcome = lent::run(file, self.lent());
+        let (lots, lent) = self.lent();
+        let outcome = lent::run(file, lots, lent);
         (outcome.code, &self.output[..outcome.written])
     }
 
     /// Runs a list of calls, as `lent::run_list` takes it, on the catalogue of a sale file, and
     /// writes the lines of their answers.
     pub fn run_list(&mut self, file: &[u8], list: &[u32]) -> (ListOutcome, &[u8]) {
-        let outcome = lent::run_list(file, list, self.lent());
+        let mut weights: Vec<u32> = self.lots.iter().map(|lot| lot.bales).collect();
+        let mut blocks: Vec<u16> = self.lots.iter().map(|lot| lot.session).collect();
+        let mut aboves: Vec<u16> = self.lots.iter().map(|lot| lot.above).collect();
+        let columns = Columns {
+            weights: &mut weights,
+            blocks: &mut blocks,
+            aboves: &mut aboves,
+        };
+        let (lots, lent) = self.lent();
+        let outcome = lent::run_list(file, list, columns, lent);
+        for (i, lot) in lots.iter_mut().enumerate() {
+            *lot = Lot {
+                bales: weights[i],
+                session: blocks[i],
+                above: aboves[i],
+            };
+        }
         let written = outcome.written;
         (outcome, &self.output[..written])
     }
 
-    fn lent(&mut self) -> Lent<'_> {
-        Lent {
+    fn lent(&mut self) -> (&mut [Lot], Lent<'_>) {
+        let lent = Lent {
             output: &mut self.output,
-            bales: &mut self.bales,
-            sessions: &mut self.sessions,
-            above: &mut self.above,
-            loaded_marks: &mut self.loaded_marks,
-            present_marks: &mut self.present_marks,
-            first_places: &mut self.first_places,
-            loaded_counts: &mut self.loaded_counts,
-            present_counts: &mut self.present_counts,
+            loadedpins: &mut self.loadedpins,
+            presentpins: &mut self.presentpins,
+            firsts: &mut self.firsts,
+            loadedsizes: &mut self.loadedsizes,
+            presentsizes: &mut self.presentsizes,
             counts: &mut self.counts,
             gains: &mut self.gains,
             visited: &mut self.visited,
-        }
+        };
+        (&mut self.lots, lent)
     }
 
-    /// The bales of each lot: off the board, those it had when it was joined.
-    pub fn bales(&self) -> &[u32] {
-        &self.bales
-    }
-
-    /// The session of each lot, 0 off the board.
-    pub fn sessions(&self) -> &[u16] {
-        &self.sessions
-    }
-
-    /// The lot that each was joined into, 0 on the board.
-    pub fn above(&self) -> &[u16] {
-        &self.above
+    /// The record of each lot.
+    pub fn lots(&self) -> &[Lot] {
+        &self.lots
     }
 
     /// Where each buyer's stretch begins in both tables of marks, from 0.
-    pub fn first_places(&self) -> &[u16] {
-        &self.first_places
+    pub fn firsts(&self) -> &[u16] {
+        &self.firsts
     }
 
     /// How many marks each buyer was loaded with.
-    pub fn loaded_counts(&self) -> &[u16] {
-        &self.loaded_counts
+    pub fn loadedsizes(&self) -> &[u16] {
+        &self.loadedsizes
     }
 
     /// How many marks each buyer has at present.
-    pub fn present_counts(&self) -> &[u16] {
-        &self.present_counts
+    pub fn presentsizes(&self) -> &[u16] {
+        &self.presentsizes
     }
 
     /// How many present marks a buyer has in a session, at `entry(buyer, session)`.
@@ -121,24 +127,26 @@ impl Memory {
     }
 
     /// A buyer's marks in the file's order; none for a number that names no buyer.
-    pub fn loaded_marks(&self, buyer: usize) -> &[u16] {
-        self.stretch(&self.loaded_marks, &self.loaded_counts, buyer)
+    pub fn loadedpins(&self, net: u32) -> &[u16] {
+        self.pins(&self.loadedpins, false, net)
     }
 
     /// A buyer's marks as they stand, in any order; none for a number that names no buyer.
-    pub fn present_marks(&self, buyer: usize) -> &[u16] {
-        self.stretch(&self.present_marks, &self.present_counts, buyer)
+    pub fn presentpins(&self, net: u32) -> &[u16] {
+        self.pins(&self.presentpins, true, net)
     }
 
-    /// A buyer's part of a table of marks. After a file turned down the records are free, so a
-    /// stretch may reach past the table: it is then empty, as document 01 has it.
-    fn stretch<'a>(&self, marks: &'a [u16], lengths: &[u16], buyer: usize) -> &'a [u16] {
-        if !(1..=LOTS).contains(&buyer) {
-            return &marks[..0];
-        }
-        let first = usize::from(self.first_places[buyer - 1]);
-        let end = first + usize::from(lengths[buyer - 1]);
-        marks.get(first..end).unwrap_or(&marks[..0])
+    /// The stretch of a table of pins that the engine hands out.
+    fn pins<'a>(&self, table: &'a [u16], present: bool, net: u32) -> &'a [u16] {
+        let tables = NetTables {
+            loadedpins: &self.loadedpins,
+            presentpins: &self.presentpins,
+            firsts: &self.firsts,
+            loadedsizes: &self.loadedsizes,
+            presentsizes: &self.presentsizes,
+        };
+        let stretch = lent::pins(tables, present, net);
+        &table[stretch.first..][..stretch.size]
     }
 }
 

@@ -1,7 +1,7 @@
 //! The worked sale of document 01 through the bindings: its report from the examples' programs, in
-//! Rust and in C, its tables through `Memory`, its lots as records, and its calls apart.
+//! Rust and in C, its tables through `Memory`, and its calls apart.
 
-use kapokdrill::lent::{self, LentLots, Lot, LOTS, MARKS, OUTPUT, ROWS};
+use kapokdrill::lent::{self, Lent, Lot, NETS, OUTPUT, PINS, ROWS, VERTICES};
 use kapokdrill::{entry, Memory};
 use std::io::Write;
 use std::path::Path;
@@ -69,18 +69,33 @@ fn a_file_turned_down_gives_its_number() {
 const ONE_JOIN: &[u8] = b"SALE,5,3,2,200\nLOT,10,1\nLOT,10,1\nLOT,10,2\nLOT,10,2\nLOT,10,1\n\
     BUY,3,1,3\nBUY,2,2,5\nBUY,1,3,4\nJ,2,5\n";
 
+const fn lot(bales: u32, session: u16, above: u16) -> Lot {
+    Lot {
+        bales,
+        session,
+        above,
+    }
+}
+
+/// Its lots' records.
+const WITH_ONE_JOIN: [Lot; 5] = [
+    lot(10, 1, 0),
+    lot(20, 1, 0),
+    lot(10, 2, 0),
+    lot(10, 2, 0),
+    lot(10, 0, 2),
+];
+
 #[test]
 fn tables_of_the_worked_sale_with_one_join() {
     let mut memory = Memory::default();
     assert_eq!(memory.run(ONE_JOIN).0, 0);
-    assert_eq!(memory.bales()[..5], [10, 20, 10, 10, 10]);
-    assert_eq!(memory.sessions()[..5], [1, 1, 2, 2, 0]);
-    assert_eq!(memory.above()[..5], [0, 0, 0, 0, 2]);
-    assert_eq!(memory.first_places()[..3], [0, 2, 4]);
-    assert_eq!(memory.loaded_counts()[..3], [2, 2, 2]);
-    assert_eq!(memory.present_counts()[..3], [2, 1, 2]);
-    assert_eq!(memory.loaded_marks(2), [2, 5]);
-    assert_eq!(memory.present_marks(2), [2]);
+    assert_eq!(memory.lots()[..5], WITH_ONE_JOIN);
+    assert_eq!(memory.firsts()[..3], [0, 2, 4]);
+    assert_eq!(memory.loadedsizes()[..3], [2, 2, 2]);
+    assert_eq!(memory.presentsizes()[..3], [2, 1, 2]);
+    assert_eq!(memory.loadedpins(2), [2, 5]);
+    assert_eq!(memory.presentpins(2), [2]);
     assert_eq!(memory.counts()[entry(3, 2)], 2);
     assert_eq!(memory.gains()[entry(1, 2)], 3);
     assert_eq!(memory.gains()[entry(4, 1)], -1);
@@ -120,37 +135,25 @@ fn the_worked_sale_with_its_calls_apart() {
 }
 
 #[test]
-fn records_of_the_worked_sale_with_one_join() {
-    let lot = |bales, session, above| Lot {
-        bales,
-        session,
-        above,
-    };
-    let mut lots = vec![lot(7, 8, 9); LOTS];
-    let outcome = lent::run_lots(
+fn records_past_the_sale_keep_what_they_held() {
+    let mut lots = vec![lot(7, 8, 9); VERTICES];
+    let outcome = lent::run(
         ONE_JOIN,
-        LentLots {
-            lots: &mut lots,
+        &mut lots,
+        Lent {
             output: &mut [0; OUTPUT],
-            loaded_marks: &mut [0; MARKS],
-            present_marks: &mut [0; MARKS],
-            first_places: &mut [0; LOTS],
-            loaded_counts: &mut [0; LOTS],
-            present_counts: &mut [0; LOTS],
+            loadedpins: &mut [0; PINS],
+            presentpins: &mut [0; PINS],
+            firsts: &mut [0; NETS],
+            loadedsizes: &mut [0; NETS],
+            presentsizes: &mut [0; NETS],
             counts: &mut [0; ROWS],
             gains: &mut [0; ROWS],
-            visited: &mut [0; LOTS],
+            visited: &mut [0; NETS],
         },
     );
     assert_eq!(outcome.code, 0);
-    let written = [
-        lot(10, 1, 0),
-        lot(20, 1, 0),
-        lot(10, 2, 0),
-        lot(10, 2, 0),
-        lot(10, 0, 2),
-    ];
-    assert_eq!(lots[..5], written);
+    assert_eq!(lots[..5], WITH_ONE_JOIN);
     assert!(lots[5..].iter().all(|&kept| kept == lot(7, 8, 9)));
 }
 
@@ -158,8 +161,8 @@ fn records_of_the_worked_sale_with_one_join() {
 fn numbers_that_name_no_buyer_have_no_marks() {
     let mut memory = Memory::default();
     memory.run(&on_file("worked-sale.sale"));
-    for buyer in [0, 1_025, usize::MAX] {
-        assert_eq!(memory.loaded_marks(buyer).len(), 0);
-        assert_eq!(memory.present_marks(buyer).len(), 0);
+    for buyer in [0, 1_025, u32::MAX] {
+        assert_eq!(memory.loadedpins(buyer).len(), 0);
+        assert_eq!(memory.presentpins(buyer).len(), 0);
     }
 }

@@ -34,7 +34,7 @@ pub fn is_long(
     if aboves.len() < 1024 {
         return false;
     }
-    if !loader::long(pins, present, firsts, sizes, standing) {
+    if !stretches::are_long(pins, present, firsts, sizes, standing) {
         return false;
     }
     if counts.len() < 16384 {

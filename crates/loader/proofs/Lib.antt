@@ -1,4 +1,3 @@
 pub mod Fill
 pub mod Stretches
 pub mod Accepting
-pub mod Handing

@@ -1,14 +1,12 @@
-// Loads a sale file into lent tables, or says its first refusal; hands out a buyer's marks.
+// Loads a sale file into lent tables, or says its first refusal.
 use reader::Outcome;
 ghost use mathlib.Core.Path.{_≡_};
 ghost use Prim.Native.Nat.{_+_, _*_, _/_, _≤_};
-ghost use mathlib.Core.Bool.{cond};
 ghost use lib.Dec.{ltb};
 ghost use lib.ListN.{length, getD, take};
-ghost use Rattle.model.specs.Memory.{Filled, longLists, partOf, handedOut};
+ghost use Rattle.model.specs.Memory.{Filled};
 ghost use Rattle.lines.specs.Line.{limitsOf};
 ghost use Rattle.reader.specs.Whole.{averageOf};
-ghost use Rattle.loader.specs.Handed.{netTables, Backed, partIn};
 ghost use Rattle.loader.specs.Tables.{lists, LongLists, sizesOf, Loads};
 
 // The sizes of an accepted catalogue: how many lots, buyers, sessions, thousandths of slack, marks and calls; ⌈W/k⌉; the cap.
@@ -145,69 +143,4 @@ pub fn load(
             Loaded::Accepted(measure(weights, l, b, k, t, m, n))
         }
     }
-}
-
-// The buyers' tables and both mark tables have their lengths.
-pub fn long(loaded: &[u16], present: &[u16], firsts: &[u16], sizes: &[u16], counts: &[u16]) -> bool
-    ensures { λ r. ⌜ r ≡ longLists (netTables (now (loaded .entry)) (now (present .entry)) (now (firsts .entry)) (now (sizes .entry)) (now (counts .entry))) ⌝ }
-{
-    if loaded.len() < 8192 {
-        return false;
-    }
-    if present.len() < 8192 {
-        return false;
-    }
-    if firsts.len() < 1024 {
-        return false;
-    }
-    if sizes.len() < 1024 {
-        return false;
-    }
-    1024 <= counts.len()
-}
-
-// The stretch of a table that holds the pins of net e, or the empty one at its start; `long` says whether the tables are long enough.
-pub fn hand_out<'a>(
-    table: &'a [u16],
-    firsts: &[u16],
-    sizes: &[u16],
-    long: bool,
-    e: u32,
-) -> &'a [u16]
-    requires { ⌜ Backed long (now firsts) (now sizes) ⌝ }
-    ensures { λ r. ⌜ now r ≡ partOf (now (table .entry)) (partIn (now (table .entry)) (now (firsts .entry)) (now (sizes .entry)) long e) ⌝ }
-{
-    if !long {
-        return &table[0..0];
-    }
-    if !lines::between(1, 1024, e) {
-        return &table[0..0];
-    }
-    let x = (e - 1) as usize;
-    let from = firsts[x] as usize;
-    let end = from + sizes[x] as usize;
-    if table.len() < end {
-        return &table[0..0];
-    }
-    &table[from..end]
-}
-
-// A net's pins as loaded, or as they stand where `standing` is true: the stretch of the table that holds them, and the empty stretch at
-// the table's start for a number that no net has, for a short table and for a stretch that reaches past its table.
-pub fn pins_of<'a>(
-    loaded: &'a [u16],
-    present: &'a [u16],
-    firsts: &[u16],
-    sizes: &[u16],
-    counts: &[u16],
-    standing: bool,
-    e: u32,
-) -> &'a [u16]
-    ensures { λ r. ⌜ now r ≡ partOf (cond standing (now (present .entry)) (now (loaded .entry))) (handedOut (netTables (now (loaded .entry)) (now (present .entry)) (now (firsts .entry)) (now (sizes .entry)) (now (counts .entry))) standing e) ⌝ }
-{
-    let backed = long(loaded, present, firsts, sizes, counts);
-    if standing {
-        return hand_out(present, firsts, counts, backed, e);
-    }
-    hand_out(loaded, firsts, sizes, backed, e)
 }

@@ -10,9 +10,9 @@ use Rattle.model.specs.Catalogue.{Limits, mainLimits}
 use Rattle.model.specs.Grammar.{Reading, unread, reading, stopped, parse}
 use Rattle.model.specs.Memory.{Tables, Serves}
 use Rattle.guarantees.specs.Ranges.{accepted-ranges}
-use Rattle.engine.specs.Entry.{lotsWritten}
+use Rattle.columns.specs.Entry.{lotsWritten}
 use Rattle.records.specs.declared.Lot.{Lot}
-use Rattle.records.specs.declared.entry.Answer.{Answer}
+use Rattle.records.specs.declared.answering.Answer.{Answer}
 use Rattle.records.specs.Over.{over}
 use Rattle.records.specs.Lent.{inRecords}
 

@@ -5,7 +5,7 @@ ghost use lib.ListN.{length};
 ghost use Rattle.records.specs.Over.{over};
 ghost use Rattle.records.specs.Fields.{balesOf, sessionsOf, abovesOf};
 
-pub mod entry;
+pub mod answering;
 
 #[repr(C)]
 pub struct Lot {

@@ -1,5 +1,5 @@
 // The program: a sale file from standard input through the engine, on memory of its own, and the report to standard output.
-use engine::entry::kapokdrill_run;
+use columns::serve;
 
 fn main() {
     // one byte more than a file may have, so that a longer one is seen to be longer
@@ -17,7 +17,7 @@ fn main() {
     let mut gains = [0i32; 16384];
     let mut visited = [0u16; 1024];
     let n = io::read_full(0, &mut file);
-    let ran = kapokdrill_run(
+    let served = serve(
         &file[..n],
         &mut output,
         &mut weights,
@@ -32,6 +32,6 @@ fn main() {
         &mut gains,
         &mut visited,
     );
-    let written = ran.written;
+    let written = served.written;
     io::write_all(1, &output[..written]);
 }

@@ -19,15 +19,15 @@ returns-4 c =
     let at-if1 = c .before .before .before in
     by-tests _ (short-yes 60000 _ (at-if1 .if1 .left) (short-yes 1024 _ (c .before .before .if2 .left) (short-yes 1024 _ (c .before .if3 .left) (short-no 1024 _ _ (c .if4 .taken)))))
 
-long-requires : tie.Need-long-requires
-long-requires c κs = search needs
+are-long-requires : tie.Need-are-long-requires
+are-long-requires c κs = search needs
 
 returns-5 : tie.Need-returns-5
 returns-5 c =
     let at-if3 = c .before .before .before in
     let at-if2 = at-if3 .before in
     let at-if1 = at-if2 .before in
-    by-tests _ (short-yes 60000 _ (at-if1 .if1 .left) (short-yes 1024 _ (at-if2 .if2 .left) (short-yes 1024 _ (at-if3 .if3 .left) (short-yes 1024 _ (c .before .before .if4 .left) (both-no _ _ (lists-test _ (c .before .long .ensures)) (c .if5 .taken))))))
+    by-tests _ (short-yes 60000 _ (at-if1 .if1 .left) (short-yes 1024 _ (at-if2 .if2 .left) (short-yes 1024 _ (at-if3 .if3 .left) (short-yes 1024 _ (c .before .before .if4 .left) (both-no _ _ (lists-test _ (c .before .are-long .ensures)) (c .if5 .taken))))))
 
 returns-6 : tie.Need-returns-6
 returns-6 c =
@@ -35,7 +35,7 @@ returns-6 c =
     let at-if3 = at-if4 .before in
     let at-if2 = at-if3 .before in
     let at-if1 = at-if2 .before in
-    by-tests _ (short-yes 60000 _ (at-if1 .if1 .left) (short-yes 1024 _ (at-if2 .if2 .left) (short-yes 1024 _ (at-if3 .if3 .left) (short-yes 1024 _ (at-if4 .if4 .left) (both-yes _ _ (lists-test _ (c .before .before .long .ensures)) (c .before .if5 .left) (short-no 16384 _ _ (c .if6 .taken)))))))
+    by-tests _ (short-yes 60000 _ (at-if1 .if1 .left) (short-yes 1024 _ (at-if2 .if2 .left) (short-yes 1024 _ (at-if3 .if3 .left) (short-yes 1024 _ (at-if4 .if4 .left) (both-yes _ _ (lists-test _ (c .before .before .are-long .ensures)) (c .before .if5 .left) (short-no 16384 _ _ (c .if6 .taken)))))))
 
 returns-7 : tie.Need-returns-7
 returns-7 c =
@@ -44,7 +44,7 @@ returns-7 c =
     let at-if3 = at-if4 .before in
     let at-if2 = at-if3 .before in
     let at-if1 = at-if2 .before in
-    by-tests _ (short-yes 60000 _ (at-if1 .if1 .left) (short-yes 1024 _ (at-if2 .if2 .left) (short-yes 1024 _ (at-if3 .if3 .left) (short-yes 1024 _ (at-if4 .if4 .left) (both-yes _ _ (lists-test _ (at-long .long .ensures)) (c .before .before .if5 .left) (short-yes 16384 _ (c .before .if6 .left) (short-no 16384 _ _ (c .if7 .taken))))))))
+    by-tests _ (short-yes 60000 _ (at-if1 .if1 .left) (short-yes 1024 _ (at-if2 .if2 .left) (short-yes 1024 _ (at-if3 .if3 .left) (short-yes 1024 _ (at-if4 .if4 .left) (both-yes _ _ (lists-test _ (at-long .are-long .ensures)) (c .before .before .if5 .left) (short-yes 16384 _ (c .before .if6 .left) (short-no 16384 _ _ (c .if7 .taken))))))))
 
 returns-8 : tie.Need-returns-8
 returns-8 c =
@@ -53,7 +53,7 @@ returns-8 c =
     let at-if3 = at-if4 .before in
     let at-if2 = at-if3 .before in
     let at-if1 = at-if2 .before in
-    by-tests _ (short-yes 60000 _ (at-if1 .if1 .left) (short-yes 1024 _ (at-if2 .if2 .left) (short-yes 1024 _ (at-if3 .if3 .left) (short-yes 1024 _ (at-if4 .if4 .left) (both-yes _ _ (lists-test _ (at-long .long .ensures)) (c .before .before .if5 .left) (short-yes 16384 _ (c .before .if6 .left) (short-yes 16384 _ (c .if7 .left) (refl))))))))
+    by-tests _ (short-yes 60000 _ (at-if1 .if1 .left) (short-yes 1024 _ (at-if2 .if2 .left) (short-yes 1024 _ (at-if3 .if3 .left) (short-yes 1024 _ (at-if4 .if4 .left) (both-yes _ _ (lists-test _ (at-long .are-long .ensures)) (c .before .before .if5 .left) (short-yes 16384 _ (c .before .if6 .left) (short-yes 16384 _ (c .if7 .left) (refl))))))))
 
 pub is-long-spec : {M : Type 1} → statement M
 is-long-spec =
@@ -63,7 +63,7 @@ is-long-spec =
     returns-2
     returns-3
     returns-4
-    long-requires
+    are-long-requires
     returns-5
     returns-6
     returns-7

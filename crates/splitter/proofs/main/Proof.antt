@@ -1,7 +1,7 @@
 use borrow.Author.Needs.{needs}
 use mathlib.Core.Path.{sym}
 use lib.Seq.{length-take-le}
-use Rattle.engine.specs.Entry.{bytes-in}
+use Rattle.columns.specs.Entry.{bytes-in}
 use Rattle.splitter.proofs.main.Statement.{statement}
 use Rattle.splitter.proofs.main.Tie as tie
 
@@ -14,57 +14,57 @@ read-full-requires c κs = search needs
 array-share-prefix-file : tie.Need-array-share-prefix-file
 array-share-prefix-file c = search needs
 
-slice-aggregate-kapokdrill-run : tie.Need-slice-aggregate-kapokdrill-run
-slice-aggregate-kapokdrill-run c = search needs
+slice-aggregate-serve : tie.Need-slice-aggregate-serve
+slice-aggregate-serve c = search needs
 
-slice-aggregate-kapokdrill-run-2 : tie.Need-slice-aggregate-kapokdrill-run-2
-slice-aggregate-kapokdrill-run-2 c = search needs
+slice-aggregate-serve-2 : tie.Need-slice-aggregate-serve-2
+slice-aggregate-serve-2 c = search needs
 
-slice-aggregate-kapokdrill-run-3 : tie.Need-slice-aggregate-kapokdrill-run-3
-slice-aggregate-kapokdrill-run-3 c = search needs
+slice-aggregate-serve-3 : tie.Need-slice-aggregate-serve-3
+slice-aggregate-serve-3 c = search needs
 
-slice-aggregate-kapokdrill-run-4 : tie.Need-slice-aggregate-kapokdrill-run-4
-slice-aggregate-kapokdrill-run-4 c = search needs
+slice-aggregate-serve-4 : tie.Need-slice-aggregate-serve-4
+slice-aggregate-serve-4 c = search needs
 
-slice-aggregate-kapokdrill-run-5 : tie.Need-slice-aggregate-kapokdrill-run-5
-slice-aggregate-kapokdrill-run-5 c = search needs
+slice-aggregate-serve-5 : tie.Need-slice-aggregate-serve-5
+slice-aggregate-serve-5 c = search needs
 
-slice-aggregate-kapokdrill-run-6 : tie.Need-slice-aggregate-kapokdrill-run-6
-slice-aggregate-kapokdrill-run-6 c = search needs
+slice-aggregate-serve-6 : tie.Need-slice-aggregate-serve-6
+slice-aggregate-serve-6 c = search needs
 
-slice-aggregate-kapokdrill-run-7 : tie.Need-slice-aggregate-kapokdrill-run-7
-slice-aggregate-kapokdrill-run-7 c = search needs
+slice-aggregate-serve-7 : tie.Need-slice-aggregate-serve-7
+slice-aggregate-serve-7 c = search needs
 
-slice-aggregate-kapokdrill-run-8 : tie.Need-slice-aggregate-kapokdrill-run-8
-slice-aggregate-kapokdrill-run-8 c = search needs
+slice-aggregate-serve-8 : tie.Need-slice-aggregate-serve-8
+slice-aggregate-serve-8 c = search needs
 
-slice-aggregate-kapokdrill-run-9 : tie.Need-slice-aggregate-kapokdrill-run-9
-slice-aggregate-kapokdrill-run-9 c = search needs
+slice-aggregate-serve-9 : tie.Need-slice-aggregate-serve-9
+slice-aggregate-serve-9 c = search needs
 
-slice-aggregate-kapokdrill-run-10 : tie.Need-slice-aggregate-kapokdrill-run-10
-slice-aggregate-kapokdrill-run-10 c = search needs
+slice-aggregate-serve-10 : tie.Need-slice-aggregate-serve-10
+slice-aggregate-serve-10 c = search needs
 
-slice-aggregate-kapokdrill-run-11 : tie.Need-slice-aggregate-kapokdrill-run-11
-slice-aggregate-kapokdrill-run-11 c = search needs
+slice-aggregate-serve-11 : tie.Need-slice-aggregate-serve-11
+slice-aggregate-serve-11 c = search needs
 
-slice-aggregate-kapokdrill-run-12 : tie.Need-slice-aggregate-kapokdrill-run-12
-slice-aggregate-kapokdrill-run-12 c = search needs
+slice-aggregate-serve-12 : tie.Need-slice-aggregate-serve-12
+slice-aggregate-serve-12 c = search needs
 
-slice-aggregate-kapokdrill-run-13 : tie.Need-slice-aggregate-kapokdrill-run-13
-slice-aggregate-kapokdrill-run-13 c = search needs
+slice-aggregate-serve-13 : tie.Need-slice-aggregate-serve-13
+slice-aggregate-serve-13 c = search needs
 
-kapokdrill-run-requires : tie.Need-kapokdrill-run-requires
-kapokdrill-run-requires c κs = search needs
+serve-requires : tie.Need-serve-requires
+serve-requires c κs = search needs
 
 array-share-prefix-output : tie.Need-array-share-prefix-output
 array-share-prefix-output c =
-    let at-kapokdrill-run = c .before .before .before .before .before .before .before .before .before .before .before .before in
-    bytes-in _ _ _ _ _ _ (at-kapokdrill-run .kapokdrill-run .ensures)
+    let at-serve = c .before .before .before .before .before .before .before .before .before .before .before .before in
+    bytes-in _ _ _ _ _ _ (at-serve .serve .ensures .serves)
 
 slice-aggregate-write-all : tie.Need-slice-aggregate-write-all
 slice-aggregate-write-all c =
-    let at-kapokdrill-run = c .before .before .before .before .before .before .before .before .before .before .before .before .before in
-    sym (length-take-le _ _ (bytes-in _ _ _ _ _ _ (at-kapokdrill-run .kapokdrill-run .ensures)))
+    let at-serve = c .before .before .before .before .before .before .before .before .before .before .before .before .before in
+    sym (length-take-le _ _ (bytes-in _ _ _ _ _ _ (at-serve .serve .ensures .serves)))
 
 write-all-requires : tie.Need-write-all-requires
 write-all-requires c κs = search needs
@@ -79,20 +79,20 @@ main-spec =
     slice-aggregate-read-full
     read-full-requires
     array-share-prefix-file
-    slice-aggregate-kapokdrill-run
-    slice-aggregate-kapokdrill-run-2
-    slice-aggregate-kapokdrill-run-3
-    slice-aggregate-kapokdrill-run-4
-    slice-aggregate-kapokdrill-run-5
-    slice-aggregate-kapokdrill-run-6
-    slice-aggregate-kapokdrill-run-7
-    slice-aggregate-kapokdrill-run-8
-    slice-aggregate-kapokdrill-run-9
-    slice-aggregate-kapokdrill-run-10
-    slice-aggregate-kapokdrill-run-11
-    slice-aggregate-kapokdrill-run-12
-    slice-aggregate-kapokdrill-run-13
-    kapokdrill-run-requires
+    slice-aggregate-serve
+    slice-aggregate-serve-2
+    slice-aggregate-serve-3
+    slice-aggregate-serve-4
+    slice-aggregate-serve-5
+    slice-aggregate-serve-6
+    slice-aggregate-serve-7
+    slice-aggregate-serve-8
+    slice-aggregate-serve-9
+    slice-aggregate-serve-10
+    slice-aggregate-serve-11
+    slice-aggregate-serve-12
+    slice-aggregate-serve-13
+    serve-requires
     array-share-prefix-output
     slice-aggregate-write-all
     write-all-requires

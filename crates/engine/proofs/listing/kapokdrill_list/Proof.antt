@@ -2,7 +2,7 @@ use borrow.Author.Needs.{needs}
 use mathlib.Core.Path.{sym, _∙_}
 use borrow.Author.Tests.{not-true, not-false}
 use Rattle.lists.specs.Lists.{idle}
-use Rattle.engine.specs.Entry.{long-is}
+use Rattle.columns.specs.Entry.{long-is}
 use Rattle.engine.specs.Listing.{untouched-8, untouched-list, list-served}
 use Rattle.engine.proofs.listing.kapokdrill_list.Statement.{statement}
 use Rattle.engine.proofs.listing.kapokdrill_list.Tie as tie

@@ -1,19 +1,12 @@
-// The entry: 8 is tested first, then the file is loaded, and worked to its end or turned down.
+// The engine with the lots as three tables, which the entry over records and the program share: 8 is tested first, then the file is
+// loaded, and worked to its end or turned down.
 ghost use Rattle.model.specs.Catalogue.{mainLimits};
-ghost use Rattle.model.specs.Memory.{Serves};
 ghost use Rattle.loader.specs.Tables.{lists};
 ghost use Rattle.memory.specs.Lent.{lent, memory};
-ghost use Rattle.engine.specs.Entry.{ServesLots};
+ghost use Rattle.columns.specs.Entry.{ServesLots};
 use lengths::is_long;
 use working::Served;
 use working::work_file;
-
-// The engine's answer: 0 or the number of the refusal, 1 to 8, and the bytes written.
-#[repr(C)]
-pub struct Ran {
-    pub code: u32,
-    pub written: usize,
-}
 
 // A sale file and lent memory: the lots' bales, sessions and lots above, 1,024 each; marks as loaded and as they stand, 8,192 each; the buyers'
 // first places, loaded marks and present marks, 1,024 each; counts and gains, 16,384 each; visited, 1,024; the output, 60,000 bytes.
@@ -69,44 +62,4 @@ pub fn serve(
         gains,
         visited,
     )
-}
-
-// The same for a caller in C.
-#[no_mangle]
-pub extern "C" fn kapokdrill_run(
-    file: &[u8],
-    output: &mut [u8],
-    weights: &mut [u32],
-    blocks: &mut [u16],
-    aboves: &mut [u16],
-    pins: &mut [u16],
-    present: &mut [u16],
-    firsts: &mut [u16],
-    sizes: &mut [u16],
-    standing: &mut [u16],
-    counts: &mut [u16],
-    gains: &mut [i32],
-    visited: &mut [u16],
-) -> Ran
-    ensures { λ r. ⌜ Serves mainLimits (now (file .entry)) (memory (now (output .entry)) (lent (lists (now (weights .entry)) (now (blocks .entry)) (now (aboves .entry)) (now (pins .entry)) (now (present .entry)) (now (firsts .entry)) (now (sizes .entry)) (now (standing .entry))) (now (counts .entry)) (now (gains .entry)) (now (visited .entry)))) (memory (now (output .exit)) (lent (lists (now (weights .exit)) (now (blocks .exit)) (now (aboves .exit)) (now (pins .exit)) (now (present .exit)) (now (firsts .exit)) (now (sizes .exit)) (now (standing .exit))) (now (counts .exit)) (now (gains .exit)) (now (visited .exit)))) (r .code) (r .written) ⌝ }
-{
-    let served = serve(
-        file,
-        output,
-        weights,
-        blocks,
-        aboves,
-        pins,
-        present,
-        firsts,
-        sizes,
-        standing,
-        counts,
-        gains,
-        visited,
-    );
-    Ran {
-        code: served.code,
-        written: served.written,
-    }
 }

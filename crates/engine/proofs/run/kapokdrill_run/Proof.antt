@@ -1,4 +1,4 @@
--- `records::entry::kapokdrill_run_lots` meets its contract: a walk of its MIR, by hand, with no branch and no loop. All that it knows of `core` (covered) and `write` (walked) is that each meets its contract.
+-- `engine::run::kapokdrill_run` meets its contract: a walk of its MIR, by hand, with no branch and no loop. All that it knows of `core` (covered) and `write` (walked) is that each meets its contract.
 -- What the slices past `lots` own, and what is said of them at exit, goes to `core` and comes back as one formula: no step takes it apart. No parameter is had again at exit: `told` asks only what the callees say of it.
 -- Assumes nothing.
 use mathlib.Core.Path.{_≡_, refl, ap}
@@ -41,30 +41,30 @@ use denote.Triple.Clauses.{Lasts, ensured, lasts}
 use denote.Triple.Table.{entered, cited}
 use denote.Triple.Walked.{says, Stay, Stays, walkOf, AllGo, Walks, ends-at, walked, walk-meets}
 use denote.Exit.{Kept, left}
 use Rattle.records.specs.Over.{over}
 use Rattle.records.specs.Entry.{others, Answers, served}
 use Rattle.records.specs.declared.Lot.{Lot}
-use Rattle.records.specs.declared.entry.Answer.{Answer}
-use Rattle.engine.specs.declared.entry.Ran.{Ran}
+use Rattle.records.specs.declared.answering.Answer.{Answer}
+use Rattle.engine.specs.declared.run.Ran.{Ran}
 use Rattle.records.proofs.Rows.{records-is}
 use Rattle.records.proofs.Lot as L
 use Rattle.records.proofs.Lot.Laws as L′
-use Rattle.records.proofs.entry.Answer as O
-use Rattle.records.proofs.entry.Answer.Laws as O′
-use Rattle.engine.proofs.entry.Ran as R
-use Rattle.engine.proofs.entry.Ran.Laws as R′
-use Rattle.records.proofs.entry.core as core
-use Rattle.records.proofs.entry.core.Symbol as core-def
-use Rattle.records.proofs.entry.core.Symbol.{name as #core}
-use Rattle.records.proofs.entry.core.Met as core-thm
+use Rattle.records.proofs.answering.Answer as O
+use Rattle.records.proofs.answering.Answer.Laws as O′
+use Rattle.engine.proofs.run.Ran as R
+use Rattle.engine.proofs.run.Ran.Laws as R′
+use Rattle.records.proofs.answering.core as core
+use Rattle.records.proofs.answering.core.Symbol as core-def
+use Rattle.records.proofs.answering.core.Symbol.{name as #core}
+use Rattle.records.proofs.answering.core.Met as core-thm
 use Rattle.records.proofs.write as write
 use Rattle.records.proofs.write.Symbol as write-def
 use Rattle.records.proofs.write.Symbol.{name as #write}
 use Rattle.records.proofs.write.Met as write-thm
-use Rattle.records.proofs.entry.kapokdrill_run_lots.Key.{name as #run}
-use Rattle.records.proofs.entry.kapokdrill_run_lots as f
-use Rattle.records.proofs.entry.kapokdrill_run_lots.Statement as stated
-use Rattle.records.proofs.entry.kapokdrill_run_lots.Code as code
+use Rattle.engine.proofs.run.kapokdrill_run.Key.{name as #run}
+use Rattle.engine.proofs.run.kapokdrill_run as f
+use Rattle.engine.proofs.run.kapokdrill_run.Statement as stated
+use Rattle.engine.proofs.run.kapokdrill_run.Code as code
 
 -- nothing is had of a parameter but what a callee said of it at its exit
 abbrev told : {n : ℕ} (s : Slot n) (k : Kept) → Stay s k
@@ -257,23 +257,23 @@ module _ {M : Type 1} (𝓤 : URA M) (H : Heap 𝓤) (A : Atoms 𝓤) (W : Given
         keep ! (1 ∷ 2 ∷ 4 ∷ 5 ∷ []) $ by ! (exits r w is (zs .0) ws e e′))))))))))))))))))))))))))))))))))))))))))))))))
 
 module _ {M : Type 1} (𝓤 : URA M) (H : Heap 𝓤) (A : Atoms 𝓤) (W : Given 𝓤 H A) (mem : Memory → SProp 𝓤) (rn : Routine → Fun 𝓤) where
-  kapokdrill-run-lots-walks : (C : Calls 𝓤 H) (Λ : Loops 𝓤 H) → FmC 𝓤 H (W .laws) C → Triple 𝓤 (C #core) (Core 𝓤 H A mem rn) → Triple 𝓤 (C #write) (Write 𝓤 H A mem rn) → Walks 𝓤 H A f.ended stayed (WpFn 𝓤 H C Λ code.function) (f.clauses 𝓤 H A mem rn)
-  kapokdrill-run-lots-walks C Λ fm known-core known-write = walked 𝓤 H A f.ended stayed (f.clauses 𝓤 H A mem rn) (WpFn 𝓤 H C Λ code.function)
+  kapokdrill-run-walks : (C : Calls 𝓤 H) (Λ : Loops 𝓤 H) → FmC 𝓤 H (W .laws) C → Triple 𝓤 (C #core) (Core 𝓤 H A mem rn) → Triple 𝓤 (C #write) (Write 𝓤 H A mem rn) → Walks 𝓤 H A f.ended stayed (WpFn 𝓤 H C Λ code.function) (f.clauses 𝓤 H A mem rn)
+  kapokdrill-run-walks C Λ fm known-core known-write = walked 𝓤 H A f.ended stayed (f.clauses 𝓤 H A mem rn) (WpFn 𝓤 H C Λ code.function)
       (λ κs. (slice-vals, (slice-vals, (slice-vals, (slice-vals, (slice-vals, (slice-vals, (slice-vals, (slice-vals, (slice-vals, (slice-vals, (slice-vals, tt))))))))))))
       (λ κs. (shr-slice-tells (named 0) (κs .0) u8, (mut-slice-tells (named 1) (κs .1 .0) L.the-row, (mut-slice-tells (named 2) (κs .1 .1 .0) u8, (mut-slice-tells (named 3) (κs .1 .1 .1 .0) u16, (mut-slice-tells (named 4) (κs .1 .1 .1 .1 .0) u16, (mut-slice-tells (named 5) (κs .1 .1 .1 .1 .1 .0) u16, (mut-slice-tells (named 6) (κs .1 .1 .1 .1 .1 .1 .0) u16, (mut-slice-tells (named 7) (κs .1 .1 .1 .1 .1 .1 .1 .0) u16, (mut-slice-tells (named 8) (κs .1 .1 .1 .1 .1 .1 .1 .1 .0) u16, (mut-slice-tells (named 9) (κs .1 .1 .1 .1 .1 .1 .1 .1 .1 .0) i32, (mut-slice-tells (named 10) (κs .1 .1 .1 .1 .1 .1 .1 .1 .1 .1 .0) u16, tt))))))))))))
       (λ κs qs bounds a _ are. via 𝓤 _ (fst∗ 𝓤 _ (emp 𝓤)) (walk 𝓤 H A W mem rn κs qs a are C Λ fm known-core known-write))
 
-kapokdrill-run-lots-meets : {M : Type 1} (𝓤 : URA M) (H : Heap 𝓤) (A : Atoms 𝓤) → Given 𝓤 H A → (mem : Memory → SProp 𝓤) (rn : Routine → Fun 𝓤) (𝓣 : Tables 𝓤 H)
+kapokdrill-run-meets : {M : Type 1} (𝓤 : URA M) (H : Heap 𝓤) (A : Atoms 𝓤) → Given 𝓤 H A → (mem : Memory → SProp 𝓤) (rn : Routine → Fun 𝓤) (𝓣 : Tables 𝓤 H)
     → Triple 𝓤 (𝓣 .C #core) (Core 𝓤 H A mem rn) → Triple 𝓤 (𝓣 .C #write) (Write 𝓤 H A mem rn) → Meets 𝓤 H A f.signature (WpFn 𝓤 H (𝓣 .C) (𝓣 .Λ) code.function) (f.spec 𝓤 H A mem rn)
-kapokdrill-run-lots-meets 𝓤 H A W mem rn 𝓣 known-core known-write =
+kapokdrill-run-meets 𝓤 H A W mem rn 𝓣 known-core known-write =
     walk-meets 𝓤 H A f.ended stayed W (all-go 𝓤 H A W 11 (f.ended .signature .params) (f.ended .kept)) (f.clauses 𝓤 H A mem rn)
-    (WpFn 𝓤 H (𝓣 .C) (𝓣 .Λ) code.function) (WpFn-mono 𝓤 H (W .laws) 𝓣 code.function) (kapokdrill-run-lots-walks 𝓤 H A W mem rn (𝓣 .C) (𝓣 .Λ) (fmOf 𝓤 H (W .laws) 𝓣) known-core known-write)
+    (WpFn 𝓤 H (𝓣 .C) (𝓣 .Λ) code.function) (WpFn-mono 𝓤 H (W .laws) 𝓣 code.function) (kapokdrill-run-walks 𝓤 H A W mem rn (𝓣 .C) (𝓣 .Λ) (fmOf 𝓤 H (W .laws) 𝓣) known-core known-write)
 
-pub kapokdrill-run-lots-spec : {M : Type 1} → stated.statement M
+pub kapokdrill-run-spec : {M : Type 1} → stated.statement M
 unfolding code.routine tablesOf
-kapokdrill-run-lots-spec 𝓤 H 𝓜 𝓖 𝓡 =
+kapokdrill-run-spec 𝓤 H 𝓜 𝓖 𝓡 =
     entered 𝓤 H (tripleOf 𝓤 H (𝓖 .A) f.signature (f.spec 𝓤 H (𝓖 .A) (𝓜 .mem) (𝓡 .run)))
     (tables 𝓤 H 𝓜 𝓡 code.env .C) (tables 𝓤 H 𝓜 𝓡 code.env .Λ) #run code.function (code.unfolded 𝓤 H 𝓜 𝓡)
-    (kapokdrill-run-lots-meets 𝓤 H (𝓖 .A) (givenOf 𝓤 H 𝓜 𝓖) (𝓜 .mem) (𝓡 .run) (tablesOf 𝓤 H 𝓜 (tables 𝓤 H 𝓜 𝓡 code.env))
-    (cited 𝓤 H (Core 𝓤 H (𝓖 .A) (𝓜 .mem) (𝓡 .run)) 𝓜 𝓡 code.env #core core-def.routine code.calls-records·entry·core (core-thm.met 𝓤 H 𝓜 𝓖 𝓡))
+    (kapokdrill-run-meets 𝓤 H (𝓖 .A) (givenOf 𝓤 H 𝓜 𝓖) (𝓜 .mem) (𝓡 .run) (tablesOf 𝓤 H 𝓜 (tables 𝓤 H 𝓜 𝓡 code.env))
+    (cited 𝓤 H (Core 𝓤 H (𝓖 .A) (𝓜 .mem) (𝓡 .run)) 𝓜 𝓡 code.env #core core-def.routine code.calls-records·answering·core (core-thm.met 𝓤 H 𝓜 𝓖 𝓡))
     (cited 𝓤 H (Write 𝓤 H (𝓖 .A) (𝓜 .mem) (𝓡 .run)) 𝓜 𝓡 code.env #write write-def.routine code.calls-records·write (write-thm.met 𝓤 H 𝓜 𝓖 𝓡)))

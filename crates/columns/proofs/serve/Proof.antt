@@ -1,8 +1,8 @@
 use borrow.Author.Needs.{needs}
 use borrow.Author.Tests.{not-true, not-false}
-use Rattle.engine.specs.Entry.{long-is, too-short, served}
-use Rattle.engine.proofs.entry.serve.Statement.{statement}
-use Rattle.engine.proofs.entry.serve.Tie as tie
+use Rattle.columns.specs.Entry.{long-is, too-short, served}
+use Rattle.columns.proofs.serve.Statement.{statement}
+use Rattle.columns.proofs.serve.Tie as tie
 
 is-long-requires : tie.Need-is-long-requires
 is-long-requires c κs = search needs

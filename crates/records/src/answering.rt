@@ -1,13 +1,8 @@
-// The engine with the lots as a lent slice of records: the engine works on three tables of its own, and each lot's record is then written.
-ghost use Rattle.model.specs.Catalogue.{mainLimits};
-ghost use Rattle.model.specs.Memory.{Serves};
-ghost use Rattle.records.specs.Lent.{inRecords};
+// The engine on three tables of its own for the lots, and the records that are then to be written.
 ghost use Rattle.records.specs.Entry.{others, Answers};
 use crate::Lot;
 use crate::gather;
-use crate::write;
-use engine::entry::Ran;
-use engine::entry::serve;
+use columns::serve;
 
 // The engine's answer, and the records of the first n lots: those to write.
 pub struct Answer {
@@ -71,44 +66,5 @@ pub fn core(
         lots: lots,
         code: served.code,
         written: served.written,
-    }
-}
-
-// A sale file and lent memory, as `engine::entry::kapokdrill_run` takes it, but for the lots: 1,024 records in place of three tables.
-#[no_mangle]
-pub extern "C" fn kapokdrill_run_lots(
-    file: &[u8],
-    lots: &mut [Lot],
-    output: &mut [u8],
-    pins: &mut [u16],
-    present: &mut [u16],
-    firsts: &mut [u16],
-    sizes: &mut [u16],
-    standing: &mut [u16],
-    counts: &mut [u16],
-    gains: &mut [i32],
-    visited: &mut [u16],
-) -> Ran
-    ensures { λ r. ⌜ Serves mainLimits (now (file .entry)) (inRecords (now (output .entry)) (now (lots .entry)) (others (now (pins .entry)) (now (present .entry)) (now (firsts .entry)) (now (sizes .entry)) (now (standing .entry)) (now (counts .entry)) (now (gains .entry)) (now (visited .entry)))) (inRecords (now (output .exit)) (now (lots .exit)) (others (now (pins .exit)) (now (present .exit)) (now (firsts .exit)) (now (sizes .exit)) (now (standing .exit)) (now (counts .exit)) (now (gains .exit)) (now (visited .exit)))) (r .code) (r .written) ⌝ }
-{
-    let answer = core(
-        file,
-        lots.len(),
-        output,
-        pins,
-        present,
-        firsts,
-        sizes,
-        standing,
-        counts,
-        gains,
-        visited,
-    );
-    let n = answer.n;
-    let new = answer.lots;
-    write(lots, n, new);
-    Ran {
-        code: answer.code,
-        written: answer.written,
     }
 }

@@ -8,8 +8,8 @@ use Rattle.model.specs.Catalogue.{mainLimits}
 use Rattle.model.specs.Memory.{longMemory}
 use Rattle.records.specs.Lent.{inTables, no-room, serves-records}
 use Rattle.records.specs.Entry.{others, lots-few}
-use Rattle.records.proofs.entry.core.Statement.{statement}
-use Rattle.records.proofs.entry.core.Tie as tie
+use Rattle.records.proofs.answering.core.Statement.{statement}
+use Rattle.records.proofs.answering.core.Tie as tie
 
 returns : tie.Need-returns
 returns c =

@@ -1,0 +1,56 @@
+// The entry that customers call: a sale file and lent memory, the lots as a lent slice of records. The engine works on three tables of its
+// own, and each lot's record is then written. Rests on records.
+ghost use Rattle.model.specs.Catalogue.{mainLimits};
+ghost use Rattle.model.specs.Memory.{Serves};
+ghost use Rattle.records.specs.Lent.{inRecords};
+ghost use Rattle.records.specs.Entry.{others};
+use records::Lot;
+use records::answering::core;
+use records::write;
+
+// The engine's answer: 0 or the number of the refusal, 1 to 8, and the bytes written.
+#[repr(C)]
+pub struct Ran {
+    pub code: u32,
+    pub written: usize,
+}
+
+// A sale file and lent memory: the lots, 1,024 records; the output, 60,000 bytes; marks as loaded and as they stand, 8,192 each; the buyers'
+// first places, loaded marks and present marks, 1,024 each; counts and gains, 16,384 each; visited, 1,024.
+#[no_mangle]
+pub extern "C" fn kapokdrill_run(
+    file: &[u8],
+    lots: &mut [Lot],
+    output: &mut [u8],
+    pins: &mut [u16],
+    present: &mut [u16],
+    firsts: &mut [u16],
+    sizes: &mut [u16],
+    standing: &mut [u16],
+    counts: &mut [u16],
+    gains: &mut [i32],
+    visited: &mut [u16],
+) -> Ran
+    ensures { λ r. ⌜ Serves mainLimits (now (file .entry)) (inRecords (now (output .entry)) (now (lots .entry)) (others (now (pins .entry)) (now (present .entry)) (now (firsts .entry)) (now (sizes .entry)) (now (standing .entry)) (now (counts .entry)) (now (gains .entry)) (now (visited .entry)))) (inRecords (now (output .exit)) (now (lots .exit)) (others (now (pins .exit)) (now (present .exit)) (now (firsts .exit)) (now (sizes .exit)) (now (standing .exit)) (now (counts .exit)) (now (gains .exit)) (now (visited .exit)))) (r .code) (r .written) ⌝ }
+{
+    let answer = core(
+        file,
+        lots.len(),
+        output,
+        pins,
+        present,
+        firsts,
+        sizes,
+        standing,
+        counts,
+        gains,
+        visited,
+    );
+    let n = answer.n;
+    let new = answer.lots;
+    write(lots, n, new);
+    Ran {
+        code: answer.code,
+        written: answer.written,
+    }
+}
