@@ -2,8 +2,8 @@
 // own, and each lot's record is then written. Rests on records.
 ghost use Rattle.model.specs.Catalogue.{mainLimits};
 ghost use Rattle.model.specs.Memory.{Serves};
-ghost use Rattle.records.specs.Lent.{inRecords};
-ghost use Rattle.records.specs.Entry.{others};
+ghost use Rattle.model.specs.Slices.{others, inRecords};
+ghost use Rattle.records.specs.declared.Lot.{Lot};
 use records::Lot;
 use records::answering::core;
 use records::write;
@@ -31,7 +31,7 @@ pub extern "C" fn kapokdrill_run(
     gains: &mut [i32],
     visited: &mut [u16],
 ) -> Ran
-    ensures { λ r. ⌜ Serves mainLimits (now (file .entry)) (inRecords (now (output .entry)) (now (lots .entry)) (others (now (pins .entry)) (now (present .entry)) (now (firsts .entry)) (now (sizes .entry)) (now (standing .entry)) (now (counts .entry)) (now (gains .entry)) (now (visited .entry)))) (inRecords (now (output .exit)) (now (lots .exit)) (others (now (pins .exit)) (now (present .exit)) (now (firsts .exit)) (now (sizes .exit)) (now (standing .exit)) (now (counts .exit)) (now (gains .exit)) (now (visited .exit)))) (r .code) (r .written) ⌝ }
+    ensures { λ r. ⌜ Serves mainLimits (now (file .entry)) (inRecords (λ (l : Lot). l .bales) (λ (l : Lot). l .session) (λ (l : Lot). l .above) (now (output .entry)) (now (lots .entry)) (others (now (pins .entry)) (now (present .entry)) (now (firsts .entry)) (now (sizes .entry)) (now (standing .entry)) (now (counts .entry)) (now (gains .entry)) (now (visited .entry)))) (inRecords (λ (l : Lot). l .bales) (λ (l : Lot). l .session) (λ (l : Lot). l .above) (now (output .exit)) (now (lots .exit)) (others (now (pins .exit)) (now (present .exit)) (now (firsts .exit)) (now (sizes .exit)) (now (standing .exit)) (now (counts .exit)) (now (gains .exit)) (now (visited .exit)))) (r .code) (r .written) ⌝ }
 {
     let answer = core(
         file,

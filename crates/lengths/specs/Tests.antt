@@ -1,4 +1,4 @@
--- The tests of lent memory's lengths, one by one, are model's `longMemory`. Rests on model's Memory and stretches' Stretch. Assumes nothing.
+-- The tests of lent memory's lengths, one by one, are model's `longMemory`. Rests on model's Memory and Slices. Assumes nothing.
 use Prim.Native.Nat.{ℕ, _<_, _≤_}
 use mathlib.Core.Path.{_≡_, refl, sym, ap, _∙_}
 use mathlib.Core.Bool.{Bool, true, false, _&&_}
@@ -7,7 +7,7 @@ use lib.Dec.{leb}
 use lib.ListN.{length}
 use Rattle.model.specs.Catalogue.{mainLimits}
 use Rattle.model.specs.Memory.{Tables as Lent, Memory, longLists, longTables, longMemory}
-use Rattle.stretches.specs.Stretch.{netTables}
+use Rattle.model.specs.Slices.{netTables}
 
 -- seven tests, one by one
 regroup : (a b c d e f g : Bool) → (a && (b && (c && (d && (e && (f && g)))))) ≡ (a && b && c && d && e && f && g)

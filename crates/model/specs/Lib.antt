@@ -7,6 +7,7 @@
 -- Report     answers and the closing report as bytes
 -- Engine     a list of calls; the file to a code and a report
 -- Memory     lent memory: what each table holds, what is free, what keeps; what the engine leaves
+-- Slices     the lots as records, and the nets' tables by themselves, as lent memory
 -- Demand     demand 3, one statement about a catalogue and a list of calls
 -- Table      the starred cases; Edges the files that are turned down and those just accepted; Worked whole sales
 pub mod Catalogue
@@ -17,6 +18,7 @@ pub mod Grammar
 pub mod Report
 pub mod Engine
 pub mod Memory
+pub mod Slices
 pub mod Demand
 pub mod Table
 pub mod Edges

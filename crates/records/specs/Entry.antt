@@ -3,8 +3,7 @@ use Prim.Native.Nat.{ℕ, _≤_}
 use native.Mathlib.Omega.{arith}
 use mathlib.Core.Path.{_≡_, refl, sym, subst}
 use mathlib.Core.Bool.{Bool, true, false}
-use mathlib.Core.List.{List, []}
-use lib.IntN.{ℤ}
+use mathlib.Core.List.{List}
 use lib.ListN.{length}
 use Rattle.model.specs.Catalogue.{Limits, mainLimits}
 use Rattle.model.specs.Grammar.{Reading, unread, reading, stopped, parse}
@@ -14,23 +13,7 @@ use Rattle.columns.specs.Entry.{lotsWritten}
 use Rattle.records.specs.declared.Lot.{Lot}
 use Rattle.records.specs.declared.answering.Answer.{Answer}
 use Rattle.records.specs.Over.{over}
-use Rattle.records.specs.Lent.{inRecords}
-
--- the tables that no lot's record holds
-abbrev pub others : List ℕ → List ℕ → List ℕ → List ℕ → List ℕ → List ℕ → List ℤ → List ℕ → Tables
-others pins present firsts sizes standing counts gains visited = record {
-  weights = [];
-  blocks = [];
-  aboves = [];
-  loadedPins = pins;
-  presentPins = present;
-  firsts = firsts;
-  loadedSizes = sizes;
-  presentSizes = standing;
-  counts = counts;
-  gains = gains;
-  visited = visited;
-}
+use Rattle.records.specs.Lent.{lentRecords}
 
 -- no more lots than the limit
 pub lots-few : (limits : Limits) (file : List ℕ) (long : Bool) → lotsWritten long (parse limits file) ≤ limits .vertexLimit
@@ -46,8 +29,8 @@ lots-few limits file true = go (parse limits file) refl
 pub record Answers (file : List ℕ) (room : ℕ) (output : List ℕ) (t : Tables) (output′ : List ℕ) (t′ : Tables) (r : Answer) : Type 0 where
   pub fits : r .n ≤ room
   pub small : r .n ≤ 1024
-  pub serves : (lots : List Lot) → length lots ≡ room → Serves mainLimits file (inRecords output lots t) (inRecords output′ (over (r .n) (r .lots) lots) t′) (r .code) (r .written)
+  pub serves : (lots : List Lot) → length lots ≡ room → Serves mainLimits file (lentRecords output lots t) (lentRecords output′ (over (r .n) (r .lots) lots) t′) (r .code) (r .written)
 
 pub served : (file output : List ℕ) (t : Tables) (output′ : List ℕ) (t′ : Tables) (r : Answer) (lots lots′ : List Lot) → Answers file (length lots) output t output′ t′ r → lots′ ≡ over (r .n) (r .lots) lots
-    → Serves mainLimits file (inRecords output lots t) (inRecords output′ lots′ t′) (r .code) (r .written)
-served file output t output′ t′ r lots lots′ c e = subst (λ (l : List Lot). Serves mainLimits file (inRecords output lots t) (inRecords output′ l t′) (r .code) (r .written)) (sym e) (c .serves lots refl)
+    → Serves mainLimits file (lentRecords output lots t) (lentRecords output′ lots′ t′) (r .code) (r .written)
+served file output t output′ t′ r lots lots′ c e = subst (λ (l : List Lot). Serves mainLimits file (lentRecords output lots t) (lentRecords output′ l t′) (r .code) (r .written)) (sym e) (c .serves lots refl)

@@ -16,33 +16,15 @@ use Rattle.model.specs.Machine.{State, fresh}
 use Rattle.model.specs.Grammar.{Reading, unread, reading, stopped, parse}
 use Rattle.model.specs.Engine.{after}
 use Rattle.model.specs.Memory.{Tables, Memory, longLists, longTables, longMemory, Column, weightEntry, blockEntry, Holds, Served, Serves, TablesLeft}
+use Rattle.model.specs.Slices.{inTables, inRecords}
 use Rattle.columns.specs.Entry.{lotsWritten}
 use Rattle.records.specs.declared.Lot.{Lot}
 use Rattle.records.specs.Over.{over}
 use Rattle.records.specs.Fields.{balesOf, sessionsOf, abovesOf, over-column}
 
--- lent memory whose lots are three tables, and whose other tables are t's
-abbrev pub inTables : List ℕ → List ℕ → List ℕ → List ℕ → Tables → Memory
-inTables output weights blocks aboves t = record {
-  output = output;
-  tables = record {
-    weights = weights;
-    blocks = blocks;
-    aboves = aboves;
-    loadedPins = t .loadedPins;
-    presentPins = t .presentPins;
-    firsts = t .firsts;
-    loadedSizes = t .loadedSizes;
-    presentSizes = t .presentSizes;
-    counts = t .counts;
-    gains = t .gains;
-    visited = t .visited;
-  };
-}
-
 -- lent memory whose lots are records
-abbrev pub inRecords : List ℕ → List Lot → Tables → Memory
-inRecords output lots t = inTables output (balesOf lots) (sessionsOf lots) (abovesOf lots) t
+abbrev pub lentRecords : List ℕ → List Lot → Tables → Memory
+lentRecords = inRecords (λ (l : Lot). l .bales) (λ (l : Lot). l .session) (λ (l : Lot). l .above)
 
 -- where lent memory is long, so is the lots' table
 long-lots : (limits : Limits) (m : Memory) → longMemory limits m ≡ true → limits .vertexLimit ≤ length (m .tables .weights)
@@ -51,11 +33,11 @@ long-lots limits m q = leb-true _ _ (and-left _ _ (and-left _ _ (and-left _ _ (a
 
 -- fewer records than the limit of lots: 8, and nothing is touched
 pub no-room : (limits : Limits) (file output : List ℕ) (lots : List Lot) (t : Tables) → length lots < limits .vertexLimit
-    → Serves limits file (inRecords output lots t) (inRecords output lots t) 8 0
-no-room limits file output lots t l = go (longMemory limits (inRecords output lots t)) refl
+    → Serves limits file (lentRecords output lots t) (lentRecords output lots t) 8 0
+no-room limits file output lots t l = go (longMemory limits (lentRecords output lots t)) refl
   where
-    go : (long : Bool) → longMemory limits (inRecords output lots t) ≡ long → Served long (parse limits file) (inRecords output lots t) (inRecords output lots t) 8 0
-    go true q = absurd (lt-irrefl (length lots) (omega (arith, l, length-map lots (λ (x : Lot). x .bales), long-lots limits (inRecords output lots t) q)))
+    go : (long : Bool) → longMemory limits (lentRecords output lots t) ≡ long → Served long (parse limits file) (lentRecords output lots t) (lentRecords output lots t) 8 0
+    go true q = absurd (lt-irrefl (length lots) (omega (arith, l, length-map lots (λ (x : Lot). x .bales), long-lots limits (lentRecords output lots t) q)))
     go false q = record { code-is = refl; nothing = refl; kept = refl }
 
 -- tables that differ in the lots' columns alone are long alike, where these are long
@@ -83,10 +65,10 @@ module _ (limits : Limits) (file output output′ weights blocks aboves weights�
   own′ = inTables output′ weights′ blocks′ aboves′ t′
 
   abbrev lent : Memory
-  lent = inRecords output old t
+  lent = lentRecords output old t
 
   abbrev lent′ : Memory
-  lent′ = inRecords output′ (over n new old) t′
+  lent′ = lentRecords output′ (over n new old) t′
 
   long : (f : Lot → ℕ) → limits .vertexLimit ≤ length (map f old)
   long f = omega (arith, old-long, length-map old f)
@@ -121,7 +103,7 @@ module _ (limits : Limits) (file output output′ weights blocks aboves weights�
   served false r e s = record {
     code-is = s .code-is;
     nothing = s .nothing;
-    kept = ap (λ (k : ℕ). inRecords output′ (over k new old) t′) e ∙ ap (λ (m : Memory). inRecords (m .output) old (m .tables)) (s .kept);
+    kept = ap (λ (k : ℕ). lentRecords output′ (over k new old) t′) e ∙ ap (λ (m : Memory). lentRecords (m .output) old (m .tables)) (s .kept);
   }
   served true r e s = record { code-is = s .code-is; output = s .output; tables = tables-left r e (s .tables) }
 

@@ -8,7 +8,8 @@ use lib.Dec.{leb}
 use lib.ListN.{length, getD}
 use Rattle.laws.specs.Choice.{and-left, and-right}
 use Rattle.model.specs.Memory.{Part, longLists, handedOut}
-use Rattle.stretches.specs.Stretch.{netTables, Backed, partIn}
+use Rattle.model.specs.Slices.{netTables}
+use Rattle.stretches.specs.Stretch.{Backed, partIn}
 
 -- equal stretches have the same first place and size
 pub alike : {p q : Part} {first size : ℕ} → p ≡ q → (first ≡ p .from) × (size ≡ p .size) → (first ≡ q .from) × (size ≡ q .size)

@@ -10,10 +10,6 @@ use lib.ListN.{length, getD, take, drop}
 use Rattle.laws.specs.Choice.{and-right}
 use Rattle.model.specs.Memory.{Tables, Part, longLists, partOf, handedOut}
 
--- the tables of nets and pins; no other takes part in handing out
-abbrev pub netTables : List ℕ → List ℕ → List ℕ → List ℕ → List ℕ → Tables
-netTables lp pp f c pc = record { weights = []; blocks = []; aboves = []; loadedPins = lp; presentPins = pp; firsts = f; loadedSizes = c; presentSizes = pc; counts = []; gains = []; visited = [] }
-
 -- where the tables are long enough, first places and sizes are there for every net
 pub record Backed (long : Bool) (f c : List ℕ) : Type 0 where
   pub f-len : long ≡ true → 1024 ≤ length f

@@ -42,7 +42,8 @@ use denote.Triple.Table.{entered, cited}
 use denote.Triple.Walked.{says, Stay, Stays, walkOf, AllGo, Walks, ends-at, walked, walk-meets}
 use denote.Exit.{Kept, left}
 use Rattle.records.specs.Over.{over}
-use Rattle.records.specs.Entry.{others, Answers, served}
+use Rattle.model.specs.Slices.{others}
+use Rattle.records.specs.Entry.{Answers, served}
 use Rattle.records.specs.declared.Lot.{Lot}
 use Rattle.records.specs.declared.answering.Answer.{Answer}
 use Rattle.engine.specs.declared.run.Ran.{Ran}
