@@ -4,7 +4,7 @@
 //! environment's SEED, a number, gives other sales than the usual ones.
 
 use compare::{compare, compare_list, sales_on_file, Entry, Memory};
-use kapokdrill::lent::{Outcome, LOTS, MARKS, OUTPUT, ROWS};
+use kapokdrill::lent::{Outcome, Record, Stack, LOTS, MARKS, OUTPUT, ROWS};
 use reference::catalogue::{Buyer, Lot};
 use reference::generator::{calls, damaged, sale, sale_of_kind, write_sale, Kind, Random};
 use reference::{parse, Call, Catalogue, Sale};
@@ -228,7 +228,7 @@ fn short_memory_is_told_first_and_nothing_is_touched() {
                 }
                 let list = memory.run_list(file, &[b'X'.into()]);
                 assert_eq!((list.code, list.written, list.total), (8, 0, 0));
-                assert_eq!(list.stack.joins().count(), 0);
+                assert!(list.stack == Stack::of(&[]) && list.record == Record::of(&[]));
                 assert!(memory == before, "8 touched something");
             }
         }
