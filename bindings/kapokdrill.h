@@ -75,12 +75,19 @@ kapokdrill_result kapokdrill_run(
     /* The blocks that a net visits: block s is bit s - 1 from the lowest. */
     uint16_t *visited, size_t visited_length);
 
-/* The joins that stand: lot gone[i] was joined into lot into[i], the earliest first. */
+/* The joins that stand: lot gone[i] was joined into lot into[i], the earliest first; 0 from depth on. */
 typedef struct {
     uint16_t into[KAPOKDRILL_VERTICES];
     uint16_t gone[KAPOKDRILL_VERTICES];
     size_t depth;
 } kapokdrill_stack;
+
+/* The record of moves: lot lots[i] left session sessions[i], the earliest first; 0 from length on. */
+typedef struct {
+    uint16_t lots[KAPOKDRILL_LOTS];
+    uint16_t sessions[KAPOKDRILL_LOTS];
+    size_t length;
+} kapokdrill_record;
 
 typedef struct {
     /* As in kapokdrill_result. The list is refused too, after 8 and before the file: 7 for more
@@ -89,9 +96,11 @@ typedef struct {
     uint32_t code;
     /* The bytes of `output` that hold the lines of the answers, or the line of a refused file. */
     size_t written;
-    /* The total after the calls, and the joins that stand; 0 and none after a refusal. */
+    /* The total after the calls, the joins that stand and the record of moves; 0 and none after a
+     * refusal. */
     uint32_t total;
     kapokdrill_stack stack;
+    kapokdrill_record record;
 } kapokdrill_list_result;
 
 /* Reads a sale file and runs a list of calls on its catalogue: three numbers for each call, the

@@ -3,8 +3,8 @@
 //! engine and on the reference, which works every entry out afresh.
 
 use kapokdrill::lent::{
-    self, Columns, Lent, ListOutcome, Lot, NetTables, Outcome, Stretch, NETS, OUTPUT, PINS, ROWS,
-    VERTICES,
+    self, Columns, Lent, ListOutcome, Lot, NetTables, Outcome, Record, Stack, Stretch, NETS, OUTPUT,
+    PINS, ROWS, VERTICES,
 };
 use reference::generator::{calls, Random};
 use reference::tables::{entry, Tables};
@@ -269,8 +269,13 @@ fn calls_of(list: &[u32]) -> Result<Vec<Call>, u32> {
     list.chunks(3).map(call).collect()
 }
 
-/// What a list of calls should give: the code, the text, the total and the joins.
-type Answered = (u32, Vec<u8>, u64, Vec<(usize, usize)>);
+/// What a list of calls should give: the code, the text, the total, the joins and the record.
+type Answered = (u32, Vec<u8>, u64, Vec<(u16, u16)>, Vec<(u16, u16)>);
+
+/// Pairs of lots or sessions in the engine's numbers.
+fn short(pairs: &[(usize, usize)]) -> Vec<(u16, u16)> {
+    pairs.iter().map(|&(x, y)| (x as u16, y as u16)).collect()
+}
 
 /// Runs a list of calls on the catalogue of a file, on memory of random bytes, and compares all
 /// with the reference: the return, or what differs.
@@ -280,8 +285,8 @@ pub fn compare_list(file: &[u8], list: &[u32], random: &mut Random) -> Result<u3
     let outcome = found.run_list(file, list);
 
     let mut wanted = before;
-    let (code, text, total, joins): Answered = match (calls_of(list), parse(file)) {
-        (Err(code), _) => (code, Vec::new(), 0, Vec::new()),
+    let (code, text, total, joins, moves): Answered = match (calls_of(list), parse(file)) {
+        (Err(code), _) => (code, Vec::new(), 0, Vec::new(), Vec::new()),
         (Ok(calls), Ok(sale)) => {
             let end = run_calls(&sale.catalogue, &calls);
             wanted.finish(&end.tables, &found)?;
@@ -293,21 +298,24 @@ pub fn compare_list(file: &[u8], list: &[u32], random: &mut Random) -> Result<u3
                 .copied()
                 .collect();
             let closing = lines.next().expect("the line of the totals");
-            (0, answers, last_number(closing), end.joins)
+            let (joins, moves) = (short(&end.joins), short(&end.record));
+            (0, answers, last_number(closing), joins, moves)
         }
         (Ok(_), Err(refusal)) => {
             wanted.free_tables(&found);
             let line = report::refused_file(&refusal).into_bytes();
-            (refusal.number, line, 0, Vec::new())
+            (refusal.number, line, 0, Vec::new(), Vec::new())
         }
     };
     let returned = (outcome.code, outcome.written, u64::from(outcome.total));
     if returned != (code, text.len(), total) {
         return Err(format!("{returned:?}, not {code}, {}, {total}", text.len()));
     }
-    let stack = outcome.stack.joins();
-    if !stack.eq(joins.iter().map(|&(u, v)| (u as u16, v as u16))) {
+    if outcome.stack != Stack::of(&joins) {
         return Err("the stack".into());
+    }
+    if outcome.record != Record::of(&moves) {
+        return Err("the record of moves".into());
     }
     wanted.output[..text.len()].copy_from_slice(&text);
     found.same_as(&wanted)?;

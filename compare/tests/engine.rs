@@ -4,7 +4,7 @@
 //! usual ones.
 
 use compare::{compare, compare_list, random_bytes, random_list, sales_on_file, Memory};
-use kapokdrill::lent::{Outcome, NETS, OUTPUT, PINS, ROWS, VERTICES};
+use kapokdrill::lent::{Outcome, Record, Stack, NETS, OUTPUT, PINS, ROWS, VERTICES};
 use reference::catalogue::{Buyer, Lot};
 use reference::generator::{calls, damaged, sale, sale_of_kind, write_sale, Kind, Random};
 use reference::{Catalogue, Sale};
@@ -210,7 +210,7 @@ fn short_memory_is_told_first_and_nothing_is_touched() {
                 assert!(memory == before, "8 touched something");
                 let list = memory.run_list(file, &[b'X'.into()]);
                 assert_eq!((list.code, list.written, list.total), (8, 0, 0));
-                assert_eq!(list.stack.joins().count(), 0);
+                assert!(list.stack == Stack::of(&[]) && list.record == Record::of(&[]));
                 assert!(memory == before, "8 touched something");
             }
         }

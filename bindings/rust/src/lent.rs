@@ -70,9 +70,18 @@ pub struct Stretch {
     pub size: usize,
 }
 
+/// Pairs as the engine returns them: two arrays, which are 0 past the pairs, and their number.
+fn columns(pairs: &[(u16, u16)]) -> ([u16; VERTICES], [u16; VERTICES], usize) {
+    let (mut left, mut right) = ([0; VERTICES], [0; VERTICES]);
+    for (i, &(x, y)) in pairs.iter().enumerate() {
+        (left[i], right[i]) = (x, y);
+    }
+    (left, right, pairs.len())
+}
+
 /// The joins that stand after a list of calls.
 #[repr(C)]
-#[derive(Clone, Debug)]
+#[derive(Clone, Debug, PartialEq, Eq)]
 pub struct Stack {
     into: [u16; VERTICES],
     gone: [u16; VERTICES],
@@ -80,6 +89,12 @@ pub struct Stack {
 }
 
 impl Stack {
+    /// The stack of these joins, the earliest first.
+    pub fn of(joins: &[(u16, u16)]) -> Self {
+        let (into, gone, depth) = columns(joins);
+        Stack { into, gone, depth }
+    }
+
     /// Each join as the lot on the board and the lot that went into it, the earliest first.
     pub fn joins(&self) -> impl Iterator<Item = (u16, u16)> + '_ {
         let pairs = self.into.iter().zip(&self.gone);
@@ -87,8 +102,36 @@ impl Stack {
     }
 }
 
+/// The record of moves after a list of calls.
+#[repr(C)]
+#[derive(Clone, Debug, PartialEq, Eq)]
+pub struct Record {
+    lots: [u16; VERTICES],
+    sessions: [u16; VERTICES],
+    length: usize,
+}
+
+impl Record {
+    /// The record of these moves, the earliest first.
+    pub fn of(moves: &[(u16, u16)]) -> Self {
+        let (lots, sessions, length) = columns(moves);
+        Record {
+            lots,
+            sessions,
+            length,
+        }
+    }
+
+    /// Each move as the lot and the session that it left, the earliest first.
+    pub fn moves(&self) -> impl Iterator<Item = (u16, u16)> + '_ {
+        let pairs = self.lots.iter().zip(&self.sessions);
+        pairs.take(self.length).map(|(&lot, &from)| (lot, from))
+    }
+}
+
 /// What a list of calls gives: 0 or the refusal's number, how many bytes of the output hold the
-/// lines of its answers, and the total and the joins at its end; 0 and none after a refusal.
+/// lines of its answers, and the total, the joins and the record of moves at its end; 0 and none
+/// after a refusal.
 #[repr(C)]
 #[derive(Clone, Debug)]
 pub struct ListOutcome {
@@ -96,6 +139,7 @@ pub struct ListOutcome {
     pub written: usize,
     pub total: u32,
     pub stack: Stack,
+    pub record: Record,
 }
 
 // A slice is passed as its pointer and its number of entries; `bindings/kapokdrill.h` says the

@@ -129,6 +129,11 @@ fn the_worked_sale_with_its_calls_apart() {
     assert_eq!(outcome.stack.joins().collect::<Vec<_>>(), [(2, 5)]);
     assert_eq!(answers, b"J,20\n");
     assert_eq!(outcome.total, 3);
+    assert_eq!(outcome.record.moves().count(), 0);
+
+    let (outcome, answers) = memory.run_list(&sale, &[b'M'.into(), 1, 2]);
+    assert_eq!(answers, b"M,3,0\n");
+    assert_eq!(outcome.record.moves().collect::<Vec<_>>(), [(1, 1)]);
 
     let (outcome, answers) = memory.run_list(&sale, &[b'X'.into(), 0, 0]);
     assert_eq!((outcome.code, answers), (2, &b""[..]));

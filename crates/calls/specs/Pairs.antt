@@ -1,27 +1,15 @@
--- The contraction stack and the move journal as two arrays and a length: the lists that they stand for, and one pair more or less.
--- Rests on model's Contraction and Move. Assumes nothing.
+-- The contraction stack and the move journal as two arrays and a length: one pair more or less, and zeros from the length on. Rests on
+-- model's Lent. Assumes nothing.
 use Prim.Native.Nat.{ℕ, zero, suc, _+_, _-_, _<_, _≤_}
+use native.Mathlib.Decide.{ℕ-discrete, decLt}
 use native.Mathlib.Numerals.{add-one}
 use native.Mathlib.Omega.{arith}
-use mathlib.Core.Path.{_≡_, refl, ap, ap₂}
+use mathlib.Core.Path.{_≡_, refl, sym, ap, ap₂, _∙_}
 use mathlib.Core.List.{List, [], _∷_}
-use lib.ListN.{length, getD, set}
+use lib.ListN.{length, getD, set, replicate, length-set, length-replicate, List·getD-eq-default}
 use lib.Seq.{getD-set-same, getD-set-other}
-use Rattle.model.specs.Measure.{Contraction}
-use Rattle.model.specs.Machine.{Move}
-
--- the first i pairs of two arrays, the last one first
-unfoldable pub pairs : {A : Type 0} → (ℕ → ℕ → A) → List ℕ → List ℕ → ℕ → List A
-pairs make xs ys zero = []
-pairs make xs ys (suc i) = make (getD xs i 0) (getD ys i 0) ∷ pairs make xs ys i
-
--- the stack of joins: into which vertex, and which one is gone
-abbrev pub stackOf : List ℕ → List ℕ → ℕ → List Contraction
-stackOf = pairs (λ u v. record { into = u; gone = v })
-
--- the record of moves: the vertex, and the block that it left
-abbrev pub journalOf : List ℕ → List ℕ → ℕ → List Move
-journalOf = pairs (λ v b. record { vertex = v; from = b })
+use Rattle.laws.specs.Fold.{zeros-get}
+use Rattle.model.specs.Lent.{Two, pairs, ZeroPast}
 
 pub pairs-none : {A : Type 0} (make : ℕ → ℕ → A) (xs ys : List ℕ) → pairs make xs ys 0 ≡ []
 unfolding pairs
@@ -57,3 +45,56 @@ pub pairs-length : {A : Type 0} (make : ℕ → ℕ → A) (xs ys : List ℕ) (i
 unfolding pairs
 pairs-length make xs ys zero = refl
 pairs-length make xs ys (suc i) = ap suc (pairs-length make xs ys i)
+
+-- ---- zeros past the length
+-- the first n entries of an array, and zeros past them
+pub record Zeroed (n : ℕ) (l l′ : List ℕ) : Type 0 where
+  pub len : length l′ ≡ length l
+  pub kept : (i : ℕ) → i < n → getD l′ i 0 ≡ getD l i 0
+  pub zeros : (i : ℕ) → n ≤ i → getD l′ i 0 ≡ 0
+
+-- the entries from n on to i are zeros
+pub record ZeroedTo (i n : ℕ) (l l′ : List ℕ) : Type 0 where
+  pub begun : n ≤ i
+  pub len : length l′ ≡ length l
+  pub kept : (j : ℕ) → j < n → getD l′ j 0 ≡ getD l j 0
+  pub zeros : (j : ℕ) → n ≤ j → j < i → getD l′ j 0 ≡ 0
+
+pub zeroed-none : (n : ℕ) (l : List ℕ) → ZeroedTo n n l l
+zeroed-none n l = record { begun = omega arith; len = refl; kept = λ j q. refl; zeros = λ j q r. absurd (omega arith) }
+
+pub zeroed-more : {i n : ℕ} {l l′ : List ℕ} → i < length l → ZeroedTo i n l l′ → ZeroedTo (i + 1) n l (set l′ i 0)
+zeroed-more {i} {n} {l} {l′} q z = record {
+  begun = omega (arith, z .begun);
+  len = length-set l′ i 0 ∙ z .len;
+  kept = λ j r. getD-set-other l′ i j 0 0 (λ e. omega (arith, z .begun)) ∙ z .kept j r;
+  zeros = λ j r s. go j r s (ℕ-discrete j i);
+}
+  where
+    go : (j : ℕ) → n ≤ j → j < i + 1 → Dec (j ≡ i) → getD (set l′ i 0) j 0 ≡ 0
+    go j r s (yes e) = ap (λ (k : ℕ). getD (set l′ i 0) k 0) e ∙ getD-set-same l′ i 0 0 (omega (arith, z .len))
+    go j r s (no e) = getD-set-other l′ i j 0 0 e ∙ z .zeros j r (omega arith)
+
+pub zeroed-all : {i n : ℕ} {l l′ : List ℕ} → length l ≤ i → ZeroedTo i n l l′ → Zeroed n l l′
+zeroed-all {i} {n} {l} {l′} q z = record { len = z .len; kept = z .kept; zeros = λ j r. go j r (decLt j i) }
+  where
+    go : (j : ℕ) → n ≤ j → Dec (j < i) → getD l′ j 0 ≡ 0
+    go j r (yes s) = z .zeros j r s
+    go j r (no s) = List·getD-eq-default l′ 0 (omega (arith, z .len))
+
+-- a struct so returned stands for the same pairs
+pub zeroed-pairs : {A : Type 0} (make : ℕ → ℕ → A) {S S′ : Two} → Zeroed (S .len) (S .xs) (S′ .xs) → Zeroed (S .len) (S .ys) (S′ .ys) → S′ .len ≡ S .len
+    → pairs make (S′ .xs) (S′ .ys) (S′ .len) ≡ pairs make (S .xs) (S .ys) (S .len)
+zeroed-pairs make {S} {S′} x y e = ap (pairs make (S′ .xs) (S′ .ys)) e ∙ pairs-ext make (S .xs) (S′ .xs) (S .ys) (S′ .ys) (S .len) (λ j l. (x .kept j l, y .kept j l))
+
+pub zero-past : {S S′ : Two} → length (S .xs) ≡ 1024 → length (S .ys) ≡ 1024 → Zeroed (S .len) (S .xs) (S′ .xs) → Zeroed (S .len) (S .ys) (S′ .ys) → S′ .len ≡ S .len → ZeroPast S′
+zero-past lx ly x y e = record { xs-long = x .len ∙ lx; ys-long = y .len ∙ ly; xs-zero = λ i q. x .zeros i (omega (arith, e)); ys-zero = λ i q. y .zeros i (omega (arith, e)) }
+
+-- as it is made
+pub zero-new : {S : Two} → S .xs ≡ replicate 1024 0 → S .ys ≡ replicate 1024 0 → ZeroPast S
+zero-new {S} x y = record {
+  xs-long = ap length x ∙ length-replicate {A = ℕ} 1024 0;
+  ys-long = ap length y ∙ length-replicate {A = ℕ} 1024 0;
+  xs-zero = λ i q. ap (λ (l : List ℕ). getD l i 0) x ∙ zeros-get 1024 i;
+  ys-zero = λ i q. ap (λ (l : List ℕ). getD l i 0) y ∙ zeros-get 1024 i;
+}

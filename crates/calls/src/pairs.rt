@@ -1,8 +1,8 @@
 // The contraction stack and the move journal: structs by value, whose methods return the new state.
 ghost use Prim.Native.Nat.{_+_, _-_, _<_, _≤_};
 ghost use mathlib.Core.Path.{_≡_};
-ghost use lib.ListN.{length};
-ghost use Rattle.calls.specs.Pairs.{Pushed};
+ghost use lib.ListN.{length, replicate};
+ghost use Rattle.calls.specs.Pairs.{Pushed, Zeroed};
 
 // The joins that stand, the latest last: `gone[i]` was contracted into `into[i]`.
 #[repr(C)]
@@ -13,15 +13,30 @@ pub struct Stack {
 }
 
 // The moves on the record, the latest last: `vertices[i]` left `blocks[i]`.
+#[repr(C)]
 pub struct Journal {
     pub vertices: [u16; 1024],
     pub blocks: [u16; 1024],
     pub len: usize,
 }
 
+// The first n entries, and zeros past them.
+fn zeroed_from(xs: [u16; 1024], n: usize) -> [u16; 1024]
+    requires { ⌜ length xs ≡ 1024 ⌝ }
+    ensures { λ r. ⌜ Zeroed n xs r ⌝ }
+{
+    let mut ys = xs;
+    let mut i = n;
+    while i < 1024 {
+        ys[i] = 0;
+        i += 1;
+    }
+    ys
+}
+
 impl Stack {
     pub fn new() -> Stack
-        ensures { λ r. ⌜ (length (r .into) ≡ 1024) × (length (r .gone) ≡ 1024) × (r .len ≡ 0) ⌝ }
+        ensures { λ r. ⌜ (length (r .into) ≡ 1024) × (length (r .gone) ≡ 1024) × (r .len ≡ 0) × (r .into ≡ replicate 1024 0) × (r .gone ≡ replicate 1024 0) ⌝ }
     {
         let into = [0u16; 1024];
         let gone = [0u16; 1024];
@@ -54,11 +69,28 @@ impl Stack {
         s.len = s.len - 1;
         s
     }
+
+    // With zeros past its length.
+    pub fn zeroed(self) -> Stack
+        requires { ⌜ (length (self .into) ≡ 1024) × (length (self .gone) ≡ 1024) ⌝ }
+        ensures { λ r. ⌜ Zeroed (self .len) (self .into) (r .into) × Zeroed (self .len) (self .gone) (r .gone) × (r .len ≡ self .len) ⌝ }
+    {
+        let len = self.len;
+        let u = self.into;
+        let v = self.gone;
+        let into = zeroed_from(u, len);
+        let gone = zeroed_from(v, len);
+        Stack {
+            into: into,
+            gone: gone,
+            len: len,
+        }
+    }
 }
 
 impl Journal {
     pub fn new() -> Journal
-        ensures { λ r. ⌜ (length (r .vertices) ≡ 1024) × (length (r .blocks) ≡ 1024) × (r .len ≡ 0) ⌝ }
+        ensures { λ r. ⌜ (length (r .vertices) ≡ 1024) × (length (r .blocks) ≡ 1024) × (r .len ≡ 0) × (r .vertices ≡ replicate 1024 0) × (r .blocks ≡ replicate 1024 0) ⌝ }
     {
         let vertices = [0u16; 1024];
         let blocks = [0u16; 1024];
@@ -90,6 +122,23 @@ impl Journal {
         let mut j = self;
         j.len = j.len - 1;
         j
+    }
+
+    // With zeros past its length.
+    pub fn zeroed(self) -> Journal
+        requires { ⌜ (length (self .vertices) ≡ 1024) × (length (self .blocks) ≡ 1024) ⌝ }
+        ensures { λ r. ⌜ Zeroed (self .len) (self .vertices) (r .vertices) × Zeroed (self .len) (self .blocks) (r .blocks) × (r .len ≡ self .len) ⌝ }
+    {
+        let len = self.len;
+        let v = self.vertices;
+        let b = self.blocks;
+        let vertices = zeroed_from(v, len);
+        let blocks = zeroed_from(b, len);
+        Journal {
+            vertices: vertices,
+            blocks: blocks,
+            len: len,
+        }
     }
 
     // With no move on it.

@@ -13,11 +13,12 @@ use Rattle.laws.specs.Place.{place}
 use Rattle.model.specs.Catalogue.{Hypergraph, averageWeight}
 use Rattle.model.specs.Measure.{Contraction}
 use Rattle.model.specs.Search.{best, Coarse, joinBest, joinTurn, boardSize, coarsen}
+use Rattle.model.specs.Lent.{stackOf}
 use Rattle.guarantees.specs.Climbs.{Joins}
 use Rattle.guarantees.specs.Calls.{can-join, board-join, Coarsest}
 use Rattle.guarantees.specs.Fuel.{coarsest-rests}
 use Rattle.guarantees.specs.StateBounds.{board-stack}
-use Rattle.calls.specs.Pairs.{stackOf, Pushed, pairs-push, pairs-length}
+use Rattle.calls.specs.Pairs.{Pushed, pairs-push, pairs-length}
 use Rattle.calls.specs.Tables.{Tables, Sound, Keeps}
 use Rattle.calls.specs.Join.{Pair, Joined}
 use Rattle.pairing.specs.Rating.{scoreOf}

@@ -14,8 +14,7 @@ use Rattle.model.specs.Catalogue.{Limits, mainLimits}
 use Rattle.model.specs.Grammar.{Reading, parse}
 use Rattle.model.specs.Engine.{outcome}
 use Rattle.model.specs.Memory.{Tables as Lent, Memory, longLists, longTables, longMemory, Worked, Served, Serves}
-use Rattle.loader.specs.Tables.{Lists}
-use Rattle.memory.specs.Lent.{lent, memory}
+use Rattle.model.specs.Lent.{Lists, lent, memory}
 use Rattle.selling.specs.Files.{lotsIn, Long}
 
 -- ---- the lots of a file

@@ -1,8 +1,7 @@
 // The engine with the lots as three tables, which the entry over records and the program share: 8 is tested first, then the file is
 // loaded, and worked to its end or turned down.
 ghost use Rattle.model.specs.Catalogue.{mainLimits};
-ghost use Rattle.loader.specs.Tables.{lists};
-ghost use Rattle.memory.specs.Lent.{lent, memory};
+ghost use Rattle.model.specs.Lent.{lists, lent, memory};
 ghost use Rattle.columns.specs.Entry.{ServesLots};
 use lengths::is_long;
 use working::Served;

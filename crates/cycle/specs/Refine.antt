@@ -9,11 +9,12 @@ use Rattle.model.specs.Catalogue.{Hypergraph, capacity}
 use Rattle.model.specs.Measure.{Contraction}
 use Rattle.model.specs.Machine.{uncontract}
 use Rattle.model.specs.Search.{Fine, walk, walked, refine}
+use Rattle.model.specs.Lent.{stackOf}
 use Rattle.guarantees.specs.Splits.{AllInside}
 use Rattle.guarantees.specs.SearchBounds.{tried-le, walk-counts}
 use Rattle.guarantees.specs.StateBounds.{stack-le}
 use Rattle.pins.specs.Board.{join}
-use Rattle.calls.specs.Pairs.{stackOf, pairs-none, pairs-some, pairs-length}
+use Rattle.calls.specs.Pairs.{pairs-none, pairs-some, pairs-length}
 use Rattle.calls.specs.Tables.{Tables, Sound, Keeps}
 use Rattle.calls.specs.Move.{own-block, in-range}
 use Rattle.calls.specs.Join.{Split}

@@ -9,8 +9,9 @@ use Rattle.model.specs.Catalogue.{Hypergraph, vertices, averageWeight, capacity
 use Rattle.model.specs.Measure.{Contraction}
 use Rattle.model.specs.Machine.{State, Step, saysA}
 use Rattle.model.specs.Search.{Coarse, Fine, boardSize, coarsen, refine, doesA}
+use Rattle.model.specs.Lent.{stackOf}
 use Rattle.guarantees.specs.StateBounds.{board-stack}
-use Rattle.calls.specs.Pairs.{stackOf, pairs-none, pairs-length}
+use Rattle.calls.specs.Pairs.{pairs-none, pairs-length}
 use Rattle.calls.specs.Tables.{Tables, Sound, Keeps}
 use Rattle.calls.specs.Keeping.{keeps-more}
 use Rattle.greedy.specs.Polished.{PolishOk, Polishes}

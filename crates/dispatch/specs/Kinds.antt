@@ -14,8 +14,9 @@ use Rattle.laws.specs.Integer.{read32}
 use Rattle.model.specs.Catalogue.{Hypergraph}
 use Rattle.model.specs.Machine.{Call, callJ, callS, callM, callB, callW, callP, callA, Answer, saysM, saysNO}
 use Rattle.model.specs.Grammar.{asks, nothing, callOf}
+use Rattle.model.specs.Lent.{Two}
 use Rattle.calls.specs.Tables.{Tables}
-use Rattle.steps.specs.Steps.{Two, told}
+use Rattle.steps.specs.Steps.{told}
 use Rattle.steps.specs.Called.{Called}
 
 -- the letters J and S

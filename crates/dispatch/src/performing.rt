@@ -2,9 +2,9 @@
 ghost use Prim.Native.Nat.{ℕ};
 ghost use mathlib.Core.List.{List};
 ghost use Rattle.model.specs.Catalogue.{Hypergraph};
+ghost use Rattle.model.specs.Lent.{Two, two};
 ghost use Rattle.calls.specs.Tables.{tables};
 ghost use Rattle.shifting.specs.Lent.{lent};
-ghost use Rattle.steps.specs.Steps.{Two, two};
 ghost use Rattle.steps.specs.Called.{ReadyS, CapacityIs, Called};
 ghost use Rattle.turns.specs.Searching.{ReadyW};
 ghost use Rattle.turns.specs.Cycling.{AverageIs, ReadyA};

@@ -1,10 +1,9 @@
 // The second entry: a catalogue's bytes and a list of calls apart from each other. 8 is tested first, then the list.
 ghost use mathlib.Core.Path.{_≡_};
 ghost use Rattle.model.specs.Catalogue.{mainLimits};
-ghost use Rattle.loader.specs.Tables.{lists};
-ghost use Rattle.calls.specs.Pairs.{stackOf};
-ghost use Rattle.memory.specs.Lent.{lent, memory};
-ghost use Rattle.engine.specs.Listing.{ListServes};
+ghost use Rattle.model.specs.Lent.{lists, lent, memory, two};
+ghost use Rattle.model.specs.ListEntry.{returned, Idle, ListServes};
+use calls::pairs::Journal;
 use calls::pairs::Stack;
 use lengths::is_long;
 use lists::ListRan;
@@ -13,14 +12,16 @@ use lists::work_list;
 
 // A list that is refused, and short memory, touch nothing.
 fn refused_list(code: u32) -> ListRan
-    ensures { λ r. ⌜ (r .code ≡ code) × (r .written ≡ 0) × (r .stack .len ≡ 0) × (r .total ≡ 0) ⌝ }
+    ensures { λ r. ⌜ (r .code ≡ code) × (r .written ≡ 0) × Idle (returned (r .code) (r .written) (r .total) (two (r .stack .into) (r .stack .gone) (r .stack .len)) (two (r .journal .vertices) (r .journal .blocks) (r .journal .len))) ⌝ }
 {
     let none = Stack::new();
+    let unmoved = Journal::new();
     ListRan {
         code: code,
         written: 0,
         total: 0,
         stack: none,
+        journal: unmoved,
     }
 }
 
@@ -42,7 +43,7 @@ pub extern "C" fn kapokdrill_list(
     gains: &mut [i32],
     visited: &mut [u16],
 ) -> ListRan
-    ensures { λ r. ⌜ ListServes mainLimits (now (file .entry)) (now (list .entry)) (memory (now (output .entry)) (lent (lists (now (weights .entry)) (now (blocks .entry)) (now (aboves .entry)) (now (pins .entry)) (now (present .entry)) (now (firsts .entry)) (now (sizes .entry)) (now (standing .entry))) (now (counts .entry)) (now (gains .entry)) (now (visited .entry)))) (memory (now (output .exit)) (lent (lists (now (weights .exit)) (now (blocks .exit)) (now (aboves .exit)) (now (pins .exit)) (now (present .exit)) (now (firsts .exit)) (now (sizes .exit)) (now (standing .exit))) (now (counts .exit)) (now (gains .exit)) (now (visited .exit)))) (stackOf (r .stack .into) (r .stack .gone) (r .stack .len)) (r .total) (r .code) (r .written) ⌝ }
+    ensures { λ r. ⌜ ListServes mainLimits (now (file .entry)) (now (list .entry)) (memory (now (output .entry)) (lent (lists (now (weights .entry)) (now (blocks .entry)) (now (aboves .entry)) (now (pins .entry)) (now (present .entry)) (now (firsts .entry)) (now (sizes .entry)) (now (standing .entry))) (now (counts .entry)) (now (gains .entry)) (now (visited .entry)))) (memory (now (output .exit)) (lent (lists (now (weights .exit)) (now (blocks .exit)) (now (aboves .exit)) (now (pins .exit)) (now (present .exit)) (now (firsts .exit)) (now (sizes .exit)) (now (standing .exit))) (now (counts .exit)) (now (gains .exit)) (now (visited .exit)))) (returned (r .code) (r .written) (r .total) (two (r .stack .into) (r .stack .gone) (r .stack .len)) (two (r .journal .vertices) (r .journal .blocks) (r .journal .len))) ⌝ }
 {
     if !is_long(
         output,

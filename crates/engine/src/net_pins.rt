@@ -3,7 +3,7 @@
 ghost use mathlib.Core.Path.{_≡_};
 ghost use mathlib.Core.Bool.{cond};
 ghost use Rattle.model.specs.Memory.{partOf, handedOut};
-ghost use Rattle.model.specs.Slices.{netTables};
+ghost use Rattle.model.specs.Lent.{netTables};
 use stretches::Stretch;
 use stretches::part;
 use stretches::stretch_of;

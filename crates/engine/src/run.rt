@@ -2,7 +2,7 @@
 // own, and each lot's record is then written. Rests on records.
 ghost use Rattle.model.specs.Catalogue.{mainLimits};
 ghost use Rattle.model.specs.Memory.{Serves};
-ghost use Rattle.model.specs.Slices.{others, inRecords};
+ghost use Rattle.model.specs.Lent.{others, inRecords};
 ghost use Rattle.records.specs.declared.Lot.{Lot};
 use records::Lot;
 use records::answering::core;

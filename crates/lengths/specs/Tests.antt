@@ -7,7 +7,7 @@ use lib.Dec.{leb}
 use lib.ListN.{length}
 use Rattle.model.specs.Catalogue.{mainLimits}
 use Rattle.model.specs.Memory.{Tables as Lent, Memory, longLists, longTables, longMemory}
-use Rattle.model.specs.Slices.{netTables}
+use Rattle.model.specs.Lent.{netTables}
 
 -- seven tests, one by one
 regroup : (a b c d e f g : Bool) → (a && (b && (c && (d && (e && (f && g)))))) ≡ (a && b && c && d && e && f && g)

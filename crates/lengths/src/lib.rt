@@ -2,8 +2,7 @@
 ghost use mathlib.Core.Path.{_≡_};
 ghost use Rattle.model.specs.Catalogue.{mainLimits};
 ghost use Rattle.model.specs.Memory.{longMemory};
-ghost use Rattle.loader.specs.Tables.{lists};
-ghost use Rattle.memory.specs.Lent.{lent, memory};
+ghost use Rattle.model.specs.Lent.{lists, lent, memory};
 
 // The output and all tables.
 pub fn is_long(

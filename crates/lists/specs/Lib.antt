@@ -1,3 +1,3 @@
 -- A catalogue and a list of calls apart from each other, in memory that is long enough. Assumes nothing.
--- Lists  when the list is refused, and what is left
+-- Lists  the tests of a list, and what is left
 pub mod Lists

@@ -1,5 +1,5 @@
--- A catalogue's bytes and a list of calls apart from each other, in memory that is long enough: when the list is refused, and what is left.
--- Rests on selling and model's Demand. Assumes nothing.
+-- A catalogue's bytes and a list of calls apart from each other, in memory that is long enough: the tests of a list, and what is left, are
+-- model's. Rests on selling and model's ListEntry. Assumes nothing.
 use Prim.Native.Nat.{ℕ, zero, suc, _+_, _*_, _/_, _%_, _<_, _≤_}
 use native.Mathlib.Decide.{ℕ-discrete}
 use native.Mathlib.Numerals.{add-one}
@@ -9,65 +9,27 @@ use mathlib.Core.Bool.{Bool, true, false, cond, _&&_, _||_, true≢false}
 use mathlib.Core.List.{List, [], _∷_}
 use borrow.Author.Tests.{eq-eqb, ne-eqb, lt-ltb, le-ltb, ltb-false}
 use lib.Dec.{eqb, ltb}
-use lib.ListN.{length, getD, length-append}
+use lib.ListN.{length, getD, replicate, length-append}
 use lib.IntN.{ℤ}
 use Rattle.laws.specs.Choice.{and-left, and-right}
-use Rattle.model.specs.Catalogue.{Limits, Hypergraph}
+use Rattle.model.specs.Catalogue.{Limits}
 use Rattle.model.specs.Measure.{Contraction}
-use Rattle.model.specs.Machine.{Call, callJ, callS, callM, callB, callW, callP, callA}
+use Rattle.model.specs.Machine.{Move, callJ, callS, callM, callB, callW, callP, callA}
 use Rattle.model.specs.Grammar.{Reading, unread, reading, stopped, asks, nothing, callOf, parse}
-use Rattle.model.specs.Demand.{Demand3}
 use Rattle.model.specs.Report.{digits, row}
 use Rattle.model.specs.Engine.{outcome}
-use Rattle.model.specs.Memory.{Tables as Lent, Memory, Written, Worked}
-use Rattle.reader.specs.Seen.{listed, callsOf}
+use Rattle.model.specs.Memory.{Tables as Lent}
+use Rattle.model.specs.Lent.{Lists, lent, memory, listed, callsOf, Two}
+use Rattle.model.specs.Demand.{Standing, standing, Demand3}
+use Rattle.model.specs.ListEntry.{isLetter, lettersTo, listRefusal, listCalls, Returned, returned, Idle, ListWorked}
 use Rattle.loader.specs.declared.Sizes.{Sizes}
 use Rattle.loader.specs.declared.Loaded.{Loaded}
 use Rattle.loader.specs.declared.Loaded.the-variants.{Accepted, Refused}
-use Rattle.loader.specs.Tables.{Lists, graph, seen, Loads}
+use Rattle.loader.specs.Tables.{graph, seen, Loads}
 use Rattle.report.specs.Wrote.{Wrote}
-use Rattle.calls.specs.Pairs.{stackOf, pairs-none}
-use Rattle.steps.specs.Steps.{Two}
-use Rattle.memory.specs.Lent.{lent, memory}
+use Rattle.calls.specs.Pairs.{Zeroed, zeroed-pairs, zero-past, zero-new}
 use Rattle.selling.specs.Sale.{Listed as ListedCalls, Sold}
 use Rattle.selling.specs.Reported.{written-all}
-
--- ---- the list
--- the letter of a call
-abbrev pub isLetter : ℕ → Bool
-isLetter letter = (eqb letter 74 || eqb letter 83) || ((eqb letter 77 || (eqb letter 66 || (eqb letter 87 || eqb letter 80))) || eqb letter 65)
-
--- each of the first n calls of a list, three numbers each, has the letter of a call
-unfoldable pub lettersTo : ℕ → List ℕ → Bool
-lettersTo zero l = true
-lettersTo (suc n) l = lettersTo n l && isLetter (getD l (3 * n) 0)
-
--- a list of more than 512 calls is refused as 7, one that is not three numbers for each call, with the letter of a call first, as 2
-unfoldable pub listRefusal : List ℕ → ℕ
-listRefusal l = cond (ltb 1536 (length l)) 7 (cond (eqb (length l % 3) 0 && lettersTo (length l / 3) l) 0 2)
-
--- the calls of a list
-abbrev pub listCalls : List ℕ → List Call
-listCalls l = callsOf (length l / 3) l
-
--- ---- what the engine leaves
--- demand 3; the answers' lines stand in the output
-pub record Listed (h : Hypergraph) (calls : List Call) (old new : Memory) (stack : List Contraction) (total code bytes : ℕ) : Type 0 where
-  pub code-is : code ≡ 0
-  pub lines : List ℕ
-  pub demand : Demand3 h calls (old .tables) (new .tables) stack lines total
-  pub output : Written lines (old .output) (new .output) bytes
-
--- nothing ran: no contraction stands, and no total is told
-pub record Idle (stack : List Contraction) (total : ℕ) : Type 0 where
-  pub none : stack ≡ []
-  pub zero-total : total ≡ 0
-
--- the catalogue is refused as a file is, or the calls of the list run on it; calls that its bytes hold are read and do not run
-abbrev pub ListWorked : Reading → List Call → Memory → Memory → List Contraction → ℕ → ℕ → ℕ → Type 0
-ListWorked (reading k) calls old new stack total code bytes = Listed (k .graph) calls old new stack total code bytes
-ListWorked (stopped q n) calls old new stack total code bytes = Worked (stopped q n) old new code bytes × Idle stack total
-ListWorked unread calls old new stack total code bytes = Worked unread old new code bytes × Idle stack total
 
 -- ---- letters are calls
 letter-asks : (letter x y : ℕ) → isLetter letter ≡ true → length (listed (callOf letter x y)) ≡ 1
@@ -170,21 +132,34 @@ module _ (l : List ℕ) where
           }
 
 -- ---- what is left
-pub idle : (xs ys : List ℕ) (len total : ℕ) → len ≡ 0 → total ≡ 0 → Idle (stackOf xs ys len) total
-idle xs ys len total e z = record { none = ap (λ (n : ℕ). stackOf xs ys n) e ∙ pairs-none (λ u v. record { into = u; gone = v }) xs ys; zero-total = z }
+-- nothing ran: the stack and the journal are as they are made
+pub idle : {code bytes total : ℕ} {S J : Two} → S .len ≡ 0 → S .xs ≡ replicate 1024 0 → S .ys ≡ replicate 1024 0 → J .len ≡ 0 → J .xs ≡ replicate 1024 0 → J .ys ≡ replicate 1024 0 → total ≡ 0
+    → Idle (returned code bytes total S J)
+idle {S = S} {J = J} s sx sy j jx jy t = record { no-joins = s; no-moves = j; zero-total = t; stack-whole = zero-new {S = S} sx sy; journal-whole = zero-new {S = J} jx jy }
 
 module _ (list out : List ℕ) (counts : List ℕ) (gains : List ℤ) (visited : List ℕ) {limits : Limits} {file : List ℕ} {old new : Lists} {nw calls : List ℕ} {r : Loaded} (l : Loads limits file r old new nw calls) where
-  -- the catalogue is accepted
-  pub list-worked : {z : Sizes} (e : r ≡ Accepted z) {new′ : Lent} {out′ : List ℕ} {S : Two} {n m draft total at : ℕ} → Sold (graph z new nw) (listCalls list) (lent old counts gains visited) new′ out out′ S n m draft total at
-      → ListWorked (parse limits file) (listCalls list) (memory out (lent old counts gains visited)) (memory out′ new′) (stackOf (S .xs) (S .ys) (S .len)) total 0 at
-  list-worked {z} e {new′} {out′} {S} {total = total} {at = at} s =
-      subst (λ (x : Reading). ListWorked x (listCalls list) (memory out (lent old counts gains visited)) (memory out′ new′) (stackOf (S .xs) (S .ys) (S .len)) total 0 at) (ap (λ (x : Loaded). seen x new nw calls) (sym e) ∙ l .says)
-      (record { code-is = refl; lines = s .lines; demand = s .demand; output = written-all (s .wrote) })
+  -- the catalogue is accepted; the stack and the journal are returned with zeros past their lengths
+  pub list-worked : {z : Sizes} (e : r ≡ Accepted z) {new′ : Lent} {out′ : List ℕ} {S S′ J J′ : Two} {n m draft total at : ℕ} → Sold limits (graph z new nw) (listCalls list) (lent old counts gains visited) new′ out out′ S J n m draft total at
+      → Zeroed (S .len) (S .xs) (S′ .xs) × Zeroed (S .len) (S .ys) (S′ .ys) × (S′ .len ≡ S .len)
+      → Zeroed (J .len) (J .xs) (J′ .xs) × Zeroed (J .len) (J .ys) (J′ .ys) × (J′ .len ≡ J .len)
+      → ListWorked limits (parse limits file) (listCalls list) (memory out (lent old counts gains visited)) (memory out′ new′) (returned 0 at total S′ J′)
+  list-worked {z} e {new′} {out′} {S} {S′} {J} {J′} {total = total} {at = at} s zs zj =
+      let stack-same = sym (zeroed-pairs {A = Contraction} (λ u v. record { into = u; gone = v }) {S = S} {S′ = S′} (zs .0) (zs .1) (zs .2)) in
+      let journal-same = sym (zeroed-pairs {A = Move} (λ v b. record { vertex = v; from = b }) {S = J} {S′ = J′} (zj .0) (zj .1) (zj .2)) in
+      subst (λ (x : Reading). ListWorked limits x (listCalls list) (memory out (lent old counts gains visited)) (memory out′ new′) (returned 0 at total S′ J′)) (ap (λ (x : Loaded). seen x new nw calls) (sym e) ∙ l .says)
+      (record {
+        code-is = refl;
+        lines = s .lines;
+        demand = subst (λ (x : Standing). Demand3 limits (graph z new nw) (listCalls list) (lent old counts gains visited) x (s .lines) total) (λ k. standing new′ (stack-same k) (journal-same k)) (s .demand);
+        output = written-all (s .wrote);
+        stack-whole = zero-past {S = S} {S′ = S′} (s .stack-whole .xs-whole) (s .stack-whole .ys-whole) (zs .0) (zs .1) (zs .2);
+        journal-whole = zero-past {S = J} {S′ = J′} (s .journal-whole .xs-whole) (s .journal-whole .ys-whole) (zj .0) (zj .1) (zj .2);
+      })
 
   -- it is refused
-  pub list-down : {q n : ℕ} (e : r ≡ Refused q n) (new′ : Lent) {out′ : List ℕ} {code bytes : ℕ} {stack : List Contraction} {total : ℕ} → Idle stack total → code ≡ q → Wrote out out′ 0 (row "NO" (digits q ∷ digits n ∷ [])) bytes
-      → ListWorked (parse limits file) (listCalls list) (memory out (lent old counts gains visited)) (memory out′ new′) stack total code bytes
+  pub list-down : {q n : ℕ} (e : r ≡ Refused q n) (new′ : Lent) {out′ : List ℕ} {x : Returned} → Idle x → x .code ≡ q → Wrote out out′ 0 (row "NO" (digits q ∷ digits n ∷ [])) (x .bytes)
+      → ListWorked limits (parse limits file) (listCalls list) (memory out (lent old counts gains visited)) (memory out′ new′) x
   unfolding outcome
-  list-down {q} {n} e new′ {out′} {code} {bytes} {stack} {total} i d w =
-      subst (λ (x : Reading). ListWorked x (listCalls list) (memory out (lent old counts gains visited)) (memory out′ new′) stack total code bytes) (ap (λ (x : Loaded). seen x new nw calls) (sym e) ∙ l .says)
+  list-down {q} {n} e new′ {out′} {x} i d w =
+      subst (λ (y : Reading). ListWorked limits y (listCalls list) (memory out (lent old counts gains visited)) (memory out′ new′) x) (ap (λ (y : Loaded). seen y new nw calls) (sym e) ∙ l .says)
       (record { code-is = d; output = written-all w; tables = tt }, i)

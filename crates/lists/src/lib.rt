@@ -5,11 +5,10 @@ ghost use mathlib.Core.Path.{_≡_};
 ghost use lib.ListN.{length};
 ghost use Rattle.model.specs.Catalogue.{mainLimits};
 ghost use Rattle.model.specs.Grammar.{parse};
-ghost use Rattle.loader.specs.Tables.{lists};
-ghost use Rattle.calls.specs.Pairs.{stackOf};
-ghost use Rattle.memory.specs.Lent.{lent, memory};
+ghost use Rattle.model.specs.Lent.{lists, lent, memory, two};
+ghost use Rattle.model.specs.ListEntry.{isLetter, lettersTo, listRefusal, listCalls, returned, ListWorked};
 ghost use Rattle.selling.specs.Files.{Long};
-ghost use Rattle.lists.specs.Lists.{isLetter, lettersTo, listRefusal, listCalls, ListWorked};
+use calls::pairs::Journal;
 use calls::pairs::Stack;
 use dispatch::kinds::is_contracting;
 use dispatch::kinds::is_moving;
@@ -17,13 +16,14 @@ use loader::Loaded;
 use selling::closing::refuse;
 use selling::sell;
 
-// 0 or the number of the refusal, the bytes written, the metric at the end, and the contractions that stand.
+// 0 or the number of the refusal, the bytes written, the metric at the end, the contractions that stand and the record of moves.
 #[repr(C)]
 pub struct ListRan {
     pub code: u32,
     pub written: usize,
     pub total: u32,
     pub stack: Stack,
+    pub journal: Journal,
 }
 
 // Is this the letter of a call.
@@ -89,7 +89,7 @@ pub fn work_list(
     visited: &mut [u16],
 ) -> ListRan
     requires { ⌜ Long mainLimits (now output) (lists (now weights) (now blocks) (now aboves) (now pins) (now present) (now firsts) (now sizes) (now standing)) (now counts) (now gains) (now visited) × (listRefusal (now list) ≡ 0) ⌝ }
-    ensures { λ r. ⌜ ListWorked (parse mainLimits (now (file .entry))) (listCalls (now (list .entry))) (memory (now (output .entry)) (lent (lists (now (weights .entry)) (now (blocks .entry)) (now (aboves .entry)) (now (pins .entry)) (now (present .entry)) (now (firsts .entry)) (now (sizes .entry)) (now (standing .entry))) (now (counts .entry)) (now (gains .entry)) (now (visited .entry)))) (memory (now (output .exit)) (lent (lists (now (weights .exit)) (now (blocks .exit)) (now (aboves .exit)) (now (pins .exit)) (now (present .exit)) (now (firsts .exit)) (now (sizes .exit)) (now (standing .exit))) (now (counts .exit)) (now (gains .exit)) (now (visited .exit)))) (stackOf (r .stack .into) (r .stack .gone) (r .stack .len)) (r .total) (r .code) (r .written) ⌝ }
+    ensures { λ r. ⌜ ListWorked mainLimits (parse mainLimits (now (file .entry))) (listCalls (now (list .entry))) (memory (now (output .entry)) (lent (lists (now (weights .entry)) (now (blocks .entry)) (now (aboves .entry)) (now (pins .entry)) (now (present .entry)) (now (firsts .entry)) (now (sizes .entry)) (now (standing .entry))) (now (counts .entry)) (now (gains .entry)) (now (visited .entry)))) (memory (now (output .exit)) (lent (lists (now (weights .exit)) (now (blocks .exit)) (now (aboves .exit)) (now (pins .exit)) (now (present .exit)) (now (firsts .exit)) (now (sizes .exit)) (now (standing .exit))) (now (counts .exit)) (now (gains .exit)) (now (visited .exit)))) (returned (r .code) (r .written) (r .total) (two (r .stack .into) (r .stack .gone) (r .stack .len)) (two (r .journal .vertices) (r .journal .blocks) (r .journal .len))) ⌝ }
 {
     let mut netweights = [0u16; 1024];
     let mut calls = [0u32; 1536];
@@ -112,11 +112,13 @@ pub fn work_list(
             let end = refuse(output, q, line);
             let number = q as u32;
             let none = Stack::new();
+            let unmoved = Journal::new();
             ListRan {
                 code: number,
                 written: end,
                 total: 0,
                 stack: none,
+                journal: unmoved,
             }
         }
         Loaded::Accepted(z) => {
@@ -138,12 +140,16 @@ pub fn work_list(
                 count,
                 z,
             );
-            let stack = s.stack;
+            let joins = s.stack;
+            let moves = s.journal;
+            let stack = joins.zeroed();
+            let journal = moves.zeroed();
             ListRan {
                 code: 0,
                 written: s.at,
                 total: s.total,
                 stack: stack,
+                journal: journal,
             }
         }
     }

@@ -16,17 +16,17 @@ use Rattle.model.specs.Measure.{pin, size, weight}
 use Rattle.model.specs.Machine.{fresh}
 use Rattle.model.specs.Grammar.{Book, reading, parse}
 use Rattle.model.specs.Memory.{Filled, net, allPins, firstPlace, weightEntry, blockEntry, weightWhenGone}
+use Rattle.model.specs.Lent.{callsOf, lists}
 use Rattle.guarantees.specs.Caps.{Capped}
 use Rattle.guarantees.specs.Loads.{Loaded as Good, parsed, held-start}
 use Rattle.guarantees.specs.Splits.{board-none, above-none, weight-none}
 use Rattle.lines.specs.Line.{book}
-use Rattle.reader.specs.Seen.{callsOf}
 use Rattle.reader.specs.Whole.{averageOf, graphOf, Fitted, FileRead, seen as told}
 use Rattle.reader.specs.declared.Outcome.{Outcome}
 use Rattle.reader.specs.declared.Outcome.the-variants.{Taken, Refused as Stopped}
 use Rattle.reader.specs.Buyers.{netsOf, Laid}
 use Rattle.reader.proofs.Loads.{average-is, capacity-is}
-use Rattle.loader.specs.Tables.{lists, Started, Loads, sizesOf}
+use Rattle.loader.specs.Tables.{Started, Loads, sizesOf}
 use Rattle.loader.specs.declared.Sizes.{Sizes}
 use Rattle.loader.specs.declared.Loaded.the-variants.{Accepted, Refused}
 use Rattle.loader.proofs.Fill.{filled, filled-in, filled-out, filled-as}

@@ -8,28 +8,13 @@ use Rattle.model.specs.Catalogue.{Limits, Hypergraph, vertices, drafted, averag
 use Rattle.model.specs.Measure.{above, size}
 use Rattle.model.specs.Grammar.{Reading, reading, stopped, parse}
 use Rattle.model.specs.Memory.{Filled, Column, Pins, net, allPins, firstPlace, weightEntry, blockEntry}
+use Rattle.model.specs.Lent.{Lists, callsOf}
 use Rattle.guarantees.specs.Caps.{Capped}
 use Rattle.lines.specs.Line.{book, InRange}
-use Rattle.reader.specs.Seen.{callsOf}
 use Rattle.reader.specs.Whole.{graphOf}
 use Rattle.loader.specs.declared.Sizes.{Sizes}
 use Rattle.loader.specs.declared.Loaded.{Loaded}
 use Rattle.loader.specs.declared.Loaded.the-variants.{Accepted, Refused}
-
--- the lent lists that loading writes. Lots: bales, session and the lot above. Marks: as loaded, and as they stand. Buyers: first place,
--- loaded marks and present marks
-pub record Lists : Type 0 where
-  pub weights : List ℕ
-  pub blocks : List ℕ
-  pub aboves : List ℕ
-  pub loadedPins : List ℕ
-  pub presentPins : List ℕ
-  pub firsts : List ℕ
-  pub loadedSizes : List ℕ
-  pub presentSizes : List ℕ
-
-abbrev pub lists : List ℕ → List ℕ → List ℕ → List ℕ → List ℕ → List ℕ → List ℕ → List ℕ → Lists
-lists w d a lp pp f c pc = record { weights = w; blocks = d; aboves = a; loadedPins = lp; presentPins = pp; firsts = f; loadedSizes = c; presentSizes = pc }
 
 -- the lists have the lengths of document 01, lots by the entry's limit
 pub record LongLists (v : ℕ) (t : Lists) : Type 0 where

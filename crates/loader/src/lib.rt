@@ -5,9 +5,10 @@ ghost use Prim.Native.Nat.{_+_, _*_, _/_, _≤_};
 ghost use lib.Dec.{ltb};
 ghost use lib.ListN.{length, getD, take};
 ghost use Rattle.model.specs.Memory.{Filled};
+ghost use Rattle.model.specs.Lent.{lists};
 ghost use Rattle.lines.specs.Line.{limitsOf};
 ghost use Rattle.reader.specs.Whole.{averageOf};
-ghost use Rattle.loader.specs.Tables.{lists, LongLists, sizesOf, Loads};
+ghost use Rattle.loader.specs.Tables.{LongLists, sizesOf, Loads};
 
 // The sizes of an accepted catalogue: how many lots, buyers, sessions, thousandths of slack, marks and calls; ⌈W/k⌉; the cap.
 pub struct Sizes {

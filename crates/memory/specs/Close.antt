@@ -12,11 +12,12 @@ use Rattle.model.specs.Machine.{Call, State, fresh}
 use Rattle.model.specs.Search.{call}
 use Rattle.model.specs.Report.{answerRow, closing}
 use Rattle.model.specs.Engine.{after, answers, run}
+use Rattle.model.specs.Lent.{Two}
 use Rattle.model.specs.Demand.{Accepted}
 use Rattle.guarantees.specs.ReportFits.{report-fits}
 use Rattle.calls.specs.Pairs.{pairs-length}
 use Rattle.calls.specs.Tables.{Tables, tables, Sound}
-use Rattle.steps.specs.Steps.{Two, Runs}
+use Rattle.steps.specs.Steps.{Runs}
 use Rattle.report.specs.Closing.{Ended}
 use Rattle.memory.specs.Prefix.{answers-more}
 

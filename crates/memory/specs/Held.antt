@@ -20,6 +20,7 @@ use Rattle.model.specs.Catalogue.{Net, Hypergraph, vertices, drafted}
 use Rattle.model.specs.Measure.{Contraction, above, onBoard, pin, size, pinCount, gain}
 use Rattle.model.specs.Machine.{State}
 use Rattle.model.specs.Memory.{Tables as MemoryTables, Filled, Column, Grid, Pins, Holds, net, allPins, firstPlace, weightEntry, blockEntry, gainEntry, mask}
+use Rattle.model.specs.Lent.{Lists, lists}
 use Rattle.guarantees.specs.Stretches.{stretch-le}
 use Rattle.connectivity.specs.Raised.{at}
 use Rattle.connectivity.specs.Matrix.{KeptGains}
@@ -28,7 +29,7 @@ use Rattle.levels.specs.Running.{netAt}
 use Rattle.levels.specs.Reading.{Reads, reads}
 use Rattle.calls.specs.Tables.{Tables as CallTables, tables, runningOf, Sound, Keeps}
 use Rattle.filling.specs.Prepare.{Prepared}
-use Rattle.loader.specs.Tables.{Lists, lists, Started}
+use Rattle.loader.specs.Tables.{Started}
 use Rattle.loader.proofs.Fill.{filled-in, filled-out}
 use Rattle.memory.specs.Mask.{mask-is}
 

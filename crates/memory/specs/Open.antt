@@ -18,6 +18,7 @@ use Rattle.model.specs.Catalogue.{Limits, Net, Hypergraph, vertices, loaded, dr
 use Rattle.model.specs.Measure.{size}
 use Rattle.model.specs.Grammar.{Book, parse, reading}
 use Rattle.model.specs.Memory.{Filled, noNet, net, firstPlace}
+use Rattle.model.specs.Lent.{callsOf, Lists}
 use Rattle.model.specs.Demand.{Accepted as ModelAccepted}
 use Rattle.guarantees.specs.Clumps.{Within}
 use Rattle.guarantees.specs.Splits.{above-none, pin-none}
@@ -28,8 +29,7 @@ use Rattle.incidence.specs.On.{on-is}
 use Rattle.pins.specs.Stack.{loadedPin}
 use Rattle.levels.specs.Running.{netAt}
 use Rattle.lines.specs.Line.{book}
-use Rattle.reader.specs.Seen.{callsOf}
-use Rattle.loader.specs.Tables.{Lists, LongLists, graph, Accepts, Loads}
+use Rattle.loader.specs.Tables.{LongLists, graph, Accepts, Loads}
 use Rattle.loader.specs.declared.Sizes.{Sizes}
 use Rattle.loader.specs.declared.Loaded.the-variants.{Accepted}
 use Rattle.loader.proofs.Fill.{filled-in}
@@ -104,6 +104,13 @@ module _ {limits : Limits} {file : List ℕ} {z : Sizes} {old new : Lists} {nw c
       ∙ ap (size h []) (net-number e)
       ∙ size-fresh h (netAt h e) (all-get (h .nets) (Within (vertices h)) noNet (ranges .loaded .nets-in) e (omega (arith, all-nets))) (all-get (h .nets) (λ n. Distinct (n .pins) 0 (length (n .pins))) noNet (ranges .loaded .nets-distinct) e (omega (arith, all-nets)))
       ∙ sym (loaded-at e le ∙ ap (λ (n : Net). length (n .pins)) (net-number e))
+
+  pub nets-few : length (h .nets) ≤ 1024
+  nets-few = omega (arith, all-nets, told .range .b-high)
+
+  -- with no contraction a net has its loaded pins
+  pub size-loaded : (e : ℕ) → e < length (h .nets) → size h [] (net h (suc e)) ≡ length (net h (suc e) .pins)
+  size-loaded e le = let q : e < z .nets = omega (arith, all-nets) in sym (present-at e q) ∙ sizes-same e q ∙ loaded-at e q
 
   listed-at : (e : ℕ) → e < z .nets → (x : ℕ) → occ (new .presentPins) (getD (new .firsts) e 0) (getD (new .presentSizes) e 0) x ≡ one (loadedPin (netAt h e) x)
   listed-at e le x =

@@ -1,12 +1,15 @@
--- Demand 3: one statement about an accepted catalogue, a list of calls and what they leave. Rests on Memory. Assumes nothing.
-use Prim.Native.Nat.{ℕ, _≤_}
+-- Demand 3: one statement about an accepted catalogue, a list of calls and what they leave. Rests on Memory and on laws' occurrences.
+-- Assumes nothing.
+use Prim.Native.Nat.{ℕ, _-_, _≤_}
 use mathlib.Core.Path.{_≡_}
 use mathlib.Core.Bool.{Bool, true, false}
-use mathlib.Core.List.{List, _∷_, _++_}
+use mathlib.Core.List.{List, [], _∷_, _++_}
+use lib.ListN.{length, getD}
+use Rattle.laws.specs.Occurrence.{occ}
 use Rattle.laws.specs.Place.{place}
 use Rattle.model.specs.Catalogue.{Limits, Hypergraph, vertices, capacity}
 use Rattle.model.specs.Measure.{Contraction, onBoard, blockWeight, metric, hasRoom}
-use Rattle.model.specs.Machine.{Call, callJ, callS, callM, callB, callW, callP, callA, State, fresh}
+use Rattle.model.specs.Machine.{Call, callJ, callS, callM, callB, callW, callP, callA, Answer, Move, State, fresh}
 use Rattle.model.specs.Search.{call}
 use Rattle.model.specs.Grammar.{Book, reading, parse}
 use Rattle.model.specs.Report.{refusal}
@@ -54,12 +57,53 @@ pub record MachineHalf (h : Hypergraph) (calls : List Call) : Type 0 where
   pub locally-best : (before later : List Call) → calls ≡ before ++ (callA ∷ later) → refusal (call h (after h (fresh h) before) callA .answer) ≡ 0
       → LocallyBest h (call h (after h (fresh h) before) callA .state)
 
--- demand 3 of a list of at most 512 calls on tables as loading left them: `old` is what the tables held before loading, `new` what
--- they hold after the calls, `stack` the engine's stack of joins, the latest first, `lines` the answers' bytes, whose totals are
--- the machine's, and `total` the one that the closing report prints
-pub record Demand3 (h : Hypergraph) (calls : List Call) (old new : Tables) (stack : List Contraction) (lines : List ℕ) (total : ℕ) : Type 0 where
-  pub joins : stack ≡ after h (fresh h) calls .stack
-  pub tables : Holds h (after h (fresh h) calls) old new
+-- ---- a list of calls on lent memory
+-- what stands between two calls: the lent tables, the stack of joins and the record of moves, the latest first
+pub record Standing : Type 0 where
+  pub tables : Tables
+  pub stack : List Contraction
+  pub journal : List Move
+
+abbrev pub standing : Tables → List Contraction → List Move → Standing
+standing t stack journal = record { tables = t; stack = stack; journal = journal }
+
+-- it is what a state of the machine says, where `old` is what the tables held before loading
+pub record Stands (h : Hypergraph) (old : Tables) (s : State) (x : Standing) : Type 0 where
+  pub tables : Holds h s old (x .tables)
+  pub joins : x .stack ≡ s .stack
+  pub moves : x .journal ≡ s .journal
+
+-- a call leads on from a: if it is refused, to a itself
+pub record LeadsOn {A : Type 0} (answer : Answer) (a : A) (rest : A → Type 0) : Type 0 where
+  pub next : A
+  pub unchanged : 1 ≤ refusal answer → next ≡ a
+  pub onward : rest next
+
+-- a list of calls leads from a to z, each call on what the one before it left: what stands before and after each of them is what the
+-- machine's state there says, and a refused call changes nothing
+unfoldable pub Course : {A : Type 0} → (State → A → Type 0) → Hypergraph → State → List Call → A → A → Type 0
+Course says h s [] a z = says s a × (z ≡ a)
+Course says h s (c ∷ cs) a z = says s a × LeadsOn (call h s c .answer) a (λ b. Course says h (call h s c .state) cs b z)
+
+-- each buyer's present marks are its loaded ones: as many, and every number as often
+pub record LoadedSets (h : Hypergraph) (t : Tables) : Type 0 where
+  pub as-many : (e : ℕ) → 1 ≤ e → e ≤ length (h .nets) → getD (t .presentSizes) (e - 1) 0 ≡ getD (t .loadedSizes) (e - 1) 0
+  pub as-often : (e v : ℕ) → 1 ≤ e → e ≤ length (h .nets)
+      → occ (t .presentPins) (getD (t .firsts) (e - 1) 0) (getD (t .presentSizes) (e - 1) 0) v ≡ occ (t .loadedPins) (getD (t .firsts) (e - 1) 0) (getD (t .loadedSizes) (e - 1) 0) v
+
+-- Demand 3, of every accepted catalogue and every list of at most 512 calls, from a fresh machine and from tables as loading left them.
+-- `old` is what the tables held before loading; `left` is what stands after the calls, `lines` are the answers' bytes, whose totals are
+-- the machine's, and `total` is the one that the closing report prints
+pub record Demand3 (limits : Limits) (h : Hypergraph) (calls : List Call) (old : Tables) (left : Standing) (lines : List ℕ) (total : ℕ) : Type 0 where
+  pub accepted : Accepted limits h
+  pub few : length calls ≤ 512
+  -- joins, record of moves and every entry of the tables are the machine's
+  pub stands : Stands h old (after h (fresh h) calls) left
+  -- with no join standing the mark sets are the loaded ones
+  pub unjoined : left .stack ≡ [] → LoadedSets h (left .tables)
+  -- so is what stands before and after each call, from what loading left on; and a refused call changes nothing
+  pub loaded : Standing
+  pub course : Course (Stands h old) h (fresh h) calls loaded left
   pub answered : lines ≡ answers h (fresh h) calls
   pub total-is : total ≡ metricIn h (after h (fresh h) calls)
   pub machine : MachineHalf h calls

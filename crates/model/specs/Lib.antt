@@ -7,9 +7,15 @@
 -- Report     answers and the closing report as bytes
 -- Engine     a list of calls; the file to a code and a report
 -- Memory     lent memory: what each table holds, what is free, what keeps; what the engine leaves
--- Slices     the lots as records, and the nets' tables by themselves, as lent memory
+-- Lent       how lent slices, returned arrays and lists of numbers read as lent memory, stack, record of moves and calls
 -- Demand     demand 3, one statement about a catalogue and a list of calls
+-- ListEntry  what the entry for a catalogue and a list of calls apart returns and leaves
 -- Table      the starred cases; Edges the files that are turned down and those just accepted; Worked whole sales
+--
+-- What the customers' functions promise is stated by these files alone. They use, and a reader must believe as well:
+--   from laws  Choice `one`; Sum `sumTo`, `countTo`, `foldTo`; Fold `sumOver`, `all`, `any`; Place `place`; Occurrence `occ`
+--   from the kit  ℕ with its arithmetic, ≤ and <; Bool with `not`, `&&`, `||`, `cond`, and the tests `eqb`, `leb`, `ltb`; ℤ with `pos`,
+--     `negsuc`, -ℤ, `ltZ`; List with ++, `length`, `getD`, `take`, `drop`; String as its characters' codes; ≡, Unit, ⊥, ×
 pub mod Catalogue
 pub mod Measure
 pub mod Machine
@@ -18,8 +24,9 @@ pub mod Grammar
 pub mod Report
 pub mod Engine
 pub mod Memory
-pub mod Slices
+pub mod Lent
 pub mod Demand
+pub mod ListEntry
 pub mod Table
 pub mod Edges
 pub mod Worked

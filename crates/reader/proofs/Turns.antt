@@ -13,11 +13,12 @@ use Rattle.laws.specs.Choice.{and-left, and-right}
 use Rattle.model.specs.Catalogue.{Limits, Hypergraph}
 use Rattle.model.specs.Machine.{Call}
 use Rattle.model.specs.Grammar.{Reading, reading, stopped, parts, fields, Asked, asks, nothing, asked, callOf, withCall, whole, full, callLine, line, ending, lines}
+use Rattle.model.specs.Lent.{listed, callsOf}
 use Rattle.text.specs.Field.{first, FirstAt}
 use Rattle.text.proofs.Walk.{slice-at, first-within, parts-some}
 use Rattle.text.proofs.Lines.{parts-on, parts-last}
 use Rattle.lines.specs.Line.{book, Named}
-use Rattle.reader.specs.Seen.{listed, callsOf, CallsRead}
+use Rattle.reader.specs.Seen.{CallsRead}
 use Rattle.reader.specs.declared.Ended.the-variants.{Up, Stop}
 
 pub lines-stopped : (limits : Limits) (n q m : ℕ) (ls : List (List ℕ)) → lines limits n (stopped q m) ls ≡ stopped q m

@@ -1,28 +1,18 @@
 -- Books read off the tables, and what the lot lines and the call lines are read as. Rests on model's grammar. Assumes nothing.
-use Prim.Native.Nat.{ℕ, zero, suc, _+_, _-_, _*_, _≤_}
+use Prim.Native.Nat.{ℕ, _+_, _≤_}
 use mathlib.Core.Path.{_≡_}
 use mathlib.Core.Bool.{true}
-use mathlib.Core.List.{List, [], _∷_, _++_}
-use lib.ListN.{length, getD, take}
+use mathlib.Core.List.{List, []}
+use lib.ListN.{length, take}
 use lib.Seq.{slice}
 use Rattle.model.specs.Catalogue.{Limits, Hypergraph}
-use Rattle.model.specs.Machine.{Call}
-use Rattle.model.specs.Grammar.{Reading, reading, stopped, Asked, asks, nothing, callOf, grown, whole, lines, parts}
+use Rattle.model.specs.Grammar.{Reading, reading, stopped, grown, whole, lines, parts}
+use Rattle.model.specs.Lent.{callsOf}
 use Rattle.lines.specs.Line.{book, Past}
 use Rattle.reader.specs.declared.Ended.{Ended}
 use Rattle.reader.specs.declared.Ended.the-variants.{Up, Stop}
 
 -- ---- calls
--- a call as a list, which is empty where there is none
-abbrev pub listed : Asked → List Call
-listed (asks c) = c ∷ []
-listed nothing = []
-
--- the first c calls of a table, three numbers each
-unfoldable pub callsOf : ℕ → List ℕ → List Call
-callsOf zero t = []
-callsOf (suc c) t = callsOf c t ++ listed (callOf (getD t (3 * c) 0) (getD t (3 * c + 1) 0) (getD t (3 * c + 2) 0))
-
 -- the calls of a file whose catalogue is read
 abbrev pub called : ℕ → ℕ → Hypergraph → ℕ → Ended → List ℕ → Reading
 called l b h m (Up c) t = reading (book l b h m (callsOf c t))

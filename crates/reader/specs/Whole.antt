@@ -9,8 +9,9 @@ use lib.Seq.{slice}
 use Rattle.laws.specs.Fold.{sumOver}
 use Rattle.model.specs.Catalogue.{Limits, mainLimits, Net, Hypergraph}
 use Rattle.model.specs.Grammar.{Reading, reading, stopped, parts, lines, grown, overfull, parse}
+use Rattle.model.specs.Lent.{callsOf}
 use Rattle.lines.specs.Line.{book, InRange, Past}
-use Rattle.reader.specs.Seen.{called, callsOf, lotsGraph}
+use Rattle.reader.specs.Seen.{called, lotsGraph}
 use Rattle.reader.specs.Buyers.{netsOf, withNets, Laid}
 use Rattle.lines.specs.Mark.{Fresh}
 use Rattle.reader.specs.declared.Ended.{Ended}

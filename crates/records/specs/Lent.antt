@@ -16,7 +16,7 @@ use Rattle.model.specs.Machine.{State, fresh}
 use Rattle.model.specs.Grammar.{Reading, unread, reading, stopped, parse}
 use Rattle.model.specs.Engine.{after}
 use Rattle.model.specs.Memory.{Tables, Memory, longLists, longTables, longMemory, Column, weightEntry, blockEntry, Holds, Served, Serves, TablesLeft}
-use Rattle.model.specs.Slices.{inTables, inRecords}
+use Rattle.model.specs.Lent.{inTables, inRecords}
 use Rattle.columns.specs.Entry.{lotsWritten}
 use Rattle.records.specs.declared.Lot.{Lot}
 use Rattle.records.specs.Over.{over}

@@ -1,5 +1,5 @@
 // The engine on three tables of its own for the lots, and the records that are then to be written.
-ghost use Rattle.model.specs.Slices.{others};
+ghost use Rattle.model.specs.Lent.{others};
 ghost use Rattle.records.specs.Entry.{Answers};
 use crate::Lot;
 use crate::gather;

@@ -10,8 +10,9 @@ use Rattle.model.specs.Catalogue.{Hypergraph, vertices}
 use Rattle.model.specs.Measure.{Contraction, above}
 use Rattle.model.specs.Machine.{Move}
 use Rattle.model.specs.Search.{reversed}
+use Rattle.model.specs.Lent.{journalOf}
 use Rattle.guarantees.specs.Walks.{reversed-none}
-use Rattle.calls.specs.Pairs.{journalOf, pairs-some}
+use Rattle.calls.specs.Pairs.{pairs-some}
 use Rattle.calls.specs.Tables.{Tables, Sound, Keeps}
 use Rattle.calls.specs.Move.{CanGo, Went, own-block, in-range}
 use Rattle.calls.specs.Keeping.{keeps-none, keeps-more}

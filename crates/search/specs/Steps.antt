@@ -11,8 +11,8 @@ use Rattle.laws.specs.Place.{place}
 use Rattle.model.specs.Catalogue.{Hypergraph, capacity}
 use Rattle.model.specs.Measure.{Contraction, onBoard, metric}
 use Rattle.model.specs.Search.{Best, none, Walk, bestPair, walkMove, walkOn, walk, walked, patience}
+use Rattle.model.specs.Lent.{journalOf}
 use Rattle.guarantees.specs.Walks.{moved}
-use Rattle.calls.specs.Pairs.{journalOf}
 use Rattle.calls.specs.Tables.{Tables, tables, Sound, Keeps}
 use Rattle.calls.specs.Move.{Open}
 use Rattle.choice.specs.Open.{gainIn, openIn}

@@ -15,8 +15,9 @@ use Rattle.model.specs.Catalogue.{Hypergraph}
 use Rattle.model.specs.Measure.{Contraction, above, onBoard, metric, adjacent}
 use Rattle.model.specs.Machine.{Move}
 use Rattle.model.specs.Search.{Walk, walkMove}
+use Rattle.model.specs.Lent.{journalOf}
 use Rattle.guarantees.specs.Walks.{moved}
-use Rattle.calls.specs.Pairs.{journalOf, Pushed, pairs-push}
+use Rattle.calls.specs.Pairs.{Pushed, pairs-push}
 use Rattle.calls.specs.Tables.{Tables, Sound}
 use Rattle.calls.specs.Move.{Open, CanGo, Went, on-board, own-block, in-range}
 use Rattle.shifting.specs.Marks.{candidateBit, movedBit, Covered, near, NetsOk, Spread}

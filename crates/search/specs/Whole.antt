@@ -14,7 +14,8 @@ use Rattle.model.specs.Catalogue.{Hypergraph, vertices}
 use Rattle.model.specs.Measure.{Contraction, above, onBoard, metric}
 use Rattle.model.specs.Machine.{Move}
 use Rattle.model.specs.Search.{Walk, walkOn, walk, walked, reversed}
-use Rattle.calls.specs.Pairs.{journalOf, pairs-none}
+use Rattle.model.specs.Lent.{journalOf}
+use Rattle.calls.specs.Pairs.{pairs-none}
 use Rattle.calls.specs.Tables.{Tables, Sound}
 use Rattle.calls.specs.Move.{on-board}
 use Rattle.shifting.specs.Marks.{candidateBit, movedBit, blank-bit, Marked, marked-more, SameNets, nets-then, covered-none}

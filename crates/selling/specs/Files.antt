@@ -11,15 +11,14 @@ use Rattle.model.specs.Grammar.{Reading, unread, reading, stopped, parse}
 use Rattle.model.specs.Report.{digits, row}
 use Rattle.model.specs.Engine.{outcome, engine}
 use Rattle.model.specs.Memory.{Tables as Lent, Memory, Worked}
+use Rattle.model.specs.Lent.{callsOf, Lists, lent, memory}
 use Rattle.guarantees.specs.Ranges.{accepted-book}
 use Rattle.guarantees.specs.Refusals.{refused-in, engine-fits}
-use Rattle.reader.specs.Seen.{callsOf}
 use Rattle.loader.specs.declared.Sizes.{Sizes}
 use Rattle.loader.specs.declared.Loaded.{Loaded}
 use Rattle.loader.specs.declared.Loaded.the-variants.{Accepted, Refused}
-use Rattle.loader.specs.Tables.{Lists, LongLists, graph, seen, Loads}
+use Rattle.loader.specs.Tables.{LongLists, graph, seen, Loads}
 use Rattle.report.specs.Wrote.{Wrote}
-use Rattle.memory.specs.Lent.{lent, memory}
 use Rattle.selling.specs.Sale.{Catalogued, Listed}
 use Rattle.selling.specs.Reported.{written-all, Reported}
 

@@ -2,33 +2,33 @@
 -- Assumes nothing.
 use Prim.Native.Nat.{ℕ, _+_, _*_, _≤_}
 use native.Mathlib.Omega.{arith}
-use mathlib.Core.Path.{_≡_, refl, _∙_}
+use mathlib.Core.Path.{_≡_, refl, sym, _∙_}
 use mathlib.Core.List.{List}
 use lib.ListN.{length, getD, replicate, length-replicate}
 use lib.IntN.{ℤ}
 use Rattle.laws.specs.Fold.{zeros-get}
 use Rattle.model.specs.Catalogue.{Limits, Hypergraph}
-use Rattle.model.specs.Machine.{Call, fresh}
+use Rattle.model.specs.Machine.{Call, State, fresh}
 use Rattle.model.specs.Report.{closing}
 use Rattle.model.specs.Engine.{after, answers}
 use Rattle.model.specs.Memory.{Tables as Lent}
-use Rattle.model.specs.Demand.{Demand3}
+use Rattle.model.specs.Lent.{callsOf, Lists, journalOf, stackOf, Two, lent}
+use Rattle.model.specs.Demand.{Standing, standing, Stands, Demand3}
 use Rattle.guarantees.specs.MachineHalf.{machine-half}
-use Rattle.reader.specs.Seen.{callsOf}
 use Rattle.loader.specs.declared.Sizes.{Sizes}
 use Rattle.loader.specs.declared.Loaded.the-variants.{Accepted}
-use Rattle.loader.specs.Tables.{Lists, LongLists, graph, Loads}
+use Rattle.loader.specs.Tables.{LongLists, graph, Loads}
 use Rattle.opening.specs.Opening.{Opens, CanOpen, Opened}
 use Rattle.report.specs.Wrote.{Wrote}
 use Rattle.report.specs.Closing.{Ended}
-use Rattle.calls.specs.Pairs.{stackOf}
 use Rattle.calls.specs.Tables.{Tables, tables}
-use Rattle.steps.specs.Steps.{Two}
-use Rattle.sequence.specs.Course.{Begins, CanRun, Done}
-use Rattle.memory.specs.Lent.{lent}
+use Rattle.steps.specs.Steps.{Whole}
+use Rattle.sequence.specs.Course.{Begins, CanRun, Point, RunsOn, Done}
 use Rattle.memory.specs.Open.{opens, none-above, is-accepted}
 use Rattle.memory.specs.Close.{draft-is, ended, report-length}
-use Rattle.memory.specs.Held.{held}
+use Rattle.memory.specs.Prefix.{course-as}
+use Rattle.memory.specs.Held.{memoryOf, held}
+use Rattle.memory.specs.Unjoined.{loaded-sets}
 
 -- ---- what a list of calls needs
 -- a file was loaded: `old` held what it held before, `new` is what loading left; counts, gains and connectivity sets are not yet filled
@@ -68,10 +68,12 @@ blank n e = record { len = length-replicate {A = ℕ} n 0 ∙ e; zeros = zeros-g
 
 -- ---- what it does
 -- demand 3; the lines of the answers stand in the output and end at `at`; the closing report can follow
-pub record Sold (h : Hypergraph) (calls : List Call) (old new : Lent) (out out′ : List ℕ) (S : Two) (n m draft total at : ℕ) : Type 0 where
+pub record Sold (limits : Limits) (h : Hypergraph) (calls : List Call) (old new : Lent) (out out′ : List ℕ) (S J : Two) (n m draft total at : ℕ) : Type 0 where
   pub lines : List ℕ
-  pub demand : Demand3 h calls old new (stackOf (S .xs) (S .ys) (S .len)) lines total
+  pub demand : Demand3 limits h calls old (standing new (stackOf (S .xs) (S .ys) (S .len)) (journalOf (J .xs) (J .ys) (J .len))) lines total
   pub wrote : Wrote out out′ 0 lines at
+  pub stack-whole : Whole S
+  pub journal-whole : Whole J
   pub ended : Ended h (after h (fresh h) calls) (new .blocks) (new .aboves) (new .visited) n m (S .len) draft total
   pub fits : at + length (closing h (after h (fresh h) calls)) ≤ length out
 
@@ -109,23 +111,42 @@ module _ {limits : Limits} {file : List ℕ} {z : Sizes} {old new : Lists} {nw c
     pub can-run : CanRun T₀ (z .average) (z .capacity) calls count (length out)
     can-run = record { limits = limits; h = h; begins = begins }
 
+    -- what stands in lent memory between two calls is what the machine's state there says
+    abbrev standingOf : Point → Standing
+    standingOf p = standing (memoryOf (p .tables) (new .loadedPins)) (stackOf (p .stack .xs) (p .stack .ys) (p .stack .len)) (journalOf (p .journal .xs) (p .journal .ys) (p .journal .len))
+
+    stands-as : (s : State) (p : Point) → RunsOn h T₀ s p → Stands h (lent old counts gains visited) s (standingOf p)
+    stands-as s p r = record {
+      tables = held (g .loads .accepts z refl .started) (o .prepared) (r .keeps) (r .runs .sound) (r .n-same) (r .m-same) (r .k-same) (r .firsts-same) (r .loaded-same);
+      joins = r .runs .stack-is;
+      moves = r .runs .journal-is;
+    }
+
     pub sold : {counts″ visited″ pins″ sizes″ bits″ blocks″ weights″ aboves″ loads″ out″ : List ℕ} {gains″ : List ℤ} {total at : ℕ} {S J : Two}
         → Done h calls count T₀ (tables counts″ visited″ gains″ pins″ sizes″ bits″ blocks″ weights″ aboves″ loads″ nw (new .firsts) (new .loadedSizes) (z .vertices) (z .nets) (z .blocks) total) S J out out″ at
-        → Sold h (callsOf count calls) (lent old counts gains visited)
+        → Sold limits h (callsOf count calls) (lent old counts gains visited)
         (record { weights = weights″; blocks = blocks″; aboves = aboves″; loadedPins = new .loadedPins; presentPins = pins″; firsts = new .firsts; loadedSizes = new .loadedSizes; presentSizes = sizes″; counts = counts″; gains = gains″; visited = visited″ })
-        out out″ S (z .vertices) (z .nets) draft total at
+        out out″ S J (z .vertices) (z .nets) draft total at
     sold d =
         let q = draft-is (begins .sound) in
+        let few : length (callsOf count calls) ≤ 512 = omega (arith, l .known, l .count-le) in
+        let end = stands-as _ _ (d .here) in
         record {
           lines = answers h (fresh h) (callsOf count calls);
           demand = record {
-            joins = d .runs .stack-is;
-            tables = held (g .loads .accepts z refl .started) (o .prepared) (d .keeps) (d .runs .sound) refl refl refl refl refl;
+            accepted = begins .accepted;
+            few = few;
+            stands = end;
+            unjoined = λ none. loaded-sets (g .narrow) (g .short) (g .long) (g .loads) (end .tables) refl (sym (end .joins) ∙ none);
+            loaded = standingOf (d .begun);
+            course = course-as (RunsOn h T₀) (Stands h (lent old counts gains visited)) standingOf stands-as h (fresh h) (callsOf count calls) (d .begun) _ (d .course);
             answered = refl;
-            total-is = d .runs .sound .total-is;
+            total-is = d .here .runs .sound .total-is;
             machine = machine-half limits h (begins .accepted) (callsOf count calls);
           };
           wrote = d .wrote;
-          ended = ended (d .runs) q;
-          fits = omega (arith, d .wrote .ends, l .spacious, report-length (g .narrow) (g .short) (begins .accepted) (callsOf count calls) (omega (arith, l .known, l .count-le)));
+          stack-whole = d .here .runs .stack-whole;
+          journal-whole = d .here .runs .journal-whole;
+          ended = ended (d .here .runs) q;
+          fits = omega (arith, d .wrote .ends, l .spacious, report-length (g .narrow) (g .short) (begins .accepted) (callsOf count calls) few);
         }

@@ -2,11 +2,10 @@
 ghost use Prim.Native.Nat.{ℕ};
 ghost use mathlib.Core.List.{List};
 ghost use Rattle.model.specs.Catalogue.{Limits};
-ghost use Rattle.reader.specs.Seen.{callsOf};
-ghost use Rattle.loader.specs.Tables.{Lists, lists, graph};
-ghost use Rattle.steps.specs.Steps.{two};
-ghost use Rattle.memory.specs.Lent.{lent};
+ghost use Rattle.model.specs.Lent.{callsOf, Lists, lists, two, lent};
+ghost use Rattle.loader.specs.Tables.{graph};
 ghost use Rattle.selling.specs.Sale.{Catalogued, Listed, CanSell, Sold};
+use calls::pairs::Journal;
 use calls::pairs::Stack;
 use loader::Sizes;
 use opening::open;
@@ -14,9 +13,11 @@ use sequence::run_calls;
 
 pub mod closing;
 
-// What a list of calls leaves beside the tables: the contraction stack, the metric of the draft and at the end, and where the output's text ends.
+// What a list of calls leaves beside the tables: the contraction stack, the journal, the metric of the draft and at the end, and where the
+// output's text ends.
 pub struct Sale {
     pub stack: Stack,
+    pub journal: Journal,
     pub draft: u32,
     pub total: u32,
     pub at: usize,
@@ -42,7 +43,7 @@ pub fn sell(
 ) -> Sale
     requires { ⌜ CanSell (λ pins. lists (now weights) (now blocks) (now aboves) pins (now present) (now firsts) (now sizes) (now standing)) z (now netweights) (now counts) (now gains) (now visited) (now calls) count (now output) ⌝ }
     ensures { λ r. ⌜ ((limits : Limits) (file pins : List ℕ) (old : Lists) → Catalogued limits file z old (lists (now (weights .entry)) (now (blocks .entry)) (now (aboves .entry)) pins (now (present .entry)) (now (firsts .entry)) (now (sizes .entry)) (now (standing .entry))) (now (netweights .entry)) (now (counts .entry)) (now (gains .entry)) (now (visited .entry)) → Listed (now (calls .entry)) count (now (output .entry))
-        → Sold (graph z (lists (now (weights .entry)) (now (blocks .entry)) (now (aboves .entry)) pins (now (present .entry)) (now (firsts .entry)) (now (sizes .entry)) (now (standing .entry))) (now (netweights .entry))) (callsOf count (now (calls .entry))) (lent old (now (counts .entry)) (now (gains .entry)) (now (visited .entry))) (lent (lists (now (weights .exit)) (now (blocks .exit)) (now (aboves .exit)) pins (now (present .exit)) (now (firsts .exit)) (now (sizes .exit)) (now (standing .exit))) (now (counts .exit)) (now (gains .exit)) (now (visited .exit))) (now (output .entry)) (now (output .exit)) (two (r .stack .into) (r .stack .gone) (r .stack .len)) (z .vertices) (z .nets) (r .draft) (r .total) (r .at)) ⌝ }
+        → Sold limits (graph z (lists (now (weights .entry)) (now (blocks .entry)) (now (aboves .entry)) pins (now (present .entry)) (now (firsts .entry)) (now (sizes .entry)) (now (standing .entry))) (now (netweights .entry))) (callsOf count (now (calls .entry))) (lent old (now (counts .entry)) (now (gains .entry)) (now (visited .entry))) (lent (lists (now (weights .exit)) (now (blocks .exit)) (now (aboves .exit)) pins (now (present .exit)) (now (firsts .exit)) (now (sizes .exit)) (now (standing .exit))) (now (counts .exit)) (now (gains .exit)) (now (visited .exit))) (now (output .entry)) (now (output .exit)) (two (r .stack .into) (r .stack .gone) (r .stack .len)) (two (r .journal .vertices) (r .journal .blocks) (r .journal .len)) (z .vertices) (z .nets) (r .draft) (r .total) (r .at)) ⌝ }
 {
     let n = z.vertices as usize;
     let m = z.nets as usize;
@@ -92,8 +93,10 @@ pub fn sell(
         draft,
     );
     let stack = course.stack;
+    let journal = course.journal;
     Sale {
         stack: stack,
+        journal: journal,
         draft: draft,
         total: course.total,
         at: course.at,

@@ -1,27 +1,27 @@
--- A list of calls on tables as opening left them: what one step of it needs and promises, and how far the loop over it has come. Rests on
+-- A list of calls on tables as opening left them: what one step of it needs and promises, and the course that the loop over it has taken. Rests on
 -- steps' Called, report's Wrote and memory's Prefix and Close. Assumes nothing.
 use Prim.Native.Nat.{ℕ, _+_, _*_, _<_, _≤_}
 use native.Mathlib.Omega.{arith}
-use mathlib.Core.Path.{_≡_, sym, ap, ap₂, _∙_, subst}
+use mathlib.Core.Path.{_≡_, refl, sym, ap, ap₂, _∙_, subst}
 use mathlib.Core.List.{List, [], _∷_, _++_}
 use lib.ListN.{length, getD}
 use Rattle.model.specs.Catalogue.{Limits, Hypergraph, averageWeight, capacity, drafted}
 use Rattle.model.specs.Machine.{Call, Answer, State, fresh}
 use Rattle.model.specs.Search.{call}
-use Rattle.model.specs.Report.{answerRow}
+use Rattle.model.specs.Report.{refusal, answerRow}
 use Rattle.model.specs.Engine.{after, answers}
-use Rattle.model.specs.Demand.{Accepted}
-use Rattle.reader.specs.Seen.{callsOf}
+use Rattle.model.specs.Lent.{callsOf, Two}
+use Rattle.model.specs.Demand.{Accepted, Course}
 use Rattle.report.specs.Wrote.{Wrote}
 use Rattle.report.proofs.Laws.{wrote-none, wrote-length, wrote-append}
 use Rattle.calls.specs.Tables.{Tables, Sound, Keeps}
 use Rattle.calls.specs.Keeping.{keeps-none, keeps-more}
-use Rattle.steps.specs.Steps.{Two, Runs, Stepped}
+use Rattle.steps.specs.Steps.{Runs, Stepped}
 use Rattle.steps.specs.Start.{Empty, runs-fresh}
 use Rattle.steps.specs.Called.{Called}
 use Rattle.turns.specs.Cycling.{ReadyA}
 use Rattle.dispatch.specs.Kinds.{anyCall, any-is}
-use Rattle.memory.specs.Prefix.{after-more, answers-more, NextCall, callsOf-more}
+use Rattle.memory.specs.Prefix.{after-more, answers-more, course-none, course-more, NextCall, callsOf-more}
 use Rattle.memory.specs.Close.{answer-fits}
 
 -- ---- one step
@@ -59,16 +59,38 @@ pub record CanRun (T : Tables) (average limit : ℕ) (calls : List ℕ) (count r
   pub h : Hypergraph
   pub begins : Begins limits h T average limit calls count room
 
--- i calls are done: the sale runs in the machine's state after them, their answers are written, and what is not in use is untouched
+-- what a list runs on between two calls
+pub record Point : Type 0 where
+  pub tables : Tables
+  pub stack : Two
+  pub journal : Two
+
+abbrev pub point : Tables → Two → Two → Point
+point T S J = record { tables = T; stack = S; journal = J }
+
+-- it runs in the state s, on what the tables T₀ have become: what is not in use is untouched, and neither are sizes and loaded stretches
+pub record RunsOn (h : Hypergraph) (T₀ : Tables) (s : State) (p : Point) : Type 0 where
+  pub runs : Runs h s (p .tables) (p .stack) (p .journal)
+  pub keeps : Keeps T₀ (p .tables)
+  pub n-same : p .tables .n ≡ T₀ .n
+  pub m-same : p .tables .m ≡ T₀ .m
+  pub k-same : p .tables .k ≡ T₀ .k
+  pub firsts-same : p .tables .firsts ≡ T₀ .firsts
+  pub loaded-same : p .tables .loaded ≡ T₀ .loaded
+
+-- i calls are done: the sale runs in the machine's state after them, on its course from the first call on, and their answers are written
 pub record Done (h : Hypergraph) (calls : List ℕ) (i : ℕ) (T₀ T : Tables) (S J : Two) (out₀ out : List ℕ) (at : ℕ) : Type 0 where
-  pub runs : Runs h (after h (fresh h) (callsOf i calls)) T S J
-  pub keeps : Keeps T₀ T
+  pub here : RunsOn h T₀ (after h (fresh h) (callsOf i calls)) (point T S J)
+  pub begun : Point
+  pub course : Course (RunsOn h T₀) h (fresh h) (callsOf i calls) begun (point T S J)
   pub journal-le : J .len ≤ i
   pub wrote : Wrote out₀ out 0 (answers h (fresh h) (callsOf i calls)) at
 
 pub done-none : {limits : Limits} {h : Hypergraph} {T : Tables} {average limit count room : ℕ} {calls : List ℕ} {S J : Two} (out : List ℕ) → Begins limits h T average limit calls count room → Empty S → Empty J → Done h calls 0 T T S J out out 0
 unfolding callsOf after answers
-done-none {T = T} out b e f = record { runs = runs-fresh (b .sound) e f; keeps = keeps-none T; journal-le = omega (arith, f .none); wrote = wrote-none out 0 }
+done-none {h = h} {T = T} {S = S} {J = J} out b e f =
+    let start : RunsOn h T (fresh h) (point T S J) = record { runs = runs-fresh (b .sound) e f; keeps = keeps-none T; n-same = refl; m-same = refl; k-same = refl; firsts-same = refl; loaded-same = refl } in
+    record { here = start; begun = point T S J; course = course-none (RunsOn h T) h (fresh h) (point T S J) start; journal-le = omega (arith, f .none); wrote = wrote-none out 0 }
 
 module _ {limits : Limits} {h : Hypergraph} {T₀ : Tables} {average limit count : ℕ} {calls out₀ : List ℕ} (b : Begins limits h T₀ average limit calls count (length out₀)) (i : ℕ) (l : i < count)
     {T : Tables} {S J : Two} {out : List ℕ} {at : ℕ} (d : Done h calls i T₀ T S J out₀ out at) (x y : ℕ) (qx : x ≡ getD calls (3 * i + 1) 0) (qy : y ≡ getD calls (3 * i + 2) 0) where
@@ -87,25 +109,39 @@ module _ {limits : Limits} {h : Hypergraph} {T₀ : Tables} {average limit count
   out-length : length out ≡ length out₀
   out-length = wrote-length (d .wrote) (omega (arith, line-fits, b .spacious))
 
+  same : {T′ : Tables} {S′ J′ : Two} → (T′ ≡ T) × (S′ ≡ S) × (J′ ≡ J) → point T′ S′ J′ ≡ point T S J
+  same u = λ k. point (u .0 k) (u .1 k) (u .2 k)
+
   pub can-step : CanStep T S J average limit (length out) at asked
   can-step = record {
     ready = record {
-      ready = record { h = h; s = after h (fresh h) (callsOf i calls); runs = d .runs; room = omega (arith, d .journal-le, b .count-le) };
+      ready = record { h = h; s = after h (fresh h) (callsOf i calls); runs = d .here .runs; room = omega (arith, d .journal-le, b .count-le) };
       average-is = b .average-is;
       limit-is = b .limit-is;
     };
     fits = omega (arith, line-fits, b .spacious, d .wrote .ends, out-length);
   }
 
-  pub done-more : {T′ : Tables} {S′ J′ : Two} {out′ : List ℕ} {at′ : ℕ} → T .n ≡ T₀ .n → T .m ≡ T₀ .m → T .k ≡ T₀ .k → T .firsts ≡ T₀ .firsts → T .loaded ≡ T₀ .loaded
+  pub done-more : {T′ : Tables} {S′ J′ : Two} {out′ : List ℕ} {at′ : ℕ} → T′ .n ≡ T₀ .n → T′ .m ≡ T₀ .m → T′ .k ≡ T₀ .k → T′ .firsts ≡ T₀ .firsts → T′ .loaded ≡ T₀ .loaded
       → Steps h T T′ S S′ J J′ asked out out′ at at′ → Done h calls (i + 1) T₀ T′ S′ J′ out₀ out′ at′
   done-more {T′} {S′} {J′} {out′} {at′} qn qm qk qf ql s =
       let st : State = after h (fresh h) (callsOf i calls) in
-      let e : Stepped h st asked T′ S′ J J′ (s .says) = s .called .steps st (d .runs) in
+      let e : Stepped h st asked T′ S′ J J′ (s .says) = s .called .steps st (d .here .runs) in
       let q : callsOf (i + 1) calls ≡ callsOf i calls ++ (asked ∷ []) = more .1 .more ∙ ap (λ (c : Call). callsOf i calls ++ (c ∷ [])) (sym asked-is) in
+      let now : RunsOn h T₀ (after h (fresh h) (callsOf i calls ++ (asked ∷ []))) (point T′ S′ J′) = record {
+        runs = subst (λ (x : State). Runs h x T′ S′ J′) (sym (after-more h (fresh h) (callsOf i calls) asked)) (e .runs);
+        keeps = keeps-more (d .here .n-same) (d .here .m-same) (d .here .k-same) (d .here .firsts-same) (d .here .loaded-same) (d .here .keeps) (s .called .keeps st (d .here .runs));
+        n-same = qn;
+        m-same = qm;
+        k-same = qk;
+        firsts-same = qf;
+        loaded-same = ql;
+      } in
       record {
-        runs = subst (λ (x : State). Runs h x T′ S′ J′) (sym (after-more h (fresh h) (callsOf i calls) asked) ∙ ap (after h (fresh h)) (sym q)) (e .runs);
-        keeps = keeps-more qn qm qk qf ql (d .keeps) (s .called .keeps st (d .runs));
+        here = subst (λ (cs : List Call). RunsOn h T₀ (after h (fresh h) cs) (point T′ S′ J′)) (sym q) now;
+        begun = d .begun;
+        course = subst (λ (cs : List Call). Course (RunsOn h T₀) h (fresh h) cs (d .begun) (point T′ S′ J′)) (sym q)
+            (course-more (RunsOn h T₀) h (fresh h) (callsOf i calls) asked (d .begun) (point T S J) (point T′ S′ J′) (d .course) now (λ r. same (s .called .unchanged (subst (λ (a : Answer). 1 ≤ refusal a) (sym (e .says)) r))));
         journal-le = omega (arith, e .longer, d .journal-le);
         wrote = subst (λ (x : List ℕ). Wrote out₀ out′ 0 x at′) (ap (λ (a : Answer). answers h (fresh h) (callsOf i calls) ++ answerRow a) (e .says) ∙ sym (answers-more h (fresh h) (callsOf i calls) asked) ∙ ap (answers h (fresh h)) (sym q))
             (wrote-append (omega (arith, line-fits, b .spacious)) (d .wrote) (s .wrote));

@@ -2,8 +2,8 @@
 ghost use mathlib.Core.Path.{_≡_};
 ghost use lib.ListN.{length};
 ghost use Rattle.model.specs.Catalogue.{Limits, Hypergraph};
+ghost use Rattle.model.specs.Lent.{two};
 ghost use Rattle.calls.specs.Tables.{tables};
-ghost use Rattle.steps.specs.Steps.{two};
 ghost use Rattle.steps.specs.Called.{CapacityIs};
 ghost use Rattle.turns.specs.Cycling.{AverageIs};
 ghost use Rattle.dispatch.specs.Kinds.{anyCall};

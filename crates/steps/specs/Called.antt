@@ -9,10 +9,11 @@ use Rattle.model.specs.Measure.{Contraction}
 use Rattle.model.specs.Machine.{Call, Answer, State, Step, settle}
 use Rattle.model.specs.Search.{call}
 use Rattle.model.specs.Report.{refusal}
+use Rattle.model.specs.Lent.{Two}
 use Rattle.guarantees.specs.StateBounds.{stack-le}
 use Rattle.calls.specs.Pairs.{pairs-length, Pushed}
 use Rattle.calls.specs.Tables.{Tables, Keeps}
-use Rattle.steps.specs.Steps.{Two, Whole, Runs, Ready, told, Stepped, Moves, runs-call}
+use Rattle.steps.specs.Steps.{Whole, Runs, Ready, told, Stepped, Moves, runs-call}
 
 -- J has no use for the blocks' weights and the loaded sizes, S none for the former, M and B none for the vertices above, the loaded
 -- sizes and the stack: whatever these are

@@ -14,15 +14,16 @@ use Rattle.model.specs.Measure.{Contraction, above, weight}
 use Rattle.model.specs.Machine.{callJ, callS, saysJ, saysS, saysNO, State, settle, refusesJ, contract, doesJ, uncontract, doesS}
 use Rattle.model.specs.Report.{refusal}
 use Rattle.model.specs.Search.{call}
+use Rattle.model.specs.Lent.{stackOf, journalOf, Two}
 use Rattle.guarantees.specs.Splits.{AllInside, into-on}
 use Rattle.pins.specs.Board.{join}
-use Rattle.calls.specs.Pairs.{stackOf, journalOf, pairs-none, pairs-some, Pushed, pairs-push}
+use Rattle.calls.specs.Pairs.{pairs-none, pairs-some, Pushed, pairs-push}
 use Rattle.calls.specs.Tables.{Tables, Sound}
 use Rattle.calls.specs.Move.{own-weight}
 use Rattle.calls.specs.Join.{Pair, Joined, Splits, Split}
 use Rattle.calls.specs.Keeping.{keeps-none}
 use Rattle.steps.specs.Refusal.{known, here, refusalJ, refusalJ-is, known-range}
-use Rattle.steps.specs.Steps.{Two, Whole, Runs, Ready, told}
+use Rattle.steps.specs.Steps.{Whole, Runs, Ready, told}
 use Rattle.steps.specs.Called.{Called, Popped, Cleared, stepped, refused, settle-no, settle-yes, stack-room}
 
 pub above-none : (x : ℕ) → (x ≡ 0 → ⊥) → 1 ≤ x

@@ -15,16 +15,17 @@ use Rattle.model.specs.Measure.{above, gain}
 use Rattle.model.specs.Machine.{callM, callB, saysM, saysB, saysNO, Move, State, settle, refusesM, doesM, doesB}
 use Rattle.model.specs.Report.{refusal}
 use Rattle.model.specs.Search.{call}
+use Rattle.model.specs.Lent.{journalOf, Two}
 use Rattle.guarantees.specs.Calls.{Recorded}
 use Rattle.guarantees.specs.StateBounds.{Listed}
 use Rattle.guarantees.specs.Reversals.{Apart}
 use Rattle.connectivity.specs.Raised.{at}
-use Rattle.calls.specs.Pairs.{journalOf, pairs-none, pairs-some, Pushed, pairs-push}
+use Rattle.calls.specs.Pairs.{pairs-none, pairs-some, Pushed, pairs-push}
 use Rattle.calls.specs.Tables.{Tables, Sound}
 use Rattle.calls.specs.Move.{Open, Goes, Went, own-block, in-range, gain-read}
 use Rattle.calls.specs.Keeping.{keeps-none}
 use Rattle.steps.specs.Refusal.{known, here, refusalM, refusalM-is, known-range}
-use Rattle.steps.specs.Steps.{Two, Runs, Ready, told}
+use Rattle.steps.specs.Steps.{Runs, Ready, told}
 use Rattle.steps.specs.Called.{Called, Popped, stepped, refused, settle-no, settle-yes}
 use Rattle.steps.specs.Contracting.{above-none, popped-whole, pushed-whole}
 

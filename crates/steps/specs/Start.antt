@@ -6,10 +6,11 @@ use mathlib.Core.List.{[]}
 use Rattle.model.specs.Catalogue.{Hypergraph, drafted}
 use Rattle.model.specs.Measure.{above}
 use Rattle.model.specs.Machine.{fresh}
+use Rattle.model.specs.Lent.{stackOf, journalOf, Two}
 use Rattle.guarantees.specs.Calls.{legal-fresh}
-use Rattle.calls.specs.Pairs.{stackOf, journalOf, pairs-none}
+use Rattle.calls.specs.Pairs.{pairs-none}
 use Rattle.calls.specs.Tables.{Tables, Sound}
-use Rattle.steps.specs.Steps.{Two, Whole, Runs, Ready}
+use Rattle.steps.specs.Steps.{Whole, Runs, Ready}
 
 -- arrays of full length, with nothing on them
 pub record Empty (S : Two) : Type 0 where

@@ -2,25 +2,15 @@
 -- over to the machine's next state, the answer is the machine's, and what is not in use is untouched. Rests on Tables and Pairs. Assumes nothing.
 use Prim.Native.Nat.{ℕ, zero, suc, _+_, _<_, _≤_}
 use mathlib.Core.Path.{_≡_}
-use mathlib.Core.List.{List}
 use lib.ListN.{length}
 use Rattle.model.specs.Catalogue.{Hypergraph}
 use Rattle.model.specs.Machine.{Call, Answer, saysNO, State}
 use Rattle.model.specs.Search.{call}
+use Rattle.model.specs.Lent.{Two, stackOf, journalOf}
 use Rattle.guarantees.specs.Calls.{Legal, legal-call}
 use Rattle.guarantees.specs.StateBounds.{Listed, listed-call}
 use Rattle.guarantees.specs.Reversals.{Apart, apart-call}
-use Rattle.calls.specs.Pairs.{stackOf, journalOf}
 use Rattle.calls.specs.Tables.{Tables, Sound}
-
--- two arrays and a length: a stack or a journal
-pub record Two : Type 0 where
-  pub xs : List ℕ
-  pub ys : List ℕ
-  pub len : ℕ
-
-abbrev pub two : List ℕ → List ℕ → ℕ → Two
-two xs ys len = record { xs = xs; ys = ys; len = len }
 
 -- the arrays' lengths
 pub record Whole (S : Two) : Type 0 where

@@ -8,7 +8,7 @@ use lib.Dec.{leb}
 use lib.ListN.{length, getD}
 use Rattle.laws.specs.Choice.{and-left, and-right}
 use Rattle.model.specs.Memory.{Part, longLists, handedOut}
-use Rattle.model.specs.Slices.{netTables}
+use Rattle.model.specs.Lent.{netTables}
 use Rattle.stretches.specs.Stretch.{Backed, partIn}
 
 -- equal stretches have the same first place and size

@@ -3,7 +3,7 @@ ghost use Prim.Native.Nat.{_+_, _≤_};
 ghost use mathlib.Core.Path.{_≡_};
 ghost use lib.ListN.{length, take, drop};
 ghost use Rattle.model.specs.Memory.{longLists, handedOut};
-ghost use Rattle.model.specs.Slices.{netTables};
+ghost use Rattle.model.specs.Lent.{netTables};
 ghost use Rattle.stretches.specs.Stretch.{Backed, partIn};
 
 // A stretch of a table: its first place, from 0, and how many places it has.

@@ -9,11 +9,12 @@ use Rattle.model.specs.Measure.{Contraction}
 use Rattle.model.specs.Machine.{callA, saysA, saysNO, State, settle}
 use Rattle.model.specs.Report.{refusal}
 use Rattle.model.specs.Search.{refusesA, doesA, call}
-use Rattle.calls.specs.Pairs.{stackOf, pairs-none, pairs-some}
+use Rattle.model.specs.Lent.{stackOf, Two}
+use Rattle.calls.specs.Pairs.{pairs-none, pairs-some}
 use Rattle.calls.specs.Tables.{Tables, Sound}
 use Rattle.calls.specs.Keeping.{keeps-none}
 use Rattle.cycle.specs.Whole.{CycleOk, Does}
-use Rattle.steps.specs.Steps.{Two, Runs, Ready}
+use Rattle.steps.specs.Steps.{Runs, Ready}
 use Rattle.steps.specs.Called.{Called, Cleared, stepped, refused, settle-no, settle-yes}
 use Rattle.steps.specs.Contracting.{above-none, emptied, cleared-whole}
 

@@ -13,13 +13,14 @@ use Rattle.model.specs.Catalogue.{Hypergraph, capacity}
 use Rattle.model.specs.Machine.{callW, callP, saysW, saysP, State, settle}
 use Rattle.model.specs.Report.{refusal}
 use Rattle.model.specs.Search.{walk, refusesW, doesW, doesP, call}
+use Rattle.model.specs.Lent.{Two}
 use Rattle.guarantees.specs.SearchBounds.{tried-le, walk-counts}
 use Rattle.calls.specs.Tables.{Tables}
 use Rattle.calls.specs.Keeping.{keeps-none}
 use Rattle.search.specs.Steps.{WalkOk, Ended, Walks}
 use Rattle.greedy.specs.Polished.{PolishOk, Polishes}
 use Rattle.steps.specs.Refusal.{known, here, refusalW, refusalW-is, known-range}
-use Rattle.steps.specs.Steps.{Two, Runs, Ready, told}
+use Rattle.steps.specs.Steps.{Runs, Ready, told}
 use Rattle.steps.specs.Called.{Called, Cleared, stepped, refused, settle-no, settle-yes}
 use Rattle.steps.specs.Contracting.{above-none, emptied, cleared-whole}
 

@@ -1,8 +1,9 @@
 // The call A: refused while a contraction stands, or done, with the numbers of the answer.
 ghost use Rattle.model.specs.Catalogue.{Hypergraph};
 ghost use Rattle.model.specs.Machine.{callA, saysA};
+ghost use Rattle.model.specs.Lent.{two};
 ghost use Rattle.calls.specs.Tables.{tables};
-ghost use Rattle.steps.specs.Steps.{two, told};
+ghost use Rattle.steps.specs.Steps.{told};
 ghost use Rattle.steps.specs.Called.{CapacityIs, Called};
 ghost use Rattle.turns.specs.Cycling.{AverageIs, ReadyA};
 use calls::pairs::Journal;

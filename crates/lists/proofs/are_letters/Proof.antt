@@ -4,7 +4,8 @@ use native.Mathlib.Omega.{arith}
 use mathlib.Core.Path.{_≡_}
 use mathlib.Core.Bool.{true}
 use borrow.Author.Tests.{not-true, not-false}
-use Rattle.lists.specs.Lists.{lettersTo, letters-none, letters-more, letters-all, letters-no}
+use Rattle.model.specs.ListEntry.{lettersTo}
+use Rattle.lists.specs.Lists.{letters-none, letters-more, letters-all, letters-no}
 use Rattle.lists.proofs.are_letters.Statement.{statement}
 use Rattle.lists.proofs.are_letters.Tie as tie
 

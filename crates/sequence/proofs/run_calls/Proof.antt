@@ -4,8 +4,8 @@ use native.Mathlib.Omega.{arith}
 use mathlib.Core.Path.{_≡_, refl}
 use lib.ListN.{length}
 use Rattle.model.specs.Catalogue.{Limits, Hypergraph}
+use Rattle.model.specs.Lent.{two}
 use Rattle.calls.specs.Tables.{tables}
-use Rattle.steps.specs.Steps.{two}
 use Rattle.sequence.specs.Course.{Begins, Done, done-none, can-step, done-more, done-all}
 use Rattle.sequence.proofs.run_calls.Statement.{statement}
 use Rattle.sequence.proofs.run_calls.Tie as tie

@@ -3,7 +3,7 @@ use mathlib.Core.Path.{sym, _∙_, ap}
 use denote.Ref.{now}
 use borrow.Author.Needs.{needs}
 use Rattle.model.specs.Memory.{handedOut}
-use Rattle.model.specs.Slices.{netTables}
+use Rattle.model.specs.Lent.{netTables}
 use Rattle.stretches.proofs.Handing.{alike, backed-loaded, backed-present, handed-present, handed-loaded}
 use Rattle.stretches.proofs.stretch_of.Statement.{statement}
 use Rattle.stretches.proofs.stretch_of.Tie as tie

@@ -5,7 +5,7 @@ use mathlib.Core.Bool.{Bool, cond}
 use lib.ListN.{length}
 use denote.Ref.{now}
 use borrow.Author.Needs.{needs}
-use Rattle.model.specs.Slices.{netTables}
+use Rattle.model.specs.Lent.{netTables}
 use Rattle.stretches.specs.Stretch.{handed-fits, handed-part}
 use Rattle.engine.proofs.net_pins.pins_of.Statement.{statement}
 use Rattle.engine.proofs.net_pins.pins_of.Tie as tie

@@ -42,7 +42,7 @@ use denote.Triple.Table.{entered, cited}
 use denote.Triple.Walked.{says, Stay, Stays, walkOf, AllGo, Walks, ends-at, walked, walk-meets}
 use denote.Exit.{Kept, left}
 use Rattle.records.specs.Over.{over}
-use Rattle.model.specs.Slices.{others}
+use Rattle.model.specs.Lent.{others}
 use Rattle.records.specs.Entry.{Answers, served}
 use Rattle.records.specs.declared.Lot.{Lot}
 use Rattle.records.specs.declared.answering.Answer.{Answer}
