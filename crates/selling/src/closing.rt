@@ -65,6 +65,7 @@ pub fn report_sale(
         z,
     );
     let stack = s.stack;
+    let gone = stack.gone;
     let depth = stack.len;
     put_closing(
         output,
@@ -72,6 +73,7 @@ pub fn report_sale(
         blocks,
         aboves,
         visited,
+        &gone,
         n,
         m,
         depth,
