@@ -84,8 +84,8 @@ typedef struct {
 
 /* The record of moves: lot lots[i] left session sessions[i], the earliest first; 0 from length on. */
 typedef struct {
-    uint16_t lots[KAPOKDRILL_LOTS];
-    uint16_t sessions[KAPOKDRILL_LOTS];
+    uint16_t lots[KAPOKDRILL_VERTICES];
+    uint16_t sessions[KAPOKDRILL_VERTICES];
     size_t length;
 } kapokdrill_record;
 

@@ -1,5 +1,5 @@
 -- What one pin's change does to the counts and the masks, and that only a matrix' values count. Rests on Row.
-use Prim.Native.Nat.{ℕ, zero, suc, _+_, _*_, _-_, _<_, _≤_}
+use Prim.Native.Nat.{ℕ, zero, suc, _+_, _*_, _-_, _^_, _<_, _≤_}
 use mathlib.Core.Path.{_≡_, refl, sym, ap, _∙_, subst}
 use mathlib.Core.List.{List}
 use native.Mathlib.Omega.{arith}
@@ -29,6 +29,10 @@ pub record Step (e b v : ℕ) (cs cs′ vs vs′ : List ℕ) : Type 0 where
   pub masks-len : length vs′ ≡ length vs
   pub none : b ≡ 0 → (cs′ ≡ cs) × (vs′ ≡ vs)
   pub some : 1 ≤ b → Stepped e (b - 1) v cs cs′ vs vs′
+
+-- the mask of the net `e` shows whether its count of the block `b` is above 0
+abbrev pub MaskShows : ℕ → ℕ → List ℕ → List ℕ → Type 0
+MaskShows e b cs vs = 1 ≤ b → bit (getD vs e 0) (b - 1) ≡ one (ltb 0 (getD cs (16 * e + (b - 1)) 0))
 
 setPin-case : (P : (ℕ → ℕ) → Type 0) (Q : ℕ → ℕ → ℕ) (e x b d : ℕ) → (d ≡ e → P (place (Q e) x b)) → ((d ≡ e → ⊥) → P (Q d)) → P (setPin Q e x b d)
 setPin-case P Q e x b d f g = by (ℕ-discrete d e)
@@ -84,6 +88,9 @@ module _ {Q : ℕ → ℕ → ℕ} {n m k : ℕ} {cs vs : List ℕ} (t : Tally Q
 
   pub count-of : (b : ℕ) → 1 ≤ b → b ≤ k → getD cs (16 * e + (b - 1)) 0 ≡ rowCount n (Q e) b
   count-of b h l = t .counted e (b - 1) he (omega arith) ∙ ap (rowCount n (Q e)) (omega arith)
+
+  pub mask-shows : (b : ℕ) → b ≤ k → MaskShows e b cs vs
+  mask-shows b l h = t .shown e (b - 1) he (omega arith) ∙ ap (λ (z : ℕ). one (ltb 0 z)) (sym (t .counted e (b - 1) he (omega arith)))
 
   -- the pin leaves its block `a`
   module _ (a : ℕ) (ha : a ≤ k) (ea : Q e x ≡ a) where
@@ -154,6 +161,20 @@ step-set e b v r cs vs h hc hv k = record {
     here = getD-set-same cs (16 * e + (b - 1)) v 0 hc;
     others = λ i ne. getD-set-other cs (16 * e + (b - 1)) i v 0 ne;
     mask = masked-at vs e (b - 1) (one (ltb 0 v)) r hv k;
+  };
+}
+
+-- the same where the mask already shows the new count
+pub step-count : (e b v : ℕ) (cs vs : List ℕ) → 1 ≤ b → 16 * e + (b - 1) < length cs → getD vs e 0 < 2 ^ 16 → bit (getD vs e 0) (b - 1) ≡ one (ltb 0 v) →
+    Step e b v cs (set cs (16 * e + (b - 1)) v) vs vs
+step-count e b v cs vs h hc small shown = record {
+  counts-len = length-set cs (16 * e + (b - 1)) v;
+  masks-len = refl;
+  none = λ z. absurd (omega arith);
+  some = λ z. record {
+    here = getD-set-same cs (16 * e + (b - 1)) v 0 hc;
+    others = λ i ne. getD-set-other cs (16 * e + (b - 1)) i v 0 ne;
+    mask = record { changed = record { small = small; here = shown; elsewhere = λ j ne. refl }; others = λ i ne. refl };
   };
 }
 

@@ -14,7 +14,7 @@ use Rattle.connectivity.specs.Raised.{at}
 use Rattle.connectivity.specs.Matrix.{setPin, Tally, Stands, Kept, KeptTally, KeptGains}
 use Rattle.connectivity.specs.Row.{row, setPin-here, rowCount-le}
 use Rattle.connectivity.specs.Laid.{Laid, Net, row-past}
-use Rattle.connectivity.specs.Law.{Step, count-of, has-one, tally-depart, tally-arrive, tally-ext, setPin-twice}
+use Rattle.connectivity.specs.Law.{Step, MaskShows, count-of, mask-shows, has-one, tally-depart, tally-arrive, tally-ext, setPin-twice}
 
 -- the tables' sizes
 pub record Frame (weights counts visited : List ℕ) (gains : List ℤ) (n m k : ℕ) : Type 0 where
@@ -131,6 +131,9 @@ module _ {weights cs vs pins blocks : List ℕ} {g : List ℤ} {n m k first p e 
   pub set-depart : 1 ≤ a → 1 ≤ getD cs (16 * e + (a - 1)) 0
   set-depart h = has-one (o .stands .tally) e x (o .e-in) (o .x-in) (o .frame .few) a (o .a-in) (own (o .Q) (o .seen)) h
 
+  pub depart-shows : MaskShows e a cs vs
+  depart-shows = mask-shows (o .stands .tally) e x (o .e-in) (o .x-in) (o .frame .few) a (o .a-in)
+
   module _ {cs₁ vs₁ : List ℕ} (d : Step e a (getD cs (16 * e + (a - 1)) 0 - 1) cs cs₁ vs vs₁) where
     gone : (Q : ℕ → ℕ → ℕ) → Tally Q n m k cs vs → Seen (Q e) pins blocks first p n x a → Tally (setPin Q e x 0) n m k cs₁ vs₁
     gone Q t s = tally-depart t e x (o .e-in) (o .x-in) (o .frame .few) a (o .a-in) (own Q s) _ refl d
@@ -142,6 +145,9 @@ module _ {weights cs vs pins blocks : List ℕ} {g : List ℤ} {n m k first p e 
       rowCount-le n (setPin (o .Q) e x 0 e) b,
       o .frame .few-vertices,
     )
+
+    pub arrive-shows : MaskShows e b cs₁ vs₁
+    arrive-shows = mask-shows (gone (o .Q) (o .stands .tally) (o .seen)) e x (o .e-in) (o .x-in) (o .frame .few) b (o .b-in)
 
     module _ {cs₂ vs₂ : List ℕ} (u : Step e b (getD cs₁ (16 * e + (b - 1)) 0 + 1) cs₁ cs₂ vs₁ vs₂) where
       pub come : (Q : ℕ → ℕ → ℕ) → Tally Q n m k cs vs → Seen (Q e) pins blocks first p n x a → Tally (setPin Q e x b) n m k cs₂ vs₂

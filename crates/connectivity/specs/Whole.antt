@@ -14,7 +14,7 @@ use Rattle.connectivity.specs.Raised.{Raised, Ready, at}
 use Rattle.connectivity.specs.Matrix.{rowCount, shareOf, rowShare, setPin, setRow, Tally, Stands, KeptTally, Kept}
 use Rattle.connectivity.specs.Row.{row, row-none, rowCount-le, shareOf-none, setPin-here, setPin-there, setRow-here, setRow-there}
 use Rattle.connectivity.specs.Laid.{Laid, Net, given, given-none, signed, laid-none, laid-next, laid-more, raised-given, row-past, pin-range, pin-block, next-fresh, next-here, next-there}
-use Rattle.connectivity.specs.Law.{Step, count-of, tally-arrive, tally-ext, given-is, small-of}
+use Rattle.connectivity.specs.Law.{Step, MaskShows, count-of, mask-shows, tally-arrive, tally-ext, given-is, small-of}
 use Rattle.connectivity.specs.Set.{Frame, kept-tally-none, kept-tally-trans, kept-step, kept-laid}
 
 -- the net `e` has no pin
@@ -66,6 +66,9 @@ module _ {cs₀ vs₀ pins blocks : List ℕ} {n m k first p e : ℕ} (o : Count
       rowCount-le n (setRow (o .Q) e (row pins blocks first i) e) b,
       o .few-vertices,
     )
+
+    pub count-shows : MaskShows e b cs vs
+    count-shows = mask-shows (c .tally (o .Q) (o .tally) (o .bare)) e (q - 1) (o .e-in) vertex-in (o .few) b (pin-block (o .net) hi eq eb .1)
 
     pub count-more : {cs₁ vs₁ : List ℕ} → Step e b (getD cs (16 * e + (b - 1)) 0 + 1) cs cs₁ vs vs₁ → CountedPins pins blocks n m k first (i + 1) e cs₀ cs₁ vs₀ vs₁
     count-more s = record {

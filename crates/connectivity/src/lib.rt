@@ -17,17 +17,11 @@ ghost use Rattle.connectivity.specs.Touch.{Room, One, But, Amount, Touch
 ghost use Rattle.connectivity.specs.Steps.{CountAt, OwnRow};
 use counts::arrive;
 use counts::depart;
+use incidence::numbers::index;
 use shares::add_at;
 use shares::share_row;
 use shares::sub_at;
 use shares::wide;
-
-// A table's number as an index.
-fn index(x: u16) -> usize
-    ensures { λ r. ⌜ r ≡ x ⌝ }
-{
-    x as usize
-}
 
 // Adds a weight to an entry, or takes it from it.
 fn shift_at(g: &mut [i32], i: usize, w: u16, take: bool)

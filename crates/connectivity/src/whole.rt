@@ -5,8 +5,8 @@ ghost use Rattle.connectivity.specs.Row.{row};
 ghost use Rattle.connectivity.specs.Laid.{Laid, given};
 ghost use Rattle.connectivity.specs.Whole.{CountsPins, CountedPins, SharesPins, FillsPins, FilledPins};
 use crate::counts::arrive;
-use crate::index;
 use crate::shares::share_row;
+use incidence::numbers::index;
 
 // Counts the `p` pins from `first` in the net `e`, each in its block.
 fn count_pins(

@@ -1,6 +1,4 @@
-// The running tables filled after loading, when the pin lists are as loaded and no contraction stands; and at any time the gains of one vertex,
-// worked out from its nets.
-pub mod afresh;
+// The running tables filled after loading, when the pin lists are as loaded and no contraction stands.
 mod clear;
 
 ghost use Prim.Native.Nat.{_+_, _<_};
@@ -11,14 +9,8 @@ use clear::clear_counts;
 use clear::clear_gains;
 use clear::clear_row;
 use connectivity::whole::fill_pins;
+use incidence::numbers::index;
 use incidence::put;
-
-// A table's number as an index.
-fn index(x: u16) -> usize
-    ensures { λ r. ⌜ r ≡ x ⌝ }
-{
-    x as usize
-}
 
 // Puts the `p` pins from `first` into the bitset, as pins of the net `e`.
 fn mark_pins(bits: &mut [u64], pins: &[u16], n: usize, first: usize, p: usize, e: usize)

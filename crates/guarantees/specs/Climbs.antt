@@ -50,7 +50,7 @@ module _ (cs : List Contraction) (c : Contraction) where
   unfolding above
   above-other x n = cond-no (c .gone) x (c .into) (above cs x) n
 
-  abbrev Joined : ℕ → ℕ → Type 0
+  abbrev pub Joined : ℕ → ℕ → Type 0
   Joined f x = climb (suc f) (c ∷ cs) x ≡ cond (eqb (climb f cs x) (c .gone)) (c .into) (climb f cs x)
 
   module _ (j : Joins cs c) where
@@ -76,7 +76,7 @@ module _ (cs : List Contraction) (c : Contraction) where
         ∙ ih
         ∙ ap (λ (r : ℕ). cond (eqb r (c .gone)) (c .into) r) (sym (climb-off f cs x off))
 
-    climb-join : (f x : ℕ) → above cs (climb f cs x) ≡ 0 → Joined f x
+    pub climb-join : (f x : ℕ) → above cs (climb f cs x) ≡ 0 → Joined f x
     climb-join zero x end = go (ℕ-discrete (c .gone) x)
       where
         go : Dec (c .gone ≡ x) → Joined 0 x

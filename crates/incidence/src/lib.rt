@@ -1,5 +1,7 @@
 // Which vertex is a pin of which net: a row of 1,024 bits, 16 words, for each vertex. Vertices and nets count from 0.
 // Callers know the contracts only, so that the representation can change.
+pub mod numbers;
+
 ghost use mathlib.Core.Path.{_≡_};
 ghost use Prim.Native.Nat.{_+_, _*_, _<_, _≤_};
 ghost use lib.Dec.{eqb};
@@ -58,6 +60,7 @@ pub fn next_bit(word: u64, from: usize) -> usize
     from + lowest(rest)
 }
 
+// The lesser of two numbers.
 fn least(a: usize, b: usize) -> usize
     ensures { λ r. ⌜ Cut a b r ⌝ }
 {

@@ -1,6 +1,5 @@
 // The operations on the tables: a vertex moved, one contracted into another, a contraction undone.
 mod nets;
-mod numbers;
 
 ghost use Prim.Native.Nat.{_+_, _<_};
 ghost use Rattle.levels.specs.Running.{running};
@@ -10,10 +9,10 @@ ghost use Rattle.levels.specs.Operations.{MoveNeeds, MoveDoes, ContractN
 use connectivity::set_pin;
 use incidence::copy_or;
 use incidence::next_net;
+use incidence::numbers::index;
+use incidence::numbers::narrow;
 use nets::contract_net;
 use nets::split_net;
-use numbers::index;
-use numbers::narrow;
 
 // Moves the vertex `u`, which is on the board, to the block `t`.
 pub fn move_vertex(
@@ -63,7 +62,7 @@ pub fn move_vertex(
     blocks[u] = t;
 }
 
-// ContractNetNeeds `v` into `u`, of the same block, in every net that has `v`.
+// Contracts `v` into `u`, of the same block, in every net that has `v`.
 fn contract_nets(
     counts: &mut [u16],
     visited: &mut [u16],
@@ -110,7 +109,7 @@ fn contract_nets(
     copy_or(bits, u, v);
 }
 
-// ContractNetNeeds `v` into `u`, of the same block: `v` leaves the board.
+// Contracts `v` into `u`, of the same block: `v` leaves the board.
 pub fn contract(
     counts: &mut [u16],
     visited: &mut [u16],

@@ -1,15 +1,15 @@
-// ContractNetDoes and uncontraction in one net: its pin list, its counts and its shares in the gains.
+// Contraction and uncontraction in one net: its pin list, its counts and its shares in the gains.
 ghost use Prim.Native.Nat.{_<_};
 ghost use Rattle.levels.specs.ContractNet.{ContractNetNeeds, ContractNetDoes};
 ghost use Rattle.levels.specs.SplitNet.{SplitNetNeeds, SplitNetDoes};
-use crate::numbers::index;
-use crate::numbers::number;
 use connectivity::set_pin;
 use incidence::is_pin;
+use incidence::numbers::index;
+use incidence::numbers::number;
 use pins::relink;
 use pins::uncontract_net;
 
-// ContractNetNeeds `v`, a pin of the net `e`, into `u`, of the same block. The answer is the new number of pins.
+// Contracts `v`, a pin of the net `e`, into `u`, of the same block. The answer is the new number of pins.
 pub fn contract_net(
     counts: &mut [u16],
     visited: &mut [u16],

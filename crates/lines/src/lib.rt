@@ -45,25 +45,37 @@ pub fn call_line(s: &[u8], at: usize, end: usize) -> Ask
     ensures { λ r. ⌜ CallRead (fields (slice at end (now (s .entry)))) r ⌝ }
 {
     if text::form(s, at, end, b"J") == 3 {
-        return Ask::Asks(74, text::get(s, at, end, 1), text::get(s, at, end, 2));
+        return Ask::Asks(
+            text::letters::J,
+            text::get(s, at, end, 1),
+            text::get(s, at, end, 2),
+        );
     }
     if text::form(s, at, end, b"S") == 1 {
-        return Ask::Asks(83, 0, 0);
+        return Ask::Asks(text::letters::S, 0, 0);
     }
     if text::form(s, at, end, b"M") == 3 {
-        return Ask::Asks(77, text::get(s, at, end, 1), text::get(s, at, end, 2));
+        return Ask::Asks(
+            text::letters::M,
+            text::get(s, at, end, 1),
+            text::get(s, at, end, 2),
+        );
     }
     if text::form(s, at, end, b"B") == 1 {
-        return Ask::Asks(66, 0, 0);
+        return Ask::Asks(text::letters::B, 0, 0);
     }
     if text::form(s, at, end, b"W") == 3 {
-        return Ask::Asks(87, text::get(s, at, end, 1), text::get(s, at, end, 2));
+        return Ask::Asks(
+            text::letters::W,
+            text::get(s, at, end, 1),
+            text::get(s, at, end, 2),
+        );
     }
     if text::form(s, at, end, b"P") == 1 {
-        return Ask::Asks(80, 0, 0);
+        return Ask::Asks(text::letters::P, 0, 0);
     }
     if text::form(s, at, end, b"A") == 1 {
-        return Ask::Asks(65, 0, 0);
+        return Ask::Asks(text::letters::A, 0, 0);
     }
     Ask::Nothing
 }

@@ -14,6 +14,7 @@ use Rattle.model.specs.Report.{answerRow, closing}
 use Rattle.model.specs.Engine.{after, answers, run}
 use Rattle.model.specs.Lent.{Two}
 use Rattle.model.specs.Demand.{Accepted}
+use Rattle.guarantees.specs.StateBounds.{stack-le}
 use Rattle.guarantees.specs.ReportFits.{report-fits}
 use Rattle.calls.specs.Pairs.{pairs-length}
 use Rattle.calls.specs.Tables.{Tables, tables, Sound}
@@ -31,10 +32,10 @@ unfolding run
 run-length h calls = length-append (answers h (fresh h) calls) (closing h (after h (fresh h) calls))
 
 module _ {counts visited pins sizes bits blocks weights aboves loads netWeights firsts loaded : List ℕ} {gains : List ℤ} {n m k draft total : ℕ} {S J : Two} where
-  -- the tables, the stack's depth and the two metrics show the state
+  -- the tables, the stack's joins and the two metrics show the state
   pub ended : {h : Hypergraph} {s : State} → Runs h s (tables counts visited gains pins sizes bits blocks weights aboves loads netWeights firsts loaded n m k total) S J → draft ≡ metric h [] (fresh h .block)
-      → Ended h s blocks aboves visited n m (S .len) draft total
-  ended r q = record {
+      → Ended h s blocks aboves visited (S .ys) n m (S .len) draft total
+  ended {h} {s} r q = record {
     counts = counts;
     gains = gains;
     pins = pins;
@@ -47,7 +48,9 @@ module _ {counts visited pins sizes bits blocks weights aboves loads netWeights 
     loaded = loaded;
     k = k;
     sound = r .sound;
-    depth-is = sym (pairs-length _ (S .xs) (S .ys) (S .len)) ∙ ap length (r .stack-is);
+    into = S .xs;
+    stack-is = sym (r .stack-is);
+    stack-fits = let f = r .sound .follows in omega (arith, pairs-length _ (S .xs) (S .ys) (S .len), ap length (r .stack-is), stack-le h (s .stack) (f .says .sound) (r .sound .inside), f .says .all-vertices, f .world .frame .few-vertices);
     draft-is = q;
   }
 

@@ -1,5 +1,5 @@
 -- The worked sale's catalogue (model's Table) in tables: as loading leaves them they can be opened, and filled they are sound for a fresh machine,
--- so that neither Opens nor Sound is empty. By computing. Rests on Opening and on filling's Afresh. Assumes nothing.
+-- so that neither Opens nor Sound is empty. By computing. Rests on Opening. Assumes nothing.
 use Prim.Native.Nat.{ℕ, zero, suc, _+_, _*_, _<_, _≤_}
 use native.Mathlib.Nat.{lt-of-lt-of-le, div-eq-of-lt}
 use native.Mathlib.Decide.{ℕ-discrete, decLt}
@@ -37,9 +37,8 @@ use Rattle.connectivity.specs.Row.{row}
 use Rattle.connectivity.specs.Set.{Frame}
 use Rattle.levels.specs.World.{mat}
 use Rattle.filling.specs.Prepare.{Prepared}
-use Rattle.filling.specs.Afresh.{Shown, says-shown}
 use Rattle.calls.specs.Tables.{tables, Sound}
-use Rattle.opening.specs.Opening.{Opens, Borne, metricBy, prepare-ok, open-sound}
+use Rattle.opening.specs.Opening.{Opens, Weighed, metricBy, prepare-ok, open-sound}
 
 -- ---- cases below a number, and tables by their entries
 
@@ -239,9 +238,9 @@ prepared = record {
   };
 }
 
-pub borne : Borne weights blocks 5 2 loads
+pub weighed : Weighed weights blocks 5 2 loads
 unfolding put sum
-borne = record { len = refl; loads-are = below2 _ refl refl }
+weighed = record { len = refl; loads-are = below2 _ refl refl }
 
 measured : 3 ≡ metricBy visited netWeights 3
 unfolding put sum
@@ -249,8 +248,4 @@ measured = refl
 
 -- the tables of a fresh machine over the worked sale's catalogue
 pub sound : Sound five [] (drafted five) (tables counts visited gains pins sizes bits blocks weights (replicate 5 0) loads netWeights firsts sizes 5 3 2 3)
-sound = open-sound opens prepared borne measured (replicate 5 0) (omega arith) (below5 _ refl refl refl refl refl)
-
--- what is read of them to work out the gains of a vertex is the machine's too
-pub row-shown : (v : ℕ) → v < 5 → Shown five [] (drafted five) counts bits netWeights v (getD blocks v 0) 3 2
-row-shown = says-shown (sound .follows .says) (sound .follows .world .stands .tally) (sound .placed)
+sound = open-sound opens prepared weighed measured (replicate 5 0) (omega arith) (below5 _ refl refl refl refl refl)

@@ -50,7 +50,7 @@ pub record Opens (h : Hypergraph) (pins blocks firsts sizes loadedSizes weights 
   pub weights-fit : n ≤ length weights
 
 -- the weights of the first k blocks
-pub record Borne (weights blocks : List ℕ) (n k : ℕ) (loads : List ℕ) : Type 0 where
+pub record Weighed (weights blocks : List ℕ) (n k : ℕ) (loads : List ℕ) : Type 0 where
   pub len : length loads ≡ 16
   pub loads-are : (j : ℕ) → j < k → getD loads j 0 ≡ sum n (blockTerm (j + 1) weights blocks)
 
@@ -107,8 +107,8 @@ module _ {h : Hypergraph} {pins blocks firsts sizes loadedSizes weights netWeigh
   }
 
   -- the loads are the draft's block weights
-  pub bears-draft : {loads : List ℕ} → Borne weights blocks n k loads → (j : ℕ) → j < k → getD loads j 0 ≡ blockWeight h [] (drafted h) (j + 1)
-  bears-draft b j l =
+  pub weighed-draft : {loads : List ℕ} → Weighed weights blocks n k loads → (j : ℕ) → j < k → getD loads j 0 ≡ blockWeight h [] (drafted h) (j + 1)
+  weighed-draft b j l =
       b .loads-are j l
       ∙ sum-sumTo n _ (λ u. cond (eqb (drafted h u) (j + 1)) (loaded h u) 0) (λ i li. ap₂ (λ (x y : ℕ). cond (eqb x (j + 1)) y 0) (o .made .sits i li) (o .weighs i li) ∙ ap (λ (u : ℕ). cond (eqb (drafted h u) (j + 1)) (loaded h u) 0) (add-one i))
       ∙ ap (λ (z : ℕ). sumTo z (λ u. cond (eqb (drafted h u) (j + 1)) (loaded h u) 0)) (o .made .all-vertices)
@@ -146,7 +146,7 @@ module _ {h : Hypergraph} {pins blocks firsts sizes loadedSizes weights netWeigh
   }
 
   module _ {bits′ counts′ visited′ loads : List ℕ} {gains′ : List ℤ} {total : ℕ} (t : Prepared netWeights pins blocks firsts sizes n m k bits bits′ counts counts′ visited visited′ gains gains′)
-      (b : Borne weights blocks n k loads) (c : total ≡ metricBy visited′ netWeights m) where
+      (b : Weighed weights blocks n k loads) (c : total ≡ metricBy visited′ netWeights m) where
     fresh-follows : Follows h [] (drafted h) loadedSizes (running counts′ visited′ gains′ pins sizes bits′ blocks netWeights firsts) n m k
     fresh-follows = follows-by (prepared-follows (o .made) room-by-sizes t) refl refl refl (t .bits-len)
 
@@ -177,7 +177,7 @@ module _ {h : Hypergraph} {pins blocks firsts sizes loadedSizes weights netWeigh
       no-more-blocks = λ e j l q. t .masks-past e j l q;
       weighs = λ y l. o .weighs y l ∙ sym (cond-yes (above [] (y + 1)) 0 (weight h [] (y + 1)) _ (above-none (y + 1)) ∙ weight-none h (y + 1) (omega arith) (omega (arith, o .made .all-vertices)));
       hangs = λ y l. none y l ∙ sym (above-none (y + 1));
-      bears = bears-draft b;
+      bears = weighed-draft b;
       total-is = c ∙ metric-is;
       weights-fit = o .weights-fit;
       aboves-fit = fits;
@@ -205,7 +205,7 @@ pub record Opened (pins blocks firsts sizes weights netWeights : List ℕ) (n m 
   pub prepared : Prepared netWeights pins blocks firsts sizes n m k bits bits′ counts counts′ visited visited′ gains gains′
 
 pub opened : {pins blocks firsts sizes weights netWeights bits bits′ counts counts′ visited visited′ loads : List ℕ} {gains gains′ : List ℤ} {n m k total : ℕ} →
-    Prepared netWeights pins blocks firsts sizes n m k bits bits′ counts counts′ visited visited′ gains gains′ → Borne weights blocks n k loads → total ≡ metricBy visited′ netWeights m →
+    Prepared netWeights pins blocks firsts sizes n m k bits bits′ counts counts′ visited visited′ gains gains′ → Weighed weights blocks n k loads → total ≡ metricBy visited′ netWeights m →
     Opened pins blocks firsts sizes weights netWeights n m k bits bits′ counts counts′ visited visited′ gains gains′ loads total
 opened t b c = record { sound = λ h loadedSizes aboves o fits none. open-sound o t b c aboves fits none; prepared = t }
 
@@ -214,12 +214,12 @@ pub metric-more : (visited netWeights : List ℕ) (e t w : ℕ) → t ≡ metric
 metric-more visited netWeights e t w q r = ap₂ (λ (x y : ℕ). x + y) q r ∙ sym (sum-step e (λ i. getD netWeights i 0 * (sum 16 (bit (getD visited i 0)) - 1)))
 
 -- one block more
-pub record Bearing (weights blocks : List ℕ) (n b : ℕ) (loads : List ℕ) : Type 0 where
+pub record WeighedTo (weights blocks : List ℕ) (n b : ℕ) (loads : List ℕ) : Type 0 where
   pub len : length loads ≡ 16
   pub done : (j : ℕ) → j < b → getD loads j 0 ≡ sum n (blockTerm (j + 1) weights blocks)
 
-pub bearing-more : {weights blocks loads : List ℕ} {n : ℕ} (b w : ℕ) → b < 16 → Bearing weights blocks n b loads → w ≡ sum n (blockTerm (b + 1) weights blocks) → Bearing weights blocks n (b + 1) (set loads b w)
-bearing-more {weights} {blocks} {loads} {n} b w l s q = record {
+pub weighed-more : {weights blocks loads : List ℕ} {n : ℕ} (b w : ℕ) → b < 16 → WeighedTo weights blocks n b loads → w ≡ sum n (blockTerm (b + 1) weights blocks) → WeighedTo weights blocks n (b + 1) (set loads b w)
+weighed-more {weights} {blocks} {loads} {n} b w l s q = record {
   len = length-set loads b w ∙ s .len;
   done = λ j lj. go j lj (ℕ-discrete j b);
 }

@@ -4,7 +4,7 @@ ghost use mathlib.Core.Path.{_≡_};
 ghost use lib.ListN.{length};
 ghost use Rattle.laws.specs.Sum.{sum};
 ghost use Rattle.laws.specs.Bit.{bit};
-ghost use Rattle.opening.specs.Opening.{Borne, metricBy, Measurable, CanOpen, Opened};
+ghost use Rattle.opening.specs.Opening.{Weighed, metricBy, Measurable, CanOpen, Opened};
 
 // What a net of that weight and that connectivity set adds to the metric.
 fn cost(weight: u16, mask: u16) -> u32
@@ -33,9 +33,9 @@ fn metric_of(visited: &[u16], netweights: &[u16], m: usize) -> u32
 }
 
 // The weights of the first k blocks.
-fn bear(loads: &mut [u64; 16], weights: &[u32], blocks: &[u16], n: usize, k: usize)
+fn weigh_blocks(loads: &mut [u64; 16], weights: &[u32], blocks: &[u16], n: usize, k: usize)
     requires { ⌜ (n ≤ 1024) × (k ≤ 16) × (n ≤ length (now weights)) × (n ≤ length (now blocks)) × (length (now loads) ≡ 16) ⌝ }
-    ensures { λ _. ⌜ Borne (now (weights .entry)) (now (blocks .entry)) n k (now (loads .exit)) ⌝ }
+    ensures { λ _. ⌜ Weighed (now (weights .entry)) (now (blocks .entry)) n k (now (loads .exit)) ⌝ }
 {
     let mut b = 0;
     while b < k {
@@ -78,6 +78,6 @@ pub fn open(
         m,
         k,
     );
-    bear(loads, weights, blocks, n, k);
+    weigh_blocks(loads, weights, blocks, n, k);
     metric_of(visited, netweights, m)
 }

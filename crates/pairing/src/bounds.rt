@@ -13,6 +13,9 @@ ghost use Rattle.pairing.specs.Rating.{TablesOk, TakeOk};
 ghost use Rattle.pairing.specs.Bound.{Highest, ceiling, nearRise, farRise, riseAt, riseOf, Risen, Lifted};
 ghost use Rattle.pairing.specs.BoundLaw.{OwnSums, Tops};
 
+// A bound above every rating: of a vertex whose ratings are not known.
+const ABOVE_ALL: u64 = 36028797018963968;
+
 // A vertex and its bound.
 struct Top {
     bound: u64,
@@ -134,7 +137,7 @@ fn raised(bound: u64, more: u64) -> u64
     requires { ⌜ more ≤ 536870912 ⌝ }
     ensures { λ r. ⌜ ((s : ℕ) → s ≤ ceiling → s ≤ bound + more → s ≤ r) ⌝ }
 {
-    if 36028797018963968 <= bound {
+    if ABOVE_ALL <= bound {
         return bound;
     }
     bound + more
@@ -200,5 +203,5 @@ pub fn lift(
         e = next_net(bits, v - 1, e + 1, m);
     }
     bounds[v] = 0;
-    bounds[u] = 36028797018963968;
+    bounds[u] = ABOVE_ALL;
 }

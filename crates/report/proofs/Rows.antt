@@ -119,7 +119,7 @@ module _ (h : Hypergraph) (s : State) where
   nets-all i l = ap (buyRows h s 1) (take-all i (h .nets) l)
 
 -- ---- the whole
-module _ {h : Hypergraph} {s : State} {blocks aboves visited : List ℕ} {n m depth draft total : ℕ} (t : Ended h s blocks aboves visited n m depth draft total) where
+module _ {h : Hypergraph} {s : State} {blocks aboves visited gone : List ℕ} {n m depth draft total : ℕ} (t : Ended h s blocks aboves visited gone n m depth draft total) where
   pub closing-parts : closing h s ≡ row "TOTAL" (digits draft ∷ digits total ∷ []) ++ lotRows h s ++ buyRows h s 1 (h .nets)
   unfolding closing
   closing-parts = ap₂ (λ (a b : ℕ). row "TOTAL" (digits a ∷ digits b ∷ []) ++ lotRows h s ++ buyRows h s 1 (h .nets)) (sym (t .draft-is)) (sym (t .sound .total-is))

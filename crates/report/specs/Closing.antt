@@ -14,10 +14,11 @@ use Rattle.model.specs.Report.{lotRows, buyRows, closing}
 use Rattle.guarantees.specs.Climbs.{Sound as SoundStack}
 use Rattle.guarantees.specs.Splits.{AllInside}
 use Rattle.levels.specs.Running.{netAt}
+use Rattle.calls.specs.Pairs.{stackOf}
 use Rattle.calls.specs.Tables.{tables, Sound}
 
--- the first n entries are the vertices above: 0, or one of the vertices 1..n
-pub record Hangs (cs : List Contraction) (n : ℕ) (aboves : List ℕ) : Type 0 where
+-- the first n entries are the vertices above: 0 on the board, else one of the vertices 1..n
+pub record Aboves (cs : List Contraction) (n : ℕ) (aboves : List ℕ) : Type 0 where
   pub fits : n ≤ length aboves
   pub is : (y : ℕ) → y < n → getD aboves y 0 ≡ above cs (y + 1)
   pub known : (y : ℕ) → y < n → getD aboves y 0 ≤ n
@@ -26,35 +27,38 @@ pub record Hangs (cs : List Contraction) (n : ℕ) (aboves : List ℕ) : Type 0 
 pub record Climbable (aboves : List ℕ) (v : ℕ) : Type 0 where
   pub stack : List Contraction
   pub n : ℕ
-  pub hangs : Hangs stack n aboves
+  pub hangs : Aboves stack n aboves
   pub low : 1 ≤ v
   pub high : v ≤ n
 
--- the vertices' blocks and the vertices above are those of the state, whose stack holds `depth` contractions
-pub record Vertices (h : Hypergraph) (s : State) (blocks aboves : List ℕ) (n depth : ℕ) : Type 0 where
+-- the vertices' blocks and the vertices above are those of the state; the first `depth` entries of `gone` are the vertices that its joins took
+-- off the board, the latest last
+pub record Vertices (h : Hypergraph) (s : State) (blocks aboves gone : List ℕ) (n depth : ℕ) : Type 0 where
   pub all : n ≡ vertices h
   pub few : n ≤ 1024
   pub sound : SoundStack (s .stack)
   pub inside : AllInside h (s .stack)
-  pub hangs : Hangs (s .stack) n aboves
+  pub hangs : Aboves (s .stack) n aboves
   pub sits : (y : ℕ) → y < n → getD blocks y 0 ≡ s .block (y + 1)
   pub blocks-fit : n ≤ length blocks
-  pub depth-is : depth ≡ length (s .stack)
+  pub into : List ℕ
+  pub stack-is : s .stack ≡ stackOf into gone depth
+  pub stack-fits : depth ≤ 1024
 
 -- v is a vertex of some state that the tables show
-pub record VertexIn (blocks aboves : List ℕ) (v depth : ℕ) : Type 0 where
+pub record VertexIn (blocks aboves gone : List ℕ) (v depth : ℕ) : Type 0 where
   pub h : Hypergraph
   pub s : State
   pub n : ℕ
-  pub shown : Vertices h s blocks aboves n depth
+  pub shown : Vertices h s blocks aboves gone n depth
   pub low : 1 ≤ v
   pub high : v ≤ n
 
 -- the lines of the vertices fit into a buffer of `room` bytes
-pub record VerticesFit (room at : ℕ) (blocks aboves : List ℕ) (n depth : ℕ) : Type 0 where
+pub record VerticesFit (room at : ℕ) (blocks aboves gone : List ℕ) (n depth : ℕ) : Type 0 where
   pub h : Hypergraph
   pub s : State
-  pub shown : Vertices h s blocks aboves n depth
+  pub shown : Vertices h s blocks aboves gone n depth
   pub fits : at + length (lotRows h s) ≤ room
 
 -- each mask has a bit for each block that its net is connected to, and no other
@@ -72,7 +76,7 @@ pub record NetsFit (room at : ℕ) (visited : List ℕ) (m : ℕ) : Type 0 where
   pub fits : at + length (buyRows h s 1 (h .nets)) ≤ room
 
 -- these tables, with some others, are sound for the state; `draft` is the metric of the first partition, `total` that of the last
-pub record Ended (h : Hypergraph) (s : State) (blocks aboves visited : List ℕ) (n m depth draft total : ℕ) : Type 0 where
+pub record Ended (h : Hypergraph) (s : State) (blocks aboves visited gone : List ℕ) (n m depth draft total : ℕ) : Type 0 where
   pub counts : List ℕ
   pub gains : List ℤ
   pub pins : List ℕ
@@ -85,12 +89,14 @@ pub record Ended (h : Hypergraph) (s : State) (blocks aboves visited : List ℕ)
   pub loaded : List ℕ
   pub k : ℕ
   pub sound : Sound h (s .stack) (s .block) (tables counts visited gains pins sizes bits blocks weights aboves loads netWeights firsts loaded n m k total)
-  pub depth-is : depth ≡ length (s .stack)
+  pub into : List ℕ
+  pub stack-is : s .stack ≡ stackOf into gone depth
+  pub stack-fits : depth ≤ 1024
   pub draft-is : draft ≡ metric h [] (fresh h .block)
 
 -- the closing report fits
-pub record ClosingFits (room at : ℕ) (blocks aboves visited : List ℕ) (n m depth draft total : ℕ) : Type 0 where
+pub record ClosingFits (room at : ℕ) (blocks aboves visited gone : List ℕ) (n m depth draft total : ℕ) : Type 0 where
   pub h : Hypergraph
   pub s : State
-  pub ended : Ended h s blocks aboves visited n m depth draft total
+  pub ended : Ended h s blocks aboves visited gone n m depth draft total
   pub fits : at + length (closing h s) ≤ room

@@ -61,7 +61,7 @@ fn put_move(out: &mut [u8], at: usize, gain: i32, total: u32) -> usize
     requires { ⌜ at + length (row "M" (signed gain ∷ digits total ∷ [])) ≤ length (now out) ⌝ }
     ensures { λ r. ⌜ Wrote (now (out .entry)) (now (out .exit)) at (row "M" (signed gain ∷ digits total ∷ [])) r ⌝ }
 {
-    out[at] = 77;
+    out[at] = b'M';
     let p = put_signed_field(out, at + 1, gain);
     put_tail(out, p, &[total])
 }

@@ -1,5 +1,7 @@
 // The closing report: the metric of the draft and at the end, the block of each vertex's representative, the connectivity of each net.
 use crate::fields::put_row;
+use incidence::numbers::index;
+use incidence::numbers::wide;
 ghost use mathlib.Core.Path.{_≡_};
 ghost use mathlib.Core.List.{List, [], _∷_};
 ghost use Prim.Native.Nat.{ℕ, _+_, _≤_, _<_};
@@ -10,22 +12,10 @@ ghost use Rattle.model.specs.Catalogue.{Hypergraph};
 ghost use Rattle.model.specs.Measure.{Contraction, climb, representative as standsFor};
 ghost use Rattle.model.specs.Machine.{State};
 ghost use Rattle.model.specs.Report.{digits, row, lotRows, buyRows, closing};
+ghost use Rattle.calls.specs.Pairs.{stackOf};
 ghost use Rattle.report.specs.Wrote.{Wrote};
-ghost use Rattle.report.specs.Closing.{Hangs, Climbable, Vertices, VertexIn, VerticesFit, Nets, NetsFit, Ended, ClosingFits};
-
-// A table's entry as an index.
-fn wide(x: u16) -> usize
-    ensures { λ r. ⌜ r ≡ x ⌝ }
-{
-    x as usize
-}
-
-// A table's entry as a field of a line.
-fn field(x: u16) -> u32
-    ensures { λ r. ⌜ r ≡ x ⌝ }
-{
-    x as u32
-}
+ghost use Rattle.report.specs.Place.{joinPlace};
+ghost use Rattle.report.specs.Closing.{Aboves, Climbable, Vertices, VertexIn, VerticesFit, Nets, NetsFit, Ended, ClosingFits};
 
 // The number from 1 of what stands at place `i`.
 fn number(i: usize) -> u32
@@ -35,28 +25,45 @@ fn number(i: usize) -> u32
     (i + 1) as u32
 }
 
+// The place of the join of `v` on the stack, whose latest join has place 1. The first `depth` entries of `gone` are the vertices that were joined
+// into others, the latest last. For a vertex on the board it is `depth`.
+fn join_place(gone: &[u16; 1024], depth: usize, v: usize) -> usize
+    requires { ⌜ depth ≤ 1024 ⌝ }
+    ensures { λ r. ⌜ ((into : List ℕ) → r ≡ joinPlace (stackOf into (now (gone .entry)) depth) v) ⌝ }
+{
+    let mut i = depth;
+    while 0 < i {
+        if index(gone[i - 1]) == v {
+            return depth - i + 1;
+        }
+        i -= 1;
+    }
+    depth
+}
+
 // The vertex that stands for `v`, by a climb of at most `steps` contractions.
-pub fn representative(aboves: &[u16], v: usize, steps: usize) -> usize
+fn representative(aboves: &[u16], v: usize, steps: usize) -> usize
     requires { ⌜ Climbable (now aboves) v ⌝ }
-    ensures { λ r. ⌜ ((cs : List Contraction) (n : ℕ) → Hangs cs n (now (aboves .entry)) → v ≤ n → r ≡ climb steps cs v) ⌝ }
+    ensures { λ r. ⌜ ((cs : List Contraction) (n : ℕ) → Aboves cs n (now (aboves .entry)) → v ≤ n → r ≡ climb steps cs v) ⌝ }
 {
     if steps == 0 {
         return v;
     }
-    let above = wide(aboves[v - 1]);
+    let above = index(aboves[v - 1]);
     if above == 0 {
         return v;
     }
     representative(aboves, above, steps - 1)
 }
 
-// The block of the vertex that stands for `v`.
-fn block_of(blocks: &[u16], aboves: &[u16], v: usize, depth: usize) -> u32
-    requires { ⌜ VertexIn (now blocks) (now aboves) v depth ⌝ }
-    ensures { λ r. ⌜ ((h : Hypergraph) (s : State) (n : ℕ) → Vertices h s (now (blocks .entry)) (now (aboves .entry)) n depth → v ≤ n → r ≡ s .block (standsFor (s .stack) v)) ⌝ }
+// The block of the vertex that stands for `v`. Each vertex above another was joined later, so the place of its join bounds the climb.
+fn block_of(blocks: &[u16], aboves: &[u16], gone: &[u16; 1024], v: usize, depth: usize) -> u32
+    requires { ⌜ VertexIn (now blocks) (now aboves) (now gone) v depth ⌝ }
+    ensures { λ r. ⌜ ((h : Hypergraph) (s : State) (n : ℕ) → Vertices h s (now (blocks .entry)) (now (aboves .entry)) (now (gone .entry)) n depth → v ≤ n → r ≡ s .block (standsFor (s .stack) v)) ⌝ }
 {
-    let r = representative(aboves, v, depth);
-    field(blocks[r - 1])
+    let place = join_place(gone, depth, v);
+    let r = representative(aboves, v, place);
+    wide(blocks[r - 1])
 }
 
 // Writes the line of the vertex at place `i`.
@@ -74,16 +81,17 @@ fn put_lots(
     at: usize,
     blocks: &[u16],
     aboves: &[u16],
+    gone: &[u16; 1024],
     n: usize,
     depth: usize,
 ) -> usize
-    requires { ⌜ VerticesFit (length (now out)) at (now blocks) (now aboves) n depth ⌝ }
-    ensures { λ r. ⌜ ((h : Hypergraph) (s : State) → Vertices h s (now (blocks .entry)) (now (aboves .entry)) n depth → Wrote (now (out .entry)) (now (out .exit)) at (lotRows h s) r) ⌝ }
+    requires { ⌜ VerticesFit (length (now out)) at (now blocks) (now aboves) (now gone) n depth ⌝ }
+    ensures { λ r. ⌜ ((h : Hypergraph) (s : State) → Vertices h s (now (blocks .entry)) (now (aboves .entry)) (now (gone .entry)) n depth → Wrote (now (out .entry)) (now (out .exit)) at (lotRows h s) r) ⌝ }
 {
     let mut p = at;
     let mut i = 0;
     while i < n {
-        let block = block_of(blocks, aboves, i + 1, depth);
+        let block = block_of(blocks, aboves, gone, i + 1, depth);
         p = put_lot(out, p, i, block);
         i += 1;
     }
@@ -121,23 +129,24 @@ fn put_nets(out: &mut [u8], at: usize, visited: &[u16], m: usize) -> usize
     p
 }
 
-// Writes the closing report.
+// Writes the closing report. `gone` and `depth` are the stack's: the vertices that its joins took off the board, and how many stand.
 pub fn put_closing(
     out: &mut [u8],
     at: usize,
     blocks: &[u16],
     aboves: &[u16],
     visited: &[u16],
+    gone: &[u16; 1024],
     n: usize,
     m: usize,
     depth: usize,
     draft: u32,
     total: u32,
 ) -> usize
-    requires { ⌜ ClosingFits (length (now out)) at (now blocks) (now aboves) (now visited) n m depth draft total ⌝ }
-    ensures { λ r. ⌜ ((h : Hypergraph) (s : State) → Ended h s (now (blocks .entry)) (now (aboves .entry)) (now (visited .entry)) n m depth draft total → Wrote (now (out .entry)) (now (out .exit)) at (closing h s) r) ⌝ }
+    requires { ⌜ ClosingFits (length (now out)) at (now blocks) (now aboves) (now visited) (now gone) n m depth draft total ⌝ }
+    ensures { λ r. ⌜ ((h : Hypergraph) (s : State) → Ended h s (now (blocks .entry)) (now (aboves .entry)) (now (visited .entry)) (now (gone .entry)) n m depth draft total → Wrote (now (out .entry)) (now (out .exit)) at (closing h s) r) ⌝ }
 {
     let p = put_row(out, at, b"TOTAL", &[draft, total]);
-    let q = put_lots(out, p, blocks, aboves, n, depth);
+    let q = put_lots(out, p, blocks, aboves, gone, n, depth);
     put_nets(out, q, visited, m)
 }

@@ -25,7 +25,7 @@ fn put_field(out: &mut [u8], at: usize, x: u32) -> usize
     requires { ⌜ at + 1 + length (digits x) ≤ length (now out) ⌝ }
     ensures { λ r. ⌜ Wrote (now (out .entry)) (now (out .exit)) at (44 ∷ digits x) r ⌝ }
 {
-    out[at] = 44;
+    out[at] = b',';
     put_number(out, at + 1, x)
 }
 
@@ -34,7 +34,7 @@ pub fn put_signed_field(out: &mut [u8], at: usize, x: i32) -> usize
     requires { ⌜ at + 1 + length (signed x) ≤ length (now out) ⌝ }
     ensures { λ r. ⌜ Wrote (now (out .entry)) (now (out .exit)) at (44 ∷ signed x) r ⌝ }
 {
-    out[at] = 44;
+    out[at] = b',';
     put_signed(out, at + 1, x)
 }
 
@@ -49,7 +49,7 @@ pub fn put_tail(out: &mut [u8], at: usize, xs: &[u32]) -> usize
         p = put_field(out, p, xs[i]);
         i += 1;
     }
-    out[p] = 10;
+    out[p] = b'\n';
     p + 1
 }
 

@@ -29,7 +29,7 @@ pub record Reported (h : Hypergraph) (calls : List Call) (old new : Lent) (out o
   pub output : Written (run h calls) out out′ bytes
 
 module _ {h : Hypergraph} {calls : List Call} {old new : Lent} {out out′ : List ℕ} {limits : Limits} {S J : Two} {n m draft total at : ℕ} (s : Sold limits h calls old new out out′ S J n m draft total at) where
-  pub closes : ClosingFits (length out′) at (new .blocks) (new .aboves) (new .visited) n m (S .len) draft total
+  pub closes : ClosingFits (length out′) at (new .blocks) (new .aboves) (new .visited) (S .ys) n m (S .len) draft total
   closes = record { h = h; s = after h (fresh h) calls; ended = s .ended; fits = omega (arith, s .fits, wrote-length (s .wrote) (omega (arith, s .fits, s .wrote .ends))) }
 
   pub reported : {out″ : List ℕ} {r : ℕ} → Wrote out′ out″ at (closing h (after h (fresh h) calls)) r → Reported h calls old new out out″ r

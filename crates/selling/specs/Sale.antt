@@ -74,7 +74,7 @@ pub record Sold (limits : Limits) (h : Hypergraph) (calls : List Call) (old new 
   pub wrote : Wrote out out′ 0 lines at
   pub stack-whole : Whole S
   pub journal-whole : Whole J
-  pub ended : Ended h (after h (fresh h) calls) (new .blocks) (new .aboves) (new .visited) n m (S .len) draft total
+  pub ended : Ended h (after h (fresh h) calls) (new .blocks) (new .aboves) (new .visited) (S .ys) n m (S .len) draft total
   pub fits : at + length (closing h (after h (fresh h) calls)) ≤ length out
 
 module _ {limits : Limits} {file : List ℕ} {z : Sizes} {old new : Lists} {nw counts : List ℕ} {gains : List ℤ} {visited : List ℕ} (g : Catalogued limits file z old new nw counts gains visited)

@@ -64,6 +64,7 @@ pub fn report_sale(
         z,
     );
     let stack = s.stack;
+    let gone = stack.gone;
     let depth = stack.len;
     put_closing(
         output,
@@ -71,6 +72,7 @@ pub fn report_sale(
         blocks,
         aboves,
         visited,
+        &gone,
         n,
         m,
         depth,

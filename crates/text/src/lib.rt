@@ -1,4 +1,6 @@
 // Fields, lines and numbers of a sale file, and numbers written into a buffer. Each function is proved against a definition of model.
+pub mod letters;
+
 ghost use mathlib.Core.Path.{_≡_};
 ghost use mathlib.Core.Bool.{false, _||_};
 ghost use Prim.Native.Nat.{_+_, _-_, _≤_, _<_};
@@ -22,7 +24,7 @@ pub enum Sign {
 }
 
 // The first `sep` at or after `at` and before `end`, or `end`.
-pub fn find(s: &[u8], at: usize, end: usize, sep: u8) -> usize
+fn find(s: &[u8], at: usize, end: usize, sep: u8) -> usize
     requires { ⌜ (at ≤ end) × (end ≤ length (now s)) ⌝ }
     ensures { λ r. ⌜ FirstAt (now (s .entry)) at end sep r ⌝ }
 {
@@ -64,26 +66,26 @@ pub fn line_end(s: &[u8], at: usize, end: usize) -> usize
 {
     let mut i = at;
     while 16 <= end - i {
-        if sixteen_have(s, i, 10) {
-            return find(s, i, end, 10);
+        if sixteen_have(s, i, b'\n') {
+            return find(s, i, end, b'\n');
         }
         i += 16;
     }
-    find(s, i, end, 10)
+    find(s, i, end, b'\n')
 }
 
 // The first byte at or after `at` and before `end` that is no digit, or `end`.
-pub fn digits_end(s: &[u8], at: usize, end: usize) -> usize
+fn digits_end(s: &[u8], at: usize, end: usize) -> usize
     requires { ⌜ (at ≤ end) × (end ≤ length (now s)) ⌝ }
     ensures { λ r. ⌜ DigitsEnd (now (s .entry)) at end r ⌝ }
 {
     let mut i = at;
     while i < end {
         let b = s[i];
-        if b < 48 {
+        if b < b'0' {
             return i;
         }
-        if 57 < b {
+        if b'9' < b {
             return i;
         }
         i += 1;
@@ -92,7 +94,7 @@ pub fn digits_end(s: &[u8], at: usize, end: usize) -> usize
 }
 
 // Where the field from `at` on ends, if it is a number; else `at`, since a number has a digit.
-pub fn number_end(s: &[u8], at: usize, end: usize) -> usize
+fn number_end(s: &[u8], at: usize, end: usize) -> usize
     requires { ⌜ (at ≤ end) × (end ≤ length (now s)) ⌝ }
     ensures { λ r. ⌜ NumberEnd (now (s .entry)) at end r ⌝ }
 {
@@ -102,12 +104,12 @@ pub fn number_end(s: &[u8], at: usize, end: usize) -> usize
         return at;
     }
     if 1 < n {
-        if s[at] == 48 {
+        if s[at] == b'0' {
             return at;
         }
     }
     if e < end {
-        if s[e] != 44 {
+        if s[e] != b',' {
             return at;
         }
     }
@@ -123,10 +125,10 @@ pub fn read_field(s: &[u8], at: usize, end: usize) -> Number
     let mut i = at;
     while i < end {
         let b = s[i];
-        if b == 44 {
+        if b == b',' {
             return Number { value: v, end: i };
         }
-        v = v * 10 + (b - 48) as u32;
+        v = v * 10 + (b - b'0') as u32;
         i += 1;
     }
     Number { value: v, end: i }
@@ -175,7 +177,7 @@ pub fn form(s: &[u8], at: usize, end: usize, w: &[u8]) -> usize
     requires { ⌜ (at ≤ end) × (end ≤ length (now s)) ⌝ }
     ensures { λ r. ⌜ r ≡ formOf (now (w .entry)) (fields (slice at end (now (s .entry)))) ⌝ }
 {
-    let a = find(s, at, end, 44);
+    let a = find(s, at, end, b',');
     if !word(s, at, a, w) {
         return 0;
     }
@@ -193,7 +195,7 @@ pub fn get(s: &[u8], at: usize, end: usize, i: usize) -> u32
     let mut a = at;
     let mut k = i;
     while 0 < k {
-        let e = find(s, a, end, 44);
+        let e = find(s, a, end, b',');
         if e == end {
             return 0;
         }
@@ -208,11 +210,11 @@ pub fn third(s: &[u8], at: usize, end: usize) -> usize
     requires { ⌜ (at ≤ end) × (end ≤ length (now s)) × (3 ≤ length (fields (slice at end (now s)))) ⌝ }
     ensures { λ r. ⌜ Third (now (s .entry)) at end r ⌝ }
 {
-    let a = find(s, at, end, 44);
+    let a = find(s, at, end, b',');
     if a == end {
         return end;
     }
-    let b = find(s, a + 1, end, 44);
+    let b = find(s, a + 1, end, b',');
     if b == end {
         return end;
     }
@@ -225,11 +227,11 @@ pub fn put_number(out: &mut [u8], at: usize, x: u32) -> usize
     ensures { λ r. ⌜ (r ≡ at + length (digits x)) × (now (out .exit) ≡ written (now (out .entry)) at (digits x)) ⌝ }
 {
     if x < 10 {
-        out[at] = 48 + x as u8;
+        out[at] = b'0' + x as u8;
         return at + 1;
     }
     let n = put_number(out, at, x / 10);
-    out[n] = 48 + (x % 10) as u8;
+    out[n] = b'0' + (x % 10) as u8;
     n + 1
 }
 
@@ -252,7 +254,7 @@ pub fn put_signed(out: &mut [u8], at: usize, x: i32) -> usize
     match side(x) {
         Sign::Plus(n) => put_number(out, at, n),
         Sign::Minus(n) => {
-            out[at] = 45;
+            out[at] = b'-';
             put_number(out, at + 1, n)
         }
     }

@@ -26,7 +26,9 @@ loop-holds : tie.Need-loop-holds Inv-loop μ-loop
 loop-holds c = (omega arith, raised-none _)
 
 amount-requires : tie.Need-amount-requires Inv-loop μ-loop
-amount-requires c κs = let S = c .before .before .before .before in omega (arith, S .pre .few)
+amount-requires c κs =
+    let start = c .before .before .before .before in
+    let S = start in omega (arith, S .pre .few)
 
 mul-shift-at : tie.Need-mul-shift-at Inv-loop μ-loop
 mul-shift-at c = omega arith

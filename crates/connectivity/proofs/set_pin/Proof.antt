@@ -2,13 +2,15 @@
 use native.Mathlib.Omega.{arith}
 use mathlib.Core.Path.{refl}
 use borrow.Author.Needs.{needs}
-use Rattle.connectivity.specs.Set.{set-depart, set-arrive}
+use Rattle.connectivity.specs.Set.{set-depart, depart-shows, set-arrive, arrive-shows}
 use Rattle.connectivity.specs.Steps.{set-same, set-own, set-others, set-own-2, set-done}
 use Rattle.connectivity.proofs.set_pin.Statement.{statement}
 use Rattle.connectivity.proofs.set_pin.Tie as tie
 
 returns : tie.Need-returns
-returns c = set-same (c .before .before .before .before .before .before .pre) (c .if1 .taken)
+returns c =
+    let start = c .before .before .before .before .before .before in
+    set-same (start .pre) (c .if1 .taken)
 
 mul-w : tie.Need-mul-w
 mul-w c = search needs
@@ -32,14 +34,14 @@ own-row-requires c κs =
 depart-requires : tie.Need-depart-requires
 depart-requires c κs =
     let S = c .before .before .before .before .before .before .before .before .before .before .before .before .before .before .before .before .before in
-    (omega (arith, S .pre .frame, S .pre .e-in), (omega (arith, S .pre .frame, S .pre .e-in), (omega (arith, S .pre .frame, S .pre .a-in), set-depart (S .pre))))
+    (omega (arith, S .pre .frame, S .pre .e-in), (omega (arith, S .pre .frame, S .pre .e-in), (omega (arith, S .pre .frame, S .pre .a-in), (set-depart (S .pre), depart-shows (S .pre)))))
 
 arrive-requires : tie.Need-arrive-requires
 arrive-requires c κs =
     let D = c .before .before .before .before .before .before in
     let S = D .before .before .before .before .before .before .before .before .before .before .before .before .before .before .before .before .before .before in (
       omega (arith, S .pre .frame, S .pre .e-in, D .depart .ensures .counts-len),
-      (omega (arith, S .pre .frame, S .pre .e-in, D .depart .ensures .masks-len), (omega (arith, S .pre .frame, S .pre .b-in), set-arrive (S .pre) (D .depart .ensures))),
+      (omega (arith, S .pre .frame, S .pre .e-in, D .depart .ensures .masks-len), (omega (arith, S .pre .frame, S .pre .b-in), (set-arrive (S .pre) (D .depart .ensures), arrive-shows (S .pre) (D .depart .ensures)))),
     )
 
 touch-others-requires : tie.Need-touch-others-requires

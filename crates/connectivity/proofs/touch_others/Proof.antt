@@ -17,19 +17,27 @@ abbrev μ-loop : tie.MeasureT-loop
 μ-loop gains₀ pins blocks n k first p x a b fa fb w i₀ gains i = p - i
 
 returns : tie.Need-returns Inv-loop μ-loop
-returns c = let S = c .before .before .before .before in others-idle (S .pre) (c .before .if1 .taken) (c .if2 .taken)
+returns c =
+    let start = c .before .before .before .before in
+    let S = start in others-idle (S .pre) (c .before .if1 .taken) (c .if2 .taken)
 
 loop-holds : tie.Need-loop-holds Inv-loop μ-loop
-loop-holds c = (omega arith, others-start (c .before .before .before .pre))
+loop-holds c =
+    let start = c .before .before .before in
+    (omega arith, others-start (start .pre))
 
 add-index : tie.Need-add-index Inv-loop μ-loop
-add-index c = let S = c .before .before .before .before .before in omega (arith, S .pre .net .pins-fit)
+add-index c =
+    let start = c .before .before .before .before .before in
+    let S = start in omega (arith, S .pre .net .pins-fit)
 
 mul-index : tie.Need-mul-index Inv-loop μ-loop
 mul-index c = omega arith
 
 shared-slice-read-index : tie.Need-shared-slice-read-index Inv-loop μ-loop
-shared-slice-read-index c = let S = c .before .before .before .before .before .before in omega (arith, S .pre .net .pins-fit)
+shared-slice-read-index c =
+    let start = c .before .before .before .before .before .before in
+    let S = start in omega (arith, S .pre .net .pins-fit)
 
 index-requires : tie.Need-index-requires Inv-loop μ-loop
 index-requires c κs = search needs
@@ -78,7 +86,9 @@ same-length : tie.Need-same-length Inv-loop μ-loop
 same-length c = c .before .loop .inv .1 .len
 
 returns-2 : tie.Need-returns-2 Inv-loop μ-loop
-returns-2 c = others-done (c .before .before .before .before .before .pre) (omega arith) (c .before .loop .inv .1)
+returns-2 c =
+    let start = c .before .before .before .before .before in
+    others-done (start .pre) (omega arith) (c .before .loop .inv .1)
 
 pub touch-others-spec : {M : Type 1} → statement M
 touch-others-spec =

@@ -61,7 +61,9 @@ same-length : tie.Need-same-length Inv-loop μ-loop
 same-length c = c .before .loop .inv .1 .bits-len
 
 returns : tie.Need-returns Inv-loop μ-loop
-returns c = marked-all (c .before .before .before .before .pre) (omega arith) (c .before .loop .inv .1)
+returns c =
+    let start = c .before .before .before .before in
+    marked-all (start .pre) (omega arith) (c .before .loop .inv .1)
 
 pub mark-pins-spec : {M : Type 1} → statement M
 mark-pins-spec =

@@ -44,9 +44,10 @@ least-requires c κs = search needs
 
 returns-2 : tie.Need-returns-2 Inv-loop μ-loop
 returns-2 c =
+    let at-shared-slice-known2 = c .before .before .before in
     let s = c .before .before .before .before .before .before in
     next-rest (now (s .args .bits)) (s .args .x) (s .args .from) (s .args .m) (c .before .lowest .result) (c .least .result) (s .pre .1)
-    (c .before .before .before .shared-slice-known2 .given (16 * s .args .x + s .args .from / 64) .fits)
+    (at-shared-slice-known2 .shared-slice-known2 .given (16 * s .args .x + s .args .from / 64) .fits)
     (c .before .lowest .ensures)
     (c .least .ensures)
 
@@ -84,13 +85,15 @@ least-requires-2 c κs = search needs
 
 returns-3 : tie.Need-returns-3 Inv-loop μ-loop
 returns-3 c =
+    let at-shared-slice-known3 = c .before .before .before in
+    let at-loop-test = at-shared-slice-known3 .before in
     let state = c .before .before .before .before .before .before .before .before .before .before in
     let s = state in
     let l = c .before .before .before .before .before .loop in
     next-word (now (s .args .bits)) (s .args .x) (s .args .from) (l .w) (s .args .m) (c .before .lowest2 .result) (c .least2 .result) (l .inv .0)
-    (c .before .before .before .before .loop-test .taken)
+    (at-loop-test .loop-test .taken)
     (l .inv .2)
-    (c .before .before .before .shared-slice-known3 .given (16 * s .args .x + l .w) .fits)
+    (at-shared-slice-known3 .shared-slice-known3 .given (16 * s .args .x + l .w) .fits)
     (c .before .lowest2 .ensures)
     (c .least2 .ensures)
 

@@ -14,7 +14,9 @@ mul-blocks : tie.Need-mul-blocks
 mul-blocks c = search needs
 
 slice-write-blocks : tie.Need-slice-write-blocks
-slice-write-blocks c = let S = c .before .before .before .before .before .before .before .before .before .before .before .before .before .before .before .before .before .before .before .before .before .before .before .before .before .before .before in omega (arith, S .pre .v-in, S .pre .follows .world .lists .blocks-fit)
+slice-write-blocks c =
+    let start = c .before .before .before .before .before .before .before .before .before .before .before .before .before .before .before .before .before .before .before .before .before .before .before .before .before .before .before in
+    let S = start in omega (arith, S .pre .v-in, S .pre .follows .world .lists .blocks-fit)
 
 same-length : tie.Need-same-length
 same-length c = search needs

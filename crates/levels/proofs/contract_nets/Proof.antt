@@ -17,7 +17,9 @@ abbrev μ-loop : tie.MeasureT-loop
     m - e
 
 next-net-requires : tie.Need-next-net-requires Inv-loop μ-loop
-next-net-requires c κs = let S = c .before .before .before .before .before .before .before .before .before in omega (arith, S .pre .room .bits-fit, S .pre .room .few-nets, S .pre .v-in)
+next-net-requires c κs =
+    let start = c .before .before .before .before .before .before .before .before .before in
+    let S = start in omega (arith, S .pre .room .bits-fit, S .pre .room .few-nets, S .pre .v-in)
 
 loop-holds : tie.Need-loop-holds Inv-loop μ-loop
 loop-holds c =
@@ -28,7 +30,9 @@ mul-index : tie.Need-mul-index Inv-loop μ-loop
 mul-index c = omega arith
 
 shared-slice-read-index : tie.Need-shared-slice-read-index Inv-loop μ-loop
-shared-slice-read-index c = omega (arith, c .before .before .before .before .before .before .before .before .before .before .before .before .before .pre .room .firsts-fit)
+shared-slice-read-index c =
+    let start = c .before .before .before .before .before .before .before .before .before .before .before .before .before in
+    omega (arith, start .pre .room .firsts-fit)
 
 index-requires : tie.Need-index-requires Inv-loop μ-loop
 index-requires c κs = search needs
@@ -37,7 +41,9 @@ mul-index-2 : tie.Need-mul-index-2 Inv-loop μ-loop
 mul-index-2 c = omega arith
 
 slice-read-index : tie.Need-slice-read-index Inv-loop μ-loop
-slice-read-index c = omega (arith, c .before .before .before .before .loop .inv .2 .world .lists .sizes-fit)
+slice-read-index c =
+    let at-loop = c .before .before .before .before in
+    omega (arith, at-loop .loop .inv .2 .world .lists .sizes-fit)
 
 index-requires-2 : tie.Need-index-requires-2 Inv-loop μ-loop
 index-requires-2 c κs = search needs
@@ -54,7 +60,12 @@ contract-net-requires c κs =
     contracting-contracts (start .pre) test (I .1 test) (I .2) (at-index .index .ensures) (at-index2 .index2 .ensures)
 
 narrow-requires : tie.Need-narrow-requires Inv-loop μ-loop
-narrow-requires c κs = omega (arith, c .before .before .before .before .before .before .before .contract-net .ensures .shorter, c .before .before .before .before .before .before .before .before .before .before .before .before .before .index2 .ensures, c .before .before .before .before .before .before .before .before .before .before .before .before .before .before .slice-known6 .given (c .before .before .before .before .before .before .before .before .before .before .before .before .before .before .before .before .before .before .loop .e))
+narrow-requires c κs =
+    let at-contract-net = c .before .before .before .before .before .before .before in
+    let at-index2 = at-contract-net .before .before .before .before .before .before in
+    let at-slice-known6 = at-index2 .before in
+    let at-loop = at-slice-known6 .before .before .before .before in
+    omega (arith, at-contract-net .contract-net .ensures .shorter, at-index2 .index2 .ensures, at-slice-known6 .slice-known6 .given (at-loop .loop .e))
 
 mul-sizes : tie.Need-mul-sizes Inv-loop μ-loop
 mul-sizes c = omega arith
@@ -66,7 +77,10 @@ add-next-net : tie.Need-add-next-net Inv-loop μ-loop
 add-next-net c = omega arith
 
 next-net-requires-2 : tie.Need-next-net-requires-2 Inv-loop μ-loop
-next-net-requires-2 c κs = let S = c .before .before .before .before .before .before .before .before .before .before .before .before .before .before .before .before .before .before .before .before .before .before .before .before .before .before .before .before .before .before .before in omega (arith, S .pre .room .bits-fit, S .pre .room .few-nets, S .pre .v-in, c .before .before .before .before .before .before .before .before .before .before .before .before .before .before .before .before .before .before .before .loop-test .taken)
+next-net-requires-2 c κs =
+    let at-loop-test = c .before .before .before .before .before .before .before .before .before .before .before .before .before .before .before .before .before .before .before in
+    let start = at-loop-test .before .before .before .before .before .before .before .before .before .before .before .before in
+    let S = start in omega (arith, S .pre .room .bits-fit, S .pre .room .few-nets, S .pre .v-in, at-loop-test .loop-test .taken)
 
 loop-less : tie.Need-loop-less Inv-loop μ-loop
 loop-less c = omega (arith, c .next-net2 .ensures .low, c .next-net2 .ensures .high)
@@ -87,28 +101,43 @@ loop-again c =
     )
 
 copy-or-requires : tie.Need-copy-or-requires Inv-loop μ-loop
-copy-or-requires c κs = let S = c .before .before .before .before .before .before .before .before .before .before .before .before .before in omega (arith, S .pre .room .bits-fit, S .pre .u-in, S .pre .v-in)
+copy-or-requires c κs =
+    let start = c .before .before .before .before .before .before .before .before .before .before .before .before .before in
+    let S = start in omega (arith, S .pre .room .bits-fit, S .pre .u-in, S .pre .v-in)
 
 same-length : tie.Need-same-length Inv-loop μ-loop
-same-length c = c .before .before .before .before .before .loop .inv .2 .kept .of-tally .counts-len
+same-length c =
+    let at-loop = c .before .before .before .before .before in
+    at-loop .loop .inv .2 .kept .of-tally .counts-len
 
 same-length-2 : tie.Need-same-length-2 Inv-loop μ-loop
-same-length-2 c = c .before .before .before .before .before .loop .inv .2 .kept .of-tally .masks-len
+same-length-2 c =
+    let at-loop = c .before .before .before .before .before in
+    at-loop .loop .inv .2 .kept .of-tally .masks-len
 
 same-length-3 : tie.Need-same-length-3 Inv-loop μ-loop
-same-length-3 c = c .before .before .before .before .before .loop .inv .2 .kept .of-gains .gains-len
+same-length-3 c =
+    let at-loop = c .before .before .before .before .before in
+    at-loop .loop .inv .2 .kept .of-gains .gains-len
 
 same-length-4 : tie.Need-same-length-4 Inv-loop μ-loop
-same-length-4 c = c .before .before .before .before .before .loop .inv .2 .pins-len
+same-length-4 c =
+    let at-loop = c .before .before .before .before .before in
+    at-loop .loop .inv .2 .pins-len
 
 same-length-5 : tie.Need-same-length-5 Inv-loop μ-loop
-same-length-5 c = c .before .before .before .before .before .loop .inv .2 .sizes-len
+same-length-5 c =
+    let at-loop = c .before .before .before .before .before in
+    at-loop .loop .inv .2 .sizes-len
 
 same-length-6 : tie.Need-same-length-6 Inv-loop μ-loop
 same-length-6 c = c .before .before .copy-or .ensures .len
 
 returns : tie.Need-returns Inv-loop μ-loop
-returns c = contracting-done (c .before .before .before .before .before .before .before .before .before .before .before .before .before .before .before .before .pre) (omega arith) (c .before .before .before .before .before .loop .inv .2) (c .before .before .copy-or .ensures)
+returns c =
+    let at-loop = c .before .before .before .before .before in
+    let start = at-loop .before .before .before .before .before .before .before .before .before .before .before in
+    contracting-done (start .pre) (omega arith) (at-loop .loop .inv .2) (c .before .before .copy-or .ensures)
 
 pub contract-nets-spec : {M : Type 1} → statement M
 contract-nets-spec =

@@ -21,7 +21,9 @@ mul-index : tie.Need-mul-index Inv-loop μ-loop
 mul-index c = omega arith
 
 slice-read-index : tie.Need-slice-read-index Inv-loop μ-loop
-slice-read-index c = let S = c .before .before .before .before .before .before .before .before .before in omega (arith, S .pre .u-in, S .pre .follows .world .lists .blocks-fit)
+slice-read-index c =
+    let start = c .before .before .before .before .before .before .before .before .before in
+    let S = start in omega (arith, S .pre .u-in, S .pre .follows .world .lists .blocks-fit)
 
 index-requires : tie.Need-index-requires Inv-loop μ-loop
 index-requires c κs = search needs
@@ -30,7 +32,9 @@ index-requires-2 : tie.Need-index-requires-2 Inv-loop μ-loop
 index-requires-2 c κs = search needs
 
 next-net-requires : tie.Need-next-net-requires Inv-loop μ-loop
-next-net-requires c κs = let S = c .before .before .before .before .before .before .before .before .before .before .before in omega (arith, move-needs (S .pre) .bits-fit, S .pre .follows .room .few-nets)
+next-net-requires c κs =
+    let start = c .before .before .before .before .before .before .before .before .before .before .before in
+    let S = start in omega (arith, move-needs (S .pre) .bits-fit, S .pre .follows .room .few-nets)
 
 loop-holds : tie.Need-loop-holds Inv-loop μ-loop
 loop-holds c =
@@ -41,7 +45,9 @@ mul-index-2 : tie.Need-mul-index-2 Inv-loop μ-loop
 mul-index-2 c = omega arith
 
 shared-slice-read-index : tie.Need-shared-slice-read-index Inv-loop μ-loop
-shared-slice-read-index c = let S = c .before .before .before .before .before .before .before .before .before .before .before .before .before .before .before in omega (arith, S .pre .follows .world .lists .firsts-fit)
+shared-slice-read-index c =
+    let start = c .before .before .before .before .before .before .before .before .before .before .before .before .before .before .before in
+    let S = start in omega (arith, S .pre .follows .world .lists .firsts-fit)
 
 index-requires-3 : tie.Need-index-requires-3 Inv-loop μ-loop
 index-requires-3 c κs = search needs
@@ -50,7 +56,9 @@ mul-index-3 : tie.Need-mul-index-3 Inv-loop μ-loop
 mul-index-3 c = omega arith
 
 shared-slice-read-index-2 : tie.Need-shared-slice-read-index-2 Inv-loop μ-loop
-shared-slice-read-index-2 c = let S = c .before .before .before .before .before .before .before .before .before .before .before .before .before .before .before .before .before in omega (arith, S .pre .follows .world .lists .sizes-fit)
+shared-slice-read-index-2 c =
+    let start = c .before .before .before .before .before .before .before .before .before .before .before .before .before .before .before .before .before in
+    let S = start in omega (arith, S .pre .follows .world .lists .sizes-fit)
 
 index-requires-4 : tie.Need-index-requires-4 Inv-loop μ-loop
 index-requires-4 c κs = search needs
@@ -69,10 +77,16 @@ set-pin-requires c κs =
     moving-sets (move-needs (start .pre)) test (I .1 test) (I .2) (at-index3 .index3 .ensures) (at-index4 .index4 .ensures) (at-index .index .ensures) (at-index2 .index2 .ensures)
 
 add-next-net : tie.Need-add-next-net Inv-loop μ-loop
-add-next-net c = omega (arith, c .before .before .before .before .before .before .before .before .before .before .before .before .before .before .loop-test .taken, c .before .before .before .before .before .before .before .before .before .before .before .before .before .before .before .before .before .before .before .before .before .before .before .before .before .before .before .before .pre .follows .room .few-nets)
+add-next-net c =
+    let at-loop-test = c .before .before .before .before .before .before .before .before .before .before .before .before .before .before in
+    let start = at-loop-test .before .before .before .before .before .before .before .before .before .before .before .before .before .before in
+    omega (arith, at-loop-test .loop-test .taken, start .pre .follows .room .few-nets)
 
 next-net-requires-2 : tie.Need-next-net-requires-2 Inv-loop μ-loop
-next-net-requires-2 c κs = let S = c .before .before .before .before .before .before .before .before .before .before .before .before .before .before .before .before .before .before .before .before .before .before .before .before .before .before .before .before in omega (arith, move-needs (S .pre) .bits-fit, S .pre .follows .room .few-nets, c .before .before .before .before .before .before .before .before .before .before .before .before .before .before .loop-test .taken)
+next-net-requires-2 c κs =
+    let at-loop-test = c .before .before .before .before .before .before .before .before .before .before .before .before .before .before in
+    let start = at-loop-test .before .before .before .before .before .before .before .before .before .before .before .before .before .before in
+    let S = start in omega (arith, move-needs (S .pre) .bits-fit, S .pre .follows .room .few-nets, at-loop-test .loop-test .taken)
 
 loop-less : tie.Need-loop-less Inv-loop μ-loop
 loop-less c = omega (arith, c .next-net2 .ensures .low, c .next-net2 .ensures .high)
@@ -95,7 +109,9 @@ mul-blocks : tie.Need-mul-blocks Inv-loop μ-loop
 mul-blocks c = omega arith
 
 slice-write-blocks : tie.Need-slice-write-blocks Inv-loop μ-loop
-slice-write-blocks c = let S = c .before .before .before .before .before .before .before .before .before .before .before .before .before .before in omega (arith, S .pre .u-in, S .pre .follows .world .lists .blocks-fit)
+slice-write-blocks c =
+    let start = c .before .before .before .before .before .before .before .before .before .before .before .before .before .before in
+    let S = start in omega (arith, S .pre .u-in, S .pre .follows .world .lists .blocks-fit)
 
 same-length : tie.Need-same-length Inv-loop μ-loop
 same-length c = c .before .loop .inv .2 .kept .of-tally .counts-len
@@ -110,7 +126,9 @@ same-length-4 : tie.Need-same-length-4 Inv-loop μ-loop
 same-length-4 c = search needs
 
 returns : tie.Need-returns Inv-loop μ-loop
-returns c = move-does (c .before .before .before .before .before .before .before .before .before .before .before .before .before .before .pre) (moving-done (move-needs (c .before .before .before .before .before .before .before .before .before .before .before .before .before .before .pre)) (omega arith) (c .before .loop .inv .2))
+returns c =
+    let start = c .before .before .before .before .before .before .before .before .before .before .before .before .before .before in
+    move-does (start .pre) (moving-done (move-needs (start .pre)) (omega arith) (c .before .loop .inv .2))
 
 pub move-vertex-spec : {M : Type 1} → statement M
 move-vertex-spec =

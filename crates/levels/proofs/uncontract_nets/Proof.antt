@@ -17,7 +17,9 @@ abbrev μ-loop : tie.MeasureT-loop
     m - e
 
 next-net-requires : tie.Need-next-net-requires Inv-loop μ-loop
-next-net-requires c κs = omega (arith, c .before .before .before .before .before .before .before .before .before .before .pre .lists .room .bits-fit, c .before .before .before .before .before .before .before .before .before .before .pre .lists .room .few-nets, c .before .before .before .before .before .before .before .before .before .before .pre .lists .v-in)
+next-net-requires c κs =
+    let start = c .before .before .before .before .before .before .before .before .before .before in
+    omega (arith, start .pre .lists .room .bits-fit, start .pre .lists .room .few-nets, start .pre .lists .v-in)
 
 loop-holds : tie.Need-loop-holds Inv-loop μ-loop
 loop-holds c =
@@ -28,7 +30,9 @@ mul-index : tie.Need-mul-index Inv-loop μ-loop
 mul-index c = omega arith
 
 shared-slice-read-index : tie.Need-shared-slice-read-index Inv-loop μ-loop
-shared-slice-read-index c = omega (arith, c .before .before .before .before .before .before .before .before .before .before .before .before .before .before .pre .lists .room .firsts-fit)
+shared-slice-read-index c =
+    let start = c .before .before .before .before .before .before .before .before .before .before .before .before .before .before in
+    omega (arith, start .pre .lists .room .firsts-fit)
 
 index-requires : tie.Need-index-requires Inv-loop μ-loop
 index-requires c κs = search needs
@@ -37,7 +41,9 @@ mul-index-2 : tie.Need-mul-index-2 Inv-loop μ-loop
 mul-index-2 c = omega arith
 
 slice-read-index : tie.Need-slice-read-index Inv-loop μ-loop
-slice-read-index c = omega (arith, c .before .before .before .before .loop .inv .2 .world .lists .sizes-fit)
+slice-read-index c =
+    let at-loop = c .before .before .before .before in
+    omega (arith, at-loop .loop .inv .2 .world .lists .sizes-fit)
 
 index-requires-2 : tie.Need-index-requires-2 Inv-loop μ-loop
 index-requires-2 c κs = search needs
@@ -46,7 +52,9 @@ mul-index-3 : tie.Need-mul-index-3 Inv-loop μ-loop
 mul-index-3 c = omega arith
 
 shared-slice-read-index-2 : tie.Need-shared-slice-read-index-2 Inv-loop μ-loop
-shared-slice-read-index-2 c = omega (arith, c .before .before .before .before .before .before .before .before .before .before .before .before .before .before .before .before .before .before .pre .lists .room .loaded-fit)
+shared-slice-read-index-2 c =
+    let start = c .before .before .before .before .before .before .before .before .before .before .before .before .before .before .before .before .before .before in
+    omega (arith, start .pre .lists .room .loaded-fit)
 
 index-requires-3 : tie.Need-index-requires-3 Inv-loop μ-loop
 index-requires-3 c κs = search needs
@@ -62,7 +70,12 @@ split-net-requires c κs =
     uncontracting-splits (start .pre) (at-loop-test .loop-test .taken) (at-loop .loop .inv .1 (at-loop-test .loop-test .taken)) (at-loop .loop .inv .2) (at-index .index .ensures) (at-index2 .index2 .ensures) (at-index3 .index3 .ensures)
 
 narrow-requires : tie.Need-narrow-requires Inv-loop μ-loop
-narrow-requires c κs = omega (arith, c .before .before .before .before .before .before .before .before .before .split-net .ensures .split .small, c .before .before .before .before .before .before .before .before .before .before .before .before .before .before .before .index3 .ensures, c .before .before .before .before .before .before .before .before .before .before .before .before .before .before .before .before .shared-slice-known6 .given (c .before .before .before .before .before .before .before .before .before .before .before .before .before .before .before .before .before .before .before .before .before .before .loop .e))
+narrow-requires c κs =
+    let at-split-net = c .before .before .before .before .before .before .before .before .before in
+    let at-index3 = at-split-net .before .before .before .before .before .before in
+    let at-shared-slice-known6 = at-index3 .before in
+    let at-loop = at-shared-slice-known6 .before .before .before .before .before .before in
+    omega (arith, at-split-net .split-net .ensures .split .small, at-index3 .index3 .ensures, at-shared-slice-known6 .shared-slice-known6 .given (at-loop .loop .e))
 
 mul-sizes : tie.Need-mul-sizes Inv-loop μ-loop
 mul-sizes c = omega arith
@@ -109,7 +122,9 @@ same-length-6 : tie.Need-same-length-6 Inv-loop μ-loop
 same-length-6 c = c .before .loop .inv .2 .lists .bits-len
 
 returns : tie.Need-returns Inv-loop μ-loop
-returns c = uncontracting-done (c .before .before .before .before .before .before .before .before .before .before .before .before .before .pre) (omega arith) (c .before .loop .inv .2)
+returns c =
+    let start = c .before .before .before .before .before .before .before .before .before .before .before .before .before in
+    uncontracting-done (start .pre) (omega arith) (c .before .loop .inv .2)
 
 pub uncontract-nets-spec : {M : Type 1} → statement M
 uncontract-nets-spec =

@@ -9,8 +9,8 @@ prepare-requires c κs =
     let start = c .before .before .before .before .before .before .before .before .before .before .before .before .before in
     prepare-ok (start .pre .opens)
 
-bear-requires : tie.Need-bear-requires
-bear-requires c κs = search needs
+weigh-blocks-requires : tie.Need-weigh-blocks-requires
+weigh-blocks-requires c κs = search needs
 
 metric-of-requires : tie.Need-metric-of-requires
 metric-of-requires c κs = search needs
@@ -30,14 +30,14 @@ same-length-4 c = search needs
 returns : tie.Need-returns
 returns c =
     let at-prepare = c .before .before .before .before .before .before .before .before .before .before .before in
-    opened (at-prepare .prepare .ensures) (c .before .before .bear .ensures) (c .metric-of .ensures)
+    opened (at-prepare .prepare .ensures) (c .before .before .weigh-blocks .ensures) (c .metric-of .ensures)
 
 pub open-spec : {M : Type 1} → statement M
 open-spec =
     tie.close
     (tie.spec
     prepare-requires
-    bear-requires
+    weigh-blocks-requires
     metric-of-requires
     same-length
     same-length-2

@@ -50,9 +50,11 @@ same-length : tie.Need-same-length
 same-length c = search needs
 
 returns : tie.Need-returns
-returns c = let k = c .before .before .before .before in
+returns c =
+    let at-n = c .before .before .before .before .before in
+    let k = c .before .before .before .before in
     let a = k .before .before .before .before .before .args in
-    let e : signed (a .x) ≡ digits (c .before .before .before .before .before .n .given .0 .0) = ap signed (sym (toZ-ofZ w32 (a .x) (k .before .before .before .before .before .fits .x))) ∙ signed-text _ ∙ ap text (sym (k .before .before .before .side .ensures) ∙ k .before .n .given .1) in
+    let e : signed (a .x) ≡ digits (at-n .n .given .0 .0) = ap signed (sym (toZ-ofZ w32 (a .x) (k .before .before .before .before .before .fits .x))) ∙ signed-text _ ∙ ap text (sym (k .before .before .before .side .ensures) ∙ k .before .n .given .1) in
     let l = ap length e in
     let q = c .before .before .put-number .ensures in
     (omega arith, rw (e, q .1))
@@ -61,9 +63,11 @@ same-length-2 : tie.Need-same-length-2
 same-length-2 c = c .before .before .put-number2 .kept .0 ∙ simp length-set
 
 returns-2 : tie.Need-returns-2
-returns-2 c = let k = c .before .before .before .before in
+returns-2 c =
+    let at-n2 = c .before .before .before .before .before in
+    let k = c .before .before .before .before in
     let a = k .before .before .before .before .before .args in
-    let e : signed (a .x) ≡ 45 ∷ digits (c .before .before .before .before .before .n2 .given .0 .0) = ap signed (sym (toZ-ofZ w32 (a .x) (k .before .before .before .before .before .fits .x))) ∙ signed-text _ ∙ ap text (sym (k .before .before .before .side .ensures) ∙ k .before .n2 .given .1) in
+    let e : signed (a .x) ≡ 45 ∷ digits (at-n2 .n2 .given .0 .0) = ap signed (sym (toZ-ofZ w32 (a .x) (k .before .before .before .before .before .fits .x))) ∙ signed-text _ ∙ ap text (sym (k .before .before .before .side .ensures) ∙ k .before .n2 .given .1) in
     let l = ap length e in
     let q = c .before .before .put-number2 .ensures in
     (omega arith, rw (e, q .1) (written-cons (now (a .out)) (a .at) 45 (digits (k .before .n2 .given .0 .0)) (omega arith)))

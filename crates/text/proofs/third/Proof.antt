@@ -10,7 +10,9 @@ find-requires : tie.Need-find-requires
 find-requires c κs = search needs
 
 returns : tie.Need-returns
-returns c = let a = c .before .before .before .args in absurd (third-one (now (a .s)) (a .at) (a .end) (c .before .find .result) (omega arith) (omega arith) (c .before .find .ensures) (c .before .before .before .pre .2) (omega arith))
+returns c =
+    let start = c .before .before .before in
+    let a = start .args in absurd (third-one (now (a .s)) (a .at) (a .end) (c .before .find .result) (omega arith) (omega arith) (c .before .find .ensures) (start .pre .2) (omega arith))
 
 add-find : tie.Need-add-find
 add-find c = search needs
@@ -19,13 +21,19 @@ find-requires-2 : tie.Need-find-requires-2
 find-requires-2 c κs = search needs
 
 returns-2 : tie.Need-returns-2
-returns-2 c = let a = c .before .before .before .before .before .args in absurd (third-two (now (a .s)) (a .at) (a .end) (c .before .before .before .find .result) (omega arith) (omega arith) (c .before .before .before .find .ensures) (c .before .before .before .before .before .pre .2) (omega arith) (c .before .find2 .result) (c .before .find2 .ensures) (omega arith))
+returns-2 c =
+    let at-find = c .before .before .before in
+    let start = at-find .before .before in
+    let a = start .args in absurd (third-two (now (a .s)) (a .at) (a .end) (at-find .find .result) (omega arith) (omega arith) (at-find .find .ensures) (start .pre .2) (omega arith) (c .before .find2 .result) (c .before .find2 .ensures) (omega arith))
 
 add-result : tie.Need-add-result
 add-result c = search needs
 
 returns-3 : tie.Need-returns-3
-returns-3 c = let a = c .before .before .before .before .before .args in third-here (now (a .s)) (a .at) (a .end) (c .before .before .before .find .result) (omega arith) (omega arith) (c .before .before .before .find .ensures) (c .before .before .before .before .before .pre .2) (omega arith) (c .before .find2 .result) (c .before .find2 .ensures) (omega arith)
+returns-3 c =
+    let at-find = c .before .before .before in
+    let start = at-find .before .before in
+    let a = start .args in third-here (now (a .s)) (a .at) (a .end) (at-find .find .result) (omega arith) (omega arith) (at-find .find .ensures) (start .pre .2) (omega arith) (c .before .find2 .result) (c .before .find2 .ensures) (omega arith)
 
 pub third-spec : {M : Type 1} → statement M
 third-spec =

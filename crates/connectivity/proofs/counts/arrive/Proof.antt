@@ -4,8 +4,10 @@ use lib.ListN.{getD}
 use borrow.Author.Tests.{lt-ltb}
 use native.Mathlib.Omega.{arith}
 use denote.Ref.{now}
+use mathlib.Core.Path.{sym, ap, _∙_}
+use Rattle.laws.specs.Choice.{one}
 use borrow.Author.Needs.{needs}
-use Rattle.connectivity.specs.Law.{step-set}
+use Rattle.connectivity.specs.Law.{step-set, step-count}
 use Rattle.connectivity.proofs.counts.arrive.Statement.{statement}
 use Rattle.connectivity.proofs.counts.arrive.Tie as tie
 
@@ -21,17 +23,19 @@ mul-at c = search needs
 add-at : tie.Need-add-at
 add-at c = search needs
 
-mul-counts : tie.Need-mul-counts
-mul-counts c = search needs
+mul-had : tie.Need-mul-had
+mul-had c = omega arith
 
-slice-read-counts : tie.Need-slice-read-counts
-slice-read-counts c = search needs
+slice-read-had : tie.Need-slice-read-had
+slice-read-had c = omega arith
 
 add-counts : tie.Need-add-counts
-add-counts c = let S = c .before .before .before .before in omega (arith, S .pre .1 .1 .1 (omega arith))
+add-counts c =
+    let start = c .before .before .before .before in
+    let S = start in omega (arith, S .pre .1 .1 .1 .0 (omega arith))
 
-mul-counts-2 : tie.Need-mul-counts-2
-mul-counts-2 c = search needs
+mul-counts : tie.Need-mul-counts
+mul-counts c = search needs
 
 slice-write-counts : tie.Need-slice-write-counts
 slice-write-counts c = search needs
@@ -59,10 +63,21 @@ same-length-2 c = search needs
 
 returns-2 : tie.Need-returns-2
 returns-2 c =
-    let S = c .before .before .before .before .before .before in
+    let S = c .before .before .before .before .before .before .before in
     let v = getD (now (S .args .counts)) (16 * S .args .e + (S .args .b - 1)) 0 + 1 in
     step-set (S .args .e) (S .args .b) v (c .set-bit .result) (now (S .args .counts)) (now (S .args .visited)) (omega arith) (omega arith) (omega arith)
     (rw (lt-ltb 0 v (omega arith)) (c .set-bit .ensures))
+
+same-length-3 : tie.Need-same-length-3
+same-length-3 c = search needs
+
+returns-3 : tie.Need-returns-3
+returns-3 c =
+    let at-slice-known2 = c .before .before .before in
+    let S = c .before .before .before .before .before in
+    let v = getD (now (S .args .counts)) (16 * S .args .e + (S .args .b - 1)) 0 + 1 in
+    step-count (S .args .e) (S .args .b) v (now (S .args .counts)) (now (S .args .visited)) (omega arith) (omega arith) (at-slice-known2 .slice-known2 .given (S .args .e) .fits)
+    (S .pre .1 .1 .1 .1 (omega arith) ∙ ap one (lt-ltb 0 (getD (now (S .args .counts)) (16 * S .args .e + (S .args .b - 1)) 0) (omega (arith, c .if2 .left)) ∙ sym (lt-ltb 0 v (omega (arith, c .if2 .left)))))
 
 pub arrive-spec : {M : Type 1} → statement M
 arrive-spec =
@@ -72,10 +87,10 @@ arrive-spec =
     sub-s
     mul-at
     add-at
-    mul-counts
-    slice-read-counts
+    mul-had
+    slice-read-had
     add-counts
-    mul-counts-2
+    mul-counts
     slice-write-counts
     mul-set-bit
     slice-read-set-bit
@@ -84,4 +99,6 @@ arrive-spec =
     slice-write-visited
     same-length
     same-length-2
-    returns-2)
+    returns-2
+    same-length-3
+    returns-3)

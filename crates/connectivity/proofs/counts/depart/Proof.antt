@@ -4,8 +4,10 @@ use lib.ListN.{getD}
 use borrow.Author.Tests.{lt-ltb, le-ltb}
 use native.Mathlib.Omega.{arith}
 use denote.Ref.{now}
+use mathlib.Core.Path.{sym, ap, _∙_}
+use Rattle.laws.specs.Choice.{one}
 use borrow.Author.Needs.{needs}
-use Rattle.connectivity.specs.Law.{step-set}
+use Rattle.connectivity.specs.Law.{step-set, step-count}
 use Rattle.connectivity.proofs.counts.depart.Statement.{statement}
 use Rattle.connectivity.proofs.counts.depart.Tie as tie
 
@@ -21,14 +23,16 @@ mul-at c = search needs
 add-at : tie.Need-add-at
 add-at c = search needs
 
-mul-c : tie.Need-mul-c
-mul-c c = search needs
+mul-left : tie.Need-mul-left
+mul-left c = omega arith
 
-slice-read-c : tie.Need-slice-read-c
-slice-read-c c = search needs
+slice-read-left : tie.Need-slice-read-left
+slice-read-left c = omega arith
 
-sub-c : tie.Need-sub-c
-sub-c c = let S = c .before .before .before .before in omega (arith, S .pre .1 .1 .1 (omega arith))
+sub-left : tie.Need-sub-left
+sub-left c =
+    let start = c .before .before .before .before in
+    let S = start in omega (arith, S .pre .1 .1 .1 .0 (omega arith))
 
 mul-counts : tie.Need-mul-counts
 mul-counts c = search needs
@@ -51,21 +55,6 @@ mul-visited c = search needs
 slice-write-visited : tie.Need-slice-write-visited
 slice-write-visited c = search needs
 
-mul-set-bit : tie.Need-mul-set-bit
-mul-set-bit c = search needs
-
-slice-read-set-bit : tie.Need-slice-read-set-bit
-slice-read-set-bit c = search needs
-
-set-bit-requires : tie.Need-set-bit-requires
-set-bit-requires c κs = search needs
-
-mul-visited-2 : tie.Need-mul-visited-2
-mul-visited-2 c = search needs
-
-slice-write-visited-2 : tie.Need-slice-write-visited-2
-slice-write-visited-2 c = search needs
-
 same-length : tie.Need-same-length
 same-length c = search needs
 
@@ -82,15 +71,13 @@ returns-2 c =
 same-length-3 : tie.Need-same-length-3
 same-length-3 c = search needs
 
-same-length-4 : tie.Need-same-length-4
-same-length-4 c = search needs
-
 returns-3 : tie.Need-returns-3
 returns-3 c =
-    let S = c .before .before .before .before .before .before .before in
+    let at-slice-known2 = c .before .before .before in
+    let S = c .before .before .before .before .before in
     let v = getD (now (S .args .counts)) (16 * S .args .e + (S .args .a - 1)) 0 - 1 in
-    step-set (S .args .e) (S .args .a) v (c .set-bit .result) (now (S .args .counts)) (now (S .args .visited)) (omega arith) (omega arith) (omega arith)
-    (rw (lt-ltb 0 v (omega (arith, c .before .before .if2 .left))) (c .set-bit .ensures))
+    step-count (S .args .e) (S .args .a) v (now (S .args .counts)) (now (S .args .visited)) (omega arith) (omega arith) (at-slice-known2 .slice-known2 .given (S .args .e) .fits)
+    (S .pre .1 .1 .1 .1 (omega arith) ∙ ap one (lt-ltb 0 (getD (now (S .args .counts)) (16 * S .args .e + (S .args .a - 1)) 0) (omega (arith, c .if2 .left)) ∙ sym (lt-ltb 0 v (omega (arith, c .if2 .left)))))
 
 pub depart-spec : {M : Type 1} → statement M
 depart-spec =
@@ -100,9 +87,9 @@ depart-spec =
     sub-s
     mul-at
     add-at
-    mul-c
-    slice-read-c
-    sub-c
+    mul-left
+    slice-read-left
+    sub-left
     mul-counts
     slice-write-counts
     mul-clear-bit
@@ -110,14 +97,8 @@ depart-spec =
     clear-bit-requires
     mul-visited
     slice-write-visited
-    mul-set-bit
-    slice-read-set-bit
-    set-bit-requires
-    mul-visited-2
-    slice-write-visited-2
     same-length
     same-length-2
     returns-2
     same-length-3
-    same-length-4
     returns-3)

@@ -53,8 +53,9 @@ loop-less c = omega arith
 
 loop-again : tie.Need-loop-again Inv-loop μ-loop
 loop-again c =
+    let at-share-of = c .before .before .before in
     let I = c .before .before .before .before in
-    let s = c .before .before .before .share-of in
+    let s = at-share-of .share-of in
     (omega arith, raised-set (I .before .loop .inv .1) (omega arith) (read32 (s .result) (s .ok) ∙ s .ensures) (c .before .add-at .ensures))
 
 same-length : tie.Need-same-length Inv-loop μ-loop

@@ -37,11 +37,13 @@ unless-requires c κs = search needs
 
 returns : tie.Need-returns
 returns c =
+    let at-wide = c .before .before .before in
+    let at-when-none = at-wide .before in
     let S = c .before .before .before .before .before .before .before in
     let a = S .args in
     read32 _ (c .unless .ok) ∙ share-is (a .counts .now) (a .crow) (a .own) (a .w) (a .x) _ _ _ _ _ _
-    (S .pre .1) (c .before .before .before .before .when-none .ensures)
-    (read32 _ (c .before .before .before .wide .ok) ∙ c .before .before .before .wide .ensures)
+    (S .pre .1) (at-when-none .when-none .ensures)
+    (read32 _ (at-wide .wide .ok) ∙ at-wide .wide .ensures)
     (read32 _ (c .before .before .wide2 .ok) ∙ c .before .before .wide2 .ensures)
     (read32 _ (c .before .less .ok) ∙ c .before .less .ensures)
     (c .unless .ensures)

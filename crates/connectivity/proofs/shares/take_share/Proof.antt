@@ -54,8 +54,9 @@ loop-less c = omega arith
 
 loop-again : tie.Need-loop-again Inv-loop μ-loop
 loop-again c =
+    let at-share-of = c .before .before .before in
     let I = c .before .before .before .before in
-    let s = c .before .before .before .share-of in
+    let s = at-share-of .share-of in
     (omega arith, raised-set (I .before .loop .inv .1) (omega arith) (ap negℤ (read32 (s .result) (s .ok) ∙ s .ensures)) (c .before .sub-at .ensures))
 
 same-length : tie.Need-same-length Inv-loop μ-loop

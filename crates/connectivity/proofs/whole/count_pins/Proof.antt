@@ -3,7 +3,7 @@ use Prim.Native.Nat.{_≤_, _-_}
 use native.Mathlib.Omega.{arith}
 use borrow.Author.Needs.{needs}
 use Rattle.connectivity.specs.Laid.{pin-range, pin-block}
-use Rattle.connectivity.specs.Whole.{CountedPins, count-none, count-all, count-room, count-more}
+use Rattle.connectivity.specs.Whole.{CountedPins, count-none, count-all, count-room, count-shows, count-more}
 use Rattle.connectivity.proofs.whole.count_pins.Statement.{statement}
 use Rattle.connectivity.proofs.whole.count_pins.Tie as tie
 
@@ -14,16 +14,22 @@ abbrev μ-loop : tie.MeasureT-loop
 μ-loop counts₀ visited₀ pins blocks n m k first p e i₀ counts visited i = p - i
 
 loop-holds : tie.Need-loop-holds Inv-loop μ-loop
-loop-holds c = (omega arith, count-none (c .before .before .before .before .pre))
+loop-holds c =
+    let start = c .before .before .before .before in
+    (omega arith, count-none (start .pre))
 
 add-index : tie.Need-add-index Inv-loop μ-loop
-add-index c = omega (arith, c .before .before .before .before .before .before .pre .net .pins-fit)
+add-index c =
+    let start = c .before .before .before .before .before .before in
+    omega (arith, start .pre .net .pins-fit)
 
 mul-index : tie.Need-mul-index Inv-loop μ-loop
 mul-index c = omega arith
 
 shared-slice-read-index : tie.Need-shared-slice-read-index Inv-loop μ-loop
-shared-slice-read-index c = omega (arith, c .before .before .before .before .before .before .before .pre .net .pins-fit)
+shared-slice-read-index c =
+    let start = c .before .before .before .before .before .before .before in
+    omega (arith, start .pre .net .pins-fit)
 
 index-requires : tie.Need-index-requires Inv-loop μ-loop
 index-requires c κs = search needs
@@ -62,7 +68,10 @@ arrive-requires c κs =
         omega (arith, start .pre .masks-fit, start .pre .e-in, at-loop .loop .inv .1 .kept .masks-len),
         (
           omega (arith, start .pre .few, pin-block (start .pre .net) (at-loop-test .loop-test .taken) (at-index .index .ensures) (at-index2 .index2 .ensures)),
-          count-room (start .pre) (at-loop-test .loop-test .taken) (at-loop .loop .inv .1) (at-index .index .ensures) (at-index2 .index2 .ensures),
+          (
+            count-room (start .pre) (at-loop-test .loop-test .taken) (at-loop .loop .inv .1) (at-index .index .ensures) (at-index2 .index2 .ensures),
+            count-shows (start .pre) (at-loop-test .loop-test .taken) (at-loop .loop .inv .1) (at-index .index .ensures) (at-index2 .index2 .ensures),
+          ),
         ),
       ),
     )
@@ -90,7 +99,9 @@ same-length-2 : tie.Need-same-length-2 Inv-loop μ-loop
 same-length-2 c = c .before .loop .inv .1 .kept .masks-len
 
 returns : tie.Need-returns Inv-loop μ-loop
-returns c = count-all (c .before .before .before .before .before .before .pre) (omega arith) (c .before .loop .inv .1)
+returns c =
+    let start = c .before .before .before .before .before .before in
+    count-all (start .pre) (omega arith) (c .before .loop .inv .1)
 
 pub count-pins-spec : {M : Type 1} → statement M
 count-pins-spec =

@@ -16,16 +16,22 @@ abbrev μ-loop : tie.MeasureT-loop
 μ-loop gains₀ counts pins blocks n k first p e w i₀ gains i = p - i
 
 loop-holds : tie.Need-loop-holds Inv-loop μ-loop
-loop-holds c = (omega arith, share-none (c .before .before .before .pre))
+loop-holds c =
+    let start = c .before .before .before in
+    (omega arith, share-none (start .pre))
 
 add-index : tie.Need-add-index Inv-loop μ-loop
-add-index c = omega (arith, c .before .before .before .before .before .pre .net .pins-fit)
+add-index c =
+    let start = c .before .before .before .before .before in
+    omega (arith, start .pre .net .pins-fit)
 
 mul-index : tie.Need-mul-index Inv-loop μ-loop
 mul-index c = omega arith
 
 shared-slice-read-index : tie.Need-shared-slice-read-index Inv-loop μ-loop
-shared-slice-read-index c = omega (arith, c .before .before .before .before .before .before .pre .net .pins-fit)
+shared-slice-read-index c =
+    let start = c .before .before .before .before .before .before in
+    omega (arith, start .pre .net .pins-fit)
 
 index-requires : tie.Need-index-requires Inv-loop μ-loop
 index-requires c κs = search needs
@@ -91,7 +97,9 @@ same-length : tie.Need-same-length Inv-loop μ-loop
 same-length c = c .before .loop .inv .1 .len
 
 returns : tie.Need-returns Inv-loop μ-loop
-returns c = share-all (c .before .before .before .before .before .pre) (omega arith) (c .before .loop .inv .1)
+returns c =
+    let start = c .before .before .before .before .before in
+    share-all (start .pre) (omega arith) (c .before .loop .inv .1)
 
 pub share-pins-spec : {M : Type 1} → statement M
 share-pins-spec =

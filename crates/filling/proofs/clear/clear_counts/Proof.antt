@@ -16,25 +16,37 @@ loop-holds : tie.Need-loop-holds Inv-loop μ-loop
 loop-holds c = (omega arith, rows-none _ _ _)
 
 mul-clear-row : tie.Need-mul-clear-row Inv-loop μ-loop
-mul-clear-row c = omega (arith, c .before .before .before .before .pre, c .before .loop-test .taken)
+mul-clear-row c =
+    let start = c .before .before .before .before in
+    omega (arith, start .pre, c .before .loop-test .taken)
 
 clear-row-requires : tie.Need-clear-row-requires Inv-loop μ-loop
-clear-row-requires c κs = omega (arith, c .before .before .before .before .pre, c .before .before .loop .inv .1 .len, c .before .loop-test .taken)
+clear-row-requires c κs =
+    let start = c .before .before .before .before in
+    omega (arith, start .pre, c .before .before .loop .inv .1 .len, c .before .loop-test .taken)
 
 add-e : tie.Need-add-e Inv-loop μ-loop
 add-e c = omega arith
 
 loop-less : tie.Need-loop-less Inv-loop μ-loop
-loop-less c = omega (arith, c .before .before .before .before .loop-test .taken)
+loop-less c =
+    let at-loop-test = c .before .before .before .before in
+    omega (arith, at-loop-test .loop-test .taken)
 
 loop-again : tie.Need-loop-again Inv-loop μ-loop
-loop-again c = (omega (arith, c .before .before .before .before .loop-test .taken), rows-more 0 (c .before .before .before .before .before .loop .e) (c .before .before .before .before .before .before .before .args .k) (c .before .before .before .before .before .before .before .pre .1) (c .before .before .before .before .before .loop .inv .1) (c .before .before .clear-row .ensures))
+loop-again c =
+    let at-loop-test = c .before .before .before .before in
+    let at-loop = at-loop-test .before in
+    let start = at-loop .before .before in
+    (omega (arith, at-loop-test .loop-test .taken), rows-more 0 (at-loop .loop .e) (start .args .k) (start .pre .1) (at-loop .loop .inv .1) (c .before .before .clear-row .ensures))
 
 same-length : tie.Need-same-length Inv-loop μ-loop
 same-length c = c .before .loop .inv .1 .len
 
 returns : tie.Need-returns Inv-loop μ-loop
-returns c = let q : c .before .loop .e ≡ c .before .before .before .args .m = omega arith in rw q at (c .before .loop .inv .1)
+returns c =
+    let start = c .before .before .before in
+    let q : c .before .loop .e ≡ start .args .m = omega arith in rw q at (c .before .loop .inv .1)
 
 pub clear-counts-spec : {M : Type 1} → statement M
 clear-counts-spec =

@@ -17,19 +17,29 @@ loop-holds : tie.Need-loop-holds Inv-loop μ-loop
 loop-holds c = (omega arith, rows-none _ _ _)
 
 mul-clear-gain-row : tie.Need-mul-clear-gain-row Inv-loop μ-loop
-mul-clear-gain-row c = omega (arith, c .before .before .before .pre, c .before .loop-test .taken)
+mul-clear-gain-row c =
+    let start = c .before .before .before in
+    omega (arith, start .pre, c .before .loop-test .taken)
 
 clear-gain-row-requires : tie.Need-clear-gain-row-requires Inv-loop μ-loop
-clear-gain-row-requires c κs = omega (arith, c .before .before .before .pre, c .before .before .loop .inv .1 .len, c .before .loop-test .taken)
+clear-gain-row-requires c κs =
+    let start = c .before .before .before in
+    omega (arith, start .pre, c .before .before .loop .inv .1 .len, c .before .loop-test .taken)
 
 add-y : tie.Need-add-y Inv-loop μ-loop
 add-y c = omega arith
 
 loop-less : tie.Need-loop-less Inv-loop μ-loop
-loop-less c = omega (arith, c .before .before .before .loop-test .taken)
+loop-less c =
+    let at-loop-test = c .before .before .before in
+    omega (arith, at-loop-test .loop-test .taken)
 
 loop-again : tie.Need-loop-again Inv-loop μ-loop
-loop-again c = (omega (arith, c .before .before .before .loop-test .taken), rows-more (pos 0) (c .before .before .before .before .loop .y) (c .before .before .before .before .before .args .k) (c .before .before .before .before .before .pre .1) (c .before .before .before .before .loop .inv .1) (c .before .clear-gain-row .ensures))
+loop-again c =
+    let at-loop-test = c .before .before .before in
+    let at-loop = at-loop-test .before in
+    let start = at-loop .before in
+    (omega (arith, at-loop-test .loop-test .taken), rows-more (pos 0) (at-loop .loop .y) (start .args .k) (start .pre .1) (at-loop .loop .inv .1) (c .before .clear-gain-row .ensures))
 
 same-length : tie.Need-same-length Inv-loop μ-loop
 same-length c = c .before .loop .inv .1 .len

@@ -33,11 +33,13 @@ number-requires-2 c κs = search needs
 
 relink-requires : tie.Need-relink-requires
 relink-requires c κs =
-    let S = c .before .before .before .before .before .before .before .before .before .before .before .before .before .before .before .before .before .before .before .before .before .before in (
+    let at-is-pin = c .before .before .before in
+    let start = at-is-pin .before .before .before .before .before .before .before .before .before .before .before .before .before .before .before .before .before .before .before in
+    let S = start in (
       S .pre .net .pins-fit,
       (
         λ q. S .pre .two (omega (arith, c .before .number .ensures, c .number2 .ensures)),
-        (distinct (S .pre), (in-v (S .pre) (c .number2 .ensures), rw (c .before .number .ensures) (c .before .before .before .is-pin .ensures ∙ both (S .pre) ∙ has-occ _ _ _ (S .args .u)))),
+        (distinct (S .pre), (in-v (S .pre) (c .number2 .ensures), rw (c .before .number .ensures) (at-is-pin .is-pin .ensures ∙ both (S .pre) ∙ has-occ _ _ _ (S .args .u)))),
       ),
     )
 
@@ -55,15 +57,26 @@ same-length-4 c = search needs
 
 returns : tie.Need-returns
 returns c =
+    let at-relink = c .before .before .before in
+    let at-number2 = at-relink .before in
+    let at-number = at-number2 .before in
+    let at-set-pin = at-number .before .before .before .before .before .before .before .before in
+    let at-index = at-set-pin .before .before .before .before .before in
     let S = c .before .before .before .before .before .before .before .before .before .before .before .before .before .before .before .before .before .before .before .before .before .before .before .before .before .before in
-    let link = linked-of (S .args .u) (S .args .v) (c .before .before .before .before .before .number .ensures) (c .before .before .before .before .number2 .ensures) (c .before .before .before .relink .ensures) in
-    contract-both (S .pre) (c .before .before .before .before .before .before .before .before .before .before .before .before .before .before .before .before .before .before .index .ensures) (c .before .before .before .before .before .before .before .before .before .before .before .before .before .set-pin .ensures) link (omega arith) (linked-le (c .before .before .before .relink .ensures)) (was-pin (S .args .u) link (c .if1 .taken))
+    let link = linked-of (S .args .u) (S .args .v) (at-number .number .ensures) (at-number2 .number2 .ensures) (at-relink .relink .ensures) in
+    contract-both (S .pre) (at-index .index .ensures) (at-set-pin .set-pin .ensures) link (omega arith) (linked-le (at-relink .relink .ensures)) (was-pin (S .args .u) link (c .if1 .taken))
 
 set-pin-requires-2 : tie.Need-set-pin-requires-2
 set-pin-requires-2 c κs =
+    let at-if1 = c .before .before .before .before in
+    let at-relink = at-if1 .before .before .before in
+    let at-number2 = at-relink .before in
+    let at-number = at-number2 .before in
+    let at-set-pin = at-number .before .before .before .before .before .before .before .before in
+    let at-index = at-set-pin .before .before .before .before .before in
     let S = c .before .before .before .before .before .before .before .before .before .before .before .before .before .before .before .before .before .before .before .before .before .before .before .before .before .before .before .before .before .before in
-    let link = linked-of (S .args .u) (S .args .v) (c .before .before .before .before .before .before .before .before .before .number .ensures) (c .before .before .before .before .before .before .before .before .number2 .ensures) (c .before .before .before .before .before .before .before .relink .ensures) in
-    contract-sets-2 (S .pre) (c .before .before .before .before .before .before .before .before .before .before .before .before .before .before .before .before .before .before .before .before .before .before .index .ensures) (c .before .before .before .before .before .before .before .before .before .before .before .before .before .before .before .before .before .set-pin .ensures) link (omega arith) (linked-le (c .before .before .before .before .before .before .before .relink .ensures)) (was-none (S .args .u) link (c .before .before .before .before .if1 .left))
+    let link = linked-of (S .args .u) (S .args .v) (at-number .number .ensures) (at-number2 .number2 .ensures) (at-relink .relink .ensures) in
+    contract-sets-2 (S .pre) (at-index .index .ensures) (at-set-pin .set-pin .ensures) link (omega arith) (linked-le (at-relink .relink .ensures)) (was-none (S .args .u) link (at-if1 .if1 .left))
 
 same-length-5 : tie.Need-same-length-5
 same-length-5 c = search needs
@@ -79,9 +92,16 @@ same-length-8 c = search needs
 
 returns-2 : tie.Need-returns-2
 returns-2 c =
+    let at-set-pin2 = c .before .before .before .before .before in
+    let at-if1 = at-set-pin2 .before .before .before .before .before in
+    let at-relink = at-if1 .before .before .before in
+    let at-number2 = at-relink .before in
+    let at-number = at-number2 .before in
+    let at-set-pin = at-number .before .before .before .before .before .before .before .before in
+    let at-index = at-set-pin .before .before .before .before .before in
     let S = c .before .before .before .before .before .before .before .before .before .before .before .before .before .before .before .before .before .before .before .before .before .before .before .before .before .before .before .before .before .before .before .before .before .before .before .before in
-    let link = linked-of (S .args .u) (S .args .v) (c .before .before .before .before .before .before .before .before .before .before .before .before .before .before .before .number .ensures) (c .before .before .before .before .before .before .before .before .before .before .before .before .before .before .number2 .ensures) (c .before .before .before .before .before .before .before .before .before .before .before .before .before .relink .ensures) in
-    contract-new (S .pre) (c .before .before .before .before .before .before .before .before .before .before .before .before .before .before .before .before .before .before .before .before .before .before .before .before .before .before .before .before .index .ensures) (c .before .before .before .before .before .before .before .before .before .before .before .before .before .before .before .before .before .before .before .before .before .before .before .set-pin .ensures) link (omega arith) (linked-le (c .before .before .before .before .before .before .before .before .before .before .before .before .before .relink .ensures)) (was-none (S .args .u) link (c .before .before .before .before .before .before .before .before .before .before .if1 .left)) (c .before .before .before .before .before .set-pin2 .ensures)
+    let link = linked-of (S .args .u) (S .args .v) (at-number .number .ensures) (at-number2 .number2 .ensures) (at-relink .relink .ensures) in
+    contract-new (S .pre) (at-index .index .ensures) (at-set-pin .set-pin .ensures) link (omega arith) (linked-le (at-relink .relink .ensures)) (was-none (S .args .u) link (at-if1 .if1 .left)) (at-set-pin2 .set-pin2 .ensures)
 
 pub contract-net-spec : {M : Type 1} → statement M
 contract-net-spec =

@@ -42,11 +42,19 @@ same-length-5 c = search needs
 
 returns : tie.Need-returns
 returns c =
-    split-both (c .before .before .before .before .before .before .before .before .before .before .before .before .before .before .before .before .before .before .before .before .before .before .before .before .before .before .pre) (c .before .before .before .before .before .before .before .before .before .before .before .before .before .before .before .before .before .before .index .ensures) (c .before .before .before .before .before .before .before .before .before .before .before .before .before .set-pin .ensures) (c .before .before .before .before .before .uncontract-net .ensures) (omega arith)
+    let at-uncontract-net = c .before .before .before .before .before in
+    let at-set-pin = at-uncontract-net .before .before .before .before .before .before .before .before in
+    let at-index = at-set-pin .before .before .before .before .before in
+    let start = at-index .before .before .before .before .before .before .before .before in
+    split-both (start .pre) (at-index .index .ensures) (at-set-pin .set-pin .ensures) (at-uncontract-net .uncontract-net .ensures) (omega arith)
 
 set-pin-requires-2 : tie.Need-set-pin-requires-2
 set-pin-requires-2 c κs =
-    split-sets-2 (c .before .before .before .before .before .before .before .before .before .before .before .before .before .before .before .before .before .before .before .before .before .before .before .before .before .before .before .before .before .before .pre) (c .before .before .before .before .before .before .before .before .before .before .before .before .before .before .before .before .before .before .before .before .before .before .index .ensures) (c .before .before .before .before .before .before .before .before .before .before .before .before .before .before .before .before .before .set-pin .ensures) (c .before .before .before .before .before .before .before .before .before .uncontract-net .ensures) (omega arith)
+    let at-uncontract-net = c .before .before .before .before .before .before .before .before .before in
+    let at-set-pin = at-uncontract-net .before .before .before .before .before .before .before .before in
+    let at-index = at-set-pin .before .before .before .before .before in
+    let start = at-index .before .before .before .before .before .before .before .before in
+    split-sets-2 (start .pre) (at-index .index .ensures) (at-set-pin .set-pin .ensures) (at-uncontract-net .uncontract-net .ensures) (omega arith)
 
 same-length-6 : tie.Need-same-length-6
 same-length-6 c = search needs

@@ -28,8 +28,10 @@ slice-aggregate-put-tail c = search needs
 
 put-tail-requires : tie.Need-put-tail-requires
 put-tail-requires c κs =
-    let e : signed (toZ w32 (ofZ w32 (c .before .before .before .before .before .before .before .args .gain))) ≡ signed (c .before .before .before .before .before .before .before .args .gain) = ap signed (toZ-ofZ w32 (c .before .before .before .before .before .before .before .args .gain) (c .before .before .before .before .before .before .before .fits .gain)) in
-    omega (arith, move-length (c .before .before .before .before .before .before .before .args .gain) (c .before .before .before .before .before .before .before .args .total), ap length e, c .before .before .before .before .put-signed-field .ensures .ends, c .before .before .before .before .put-signed-field .kept .0, length-set (now (c .before .before .before .before .before .before .before .args .out)) (c .before .before .before .before .before .before .before .args .at) 77)
+    let at-put-signed-field = c .before .before .before .before in
+    let start = at-put-signed-field .before .before .before in
+    let e : signed (toZ w32 (ofZ w32 (start .args .gain))) ≡ signed (start .args .gain) = ap signed (toZ-ofZ w32 (start .args .gain) (start .fits .gain)) in
+    omega (arith, move-length (start .args .gain) (start .args .total), ap length e, at-put-signed-field .put-signed-field .ensures .ends, at-put-signed-field .put-signed-field .kept .0, length-set (now (start .args .out)) (start .args .at) 77)
 
 same-length : tie.Need-same-length
 same-length c =
@@ -38,9 +40,11 @@ same-length c =
 
 returns : tie.Need-returns
 returns c =
-    let e : signed (toZ w32 (ofZ w32 (c .before .before .before .before .before .before .before .before .before .before .args .gain))) ≡ signed (c .before .before .before .before .before .before .before .before .before .before .args .gain) = ap signed (toZ-ofZ w32 (c .before .before .before .before .before .before .before .before .before .before .args .gain) (c .before .before .before .before .before .before .before .before .before .before .fits .gain)) in
-    let gain = rw e at (c .before .before .before .before .before .before .before .put-signed-field .ensures) in
-    rw (move-row (c .before .before .before .before .before .before .before .before .before .before .args .gain) (c .before .before .before .before .before .before .before .before .before .before .args .total)) (wrote-cons (omega (arith, move-length (c .before .before .before .before .before .before .before .before .before .before .args .gain) (c .before .before .before .before .before .before .before .before .before .before .args .total))) (wrote-append (simp length-set (omega (arith, move-length (c .before .before .before .before .before .before .before .before .before .before .args .gain) (c .before .before .before .before .before .before .before .before .before .before .args .total)))) gain (c .before .before .put-tail .ensures)))
+    let at-put-signed-field = c .before .before .before .before .before .before .before in
+    let start = at-put-signed-field .before .before .before in
+    let e : signed (toZ w32 (ofZ w32 (start .args .gain))) ≡ signed (start .args .gain) = ap signed (toZ-ofZ w32 (start .args .gain) (start .fits .gain)) in
+    let gain = rw e at (at-put-signed-field .put-signed-field .ensures) in
+    rw (move-row (start .args .gain) (start .args .total)) (wrote-cons (omega (arith, move-length (start .args .gain) (start .args .total))) (wrote-append (simp length-set (omega (arith, move-length (start .args .gain) (start .args .total)))) gain (c .before .before .put-tail .ensures)))
 
 pub put-move-spec : {M : Type 1} → statement M
 put-move-spec =

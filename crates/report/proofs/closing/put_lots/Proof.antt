@@ -14,43 +14,56 @@ use Rattle.report.proofs.closing.put_lots.Statement.{statement}
 use Rattle.report.proofs.closing.put_lots.Tie as tie
 
 abbrev Inv-loop : tie.InvT-loop
-Inv-loop out₀ at blocks aboves n depth p₀ i₀ out p i = (i ≤ n) × (length out ≡ length out₀) × ((h : Hypergraph) (s : State) → Vertices h s blocks aboves n depth → Wrote out₀ out at (lotsTo h s i) p)
+Inv-loop out₀ at blocks aboves gone n depth p₀ i₀ out p i = (i ≤ n) × (length out ≡ length out₀) × ((h : Hypergraph) (s : State) → Vertices h s blocks aboves gone n depth → Wrote out₀ out at (lotsTo h s i) p)
 
 abbrev μ-loop : tie.MeasureT-loop
-μ-loop out₀ at blocks aboves n depth p₀ i₀ out p i = n - i
+μ-loop out₀ at blocks aboves gone n depth p₀ i₀ out p i = n - i
 
 loop-holds : tie.Need-loop-holds Inv-loop μ-loop
-loop-holds c = (omega arith, search needs, λ h s t. lots-none h s (now (c .before .before .before .args .out)) (c .before .before .before .args .at))
+loop-holds c =
+    let start = c .before .before .before in
+    (omega arith, search needs, λ h s t. lots-none h s (now (start .args .out)) (start .args .at))
 
 add-block-of : tie.Need-add-block-of Inv-loop μ-loop
-add-block-of c = omega (arith, c .before .before .before .before .before .pre .shown .few)
+add-block-of c =
+    let start = c .before .before .before .before .before in
+    omega (arith, start .pre .shown .few)
 
 block-of-requires : tie.Need-block-of-requires Inv-loop μ-loop
-block-of-requires c κs = let k = c .before .before .before .before .before .pre in record { h = k .h; s = k .s; n = c .before .before .before .before .before .args .n; shown = k .shown; low = omega arith; high = omega arith }
+block-of-requires c κs =
+    let start = c .before .before .before .before .before in
+    let k = start .pre in record { h = k .h; s = k .s; n = start .args .n; shown = k .shown; low = omega arith; high = omega arith }
 
 put-lot-requires : tie.Need-put-lot-requires Inv-loop μ-loop
 put-lot-requires c κs =
+    let at-loop = c .before .before .before in
+    let start = at-loop .before .before .before .before in
     let k = c .before .before .before .before .before .before .before .pre in
-    let i : ℕ = c .before .before .before .loop .i in
-    let w = c .before .before .before .loop .inv .2 (k .h) (k .s) (k .shown) in
-    let more = lots-room (k .h) (k .s) i (c .before .block-of .result) (omega (arith, k .shown .all)) (c .before .block-of .ensures (k .h) (k .s) (c .before .before .before .before .before .before .before .args .n) (k .shown) (omega arith)) in
-    (omega (arith, k .shown .few), omega (arith, w .ends, k .fits, c .before .before .before .loop .inv .1))
+    let i : ℕ = at-loop .loop .i in
+    let w = at-loop .loop .inv .2 (k .h) (k .s) (k .shown) in
+    let more = lots-room (k .h) (k .s) i (c .before .block-of .result) (omega (arith, k .shown .all)) (c .before .block-of .ensures (k .h) (k .s) (start .args .n) (k .shown) (omega arith)) in
+    (omega (arith, k .shown .few), omega (arith, w .ends, k .fits, at-loop .loop .inv .1))
 
 add-i : tie.Need-add-i Inv-loop μ-loop
-add-i c = omega (arith, c .before .before .before .before .before .before .before .before .before .before .pre .shown .few)
+add-i c =
+    let start = c .before .before .before .before .before .before .before .before .before .before in
+    omega (arith, start .pre .shown .few)
 
 loop-less : tie.Need-loop-less Inv-loop μ-loop
 loop-less c = omega arith
 
 loop-again : tie.Need-loop-again Inv-loop μ-loop
 loop-again c =
+    let at-block-of = c .before .before .before .before in
+    let at-loop = at-block-of .before .before in
+    let start = at-loop .before .before .before .before in
     let k = c .before .before .before .before .before .before .before .before .before .before .pre in
-    let i : ℕ = c .before .before .before .before .before .before .loop .i in
-    let w = c .before .before .before .before .before .before .loop .inv .2 (k .h) (k .s) (k .shown) in
-    let more = lots-room (k .h) (k .s) i (c .before .before .before .before .block-of .result) (omega (arith, k .shown .all)) (c .before .before .before .before .block-of .ensures (k .h) (k .s) (c .before .before .before .before .before .before .before .before .before .before .args .n) (k .shown) (omega arith)) in (
+    let i : ℕ = at-loop .loop .i in
+    let w = at-loop .loop .inv .2 (k .h) (k .s) (k .shown) in
+    let more = lots-room (k .h) (k .s) i (at-block-of .block-of .result) (omega (arith, k .shown .all)) (at-block-of .block-of .ensures (k .h) (k .s) (start .args .n) (k .shown) (omega arith)) in (
       omega arith,
-      c .before .before .put-lot .kept .0 ∙ c .before .before .before .before .before .before .loop .inv .1,
-      λ h s t. lots-more h s i (c .before .before .before .before .block-of .result) (c .before .before .before .before .block-of .ensures h s (c .before .before .before .before .before .before .before .before .before .before .args .n) t (omega arith)) (omega (arith, w .ends, k .fits)) (c .before .before .before .before .before .before .loop .inv .2 h s t) (c .before .before .put-lot .ensures),
+      c .before .before .put-lot .kept .0 ∙ at-loop .loop .inv .1,
+      λ h s t. lots-more h s i (at-block-of .block-of .result) (at-block-of .block-of .ensures h s (start .args .n) t (omega arith)) (omega (arith, w .ends, k .fits)) (at-loop .loop .inv .2 h s t) (c .before .before .put-lot .ensures),
     )
 
 same-length : tie.Need-same-length Inv-loop μ-loop

@@ -25,19 +25,25 @@ loop-holds : tie.Need-loop-holds Inv-loop μ-loop
 loop-holds c = (omega arith, search needs, λ h s t. nets-none h s (now (c .before .before .args .out)) (c .before .before .args .at))
 
 mul-put-net : tie.Need-mul-put-net Inv-loop μ-loop
-mul-put-net c = omega (arith, c .before .before .before .before .before .pre .shown .fits)
+mul-put-net c =
+    let start = c .before .before .before .before .before in
+    omega (arith, start .pre .shown .fits)
 
 shared-slice-read-put-net : tie.Need-shared-slice-read-put-net Inv-loop μ-loop
-shared-slice-read-put-net c = omega (arith, c .before .before .before .before .before .before .pre .shown .fits)
+shared-slice-read-put-net c =
+    let start = c .before .before .before .before .before .before in
+    omega (arith, start .pre .shown .fits)
 
 put-net-requires : tie.Need-put-net-requires Inv-loop μ-loop
 put-net-requires c κs =
+    let at-loop = c .before .before .before in
+    let start = at-loop .before .before .before in
     let k = c .before .before .before .before .before .before .pre in
-    let i : ℕ = c .before .before .before .loop .i in
-    let bits : ℕ = sum 16 (bit (getD (now (c .before .before .before .before .before .before .args .visited)) i 0)) in
-    let w = c .before .before .before .loop .inv .2 (k .h) (k .s) (k .shown) in
+    let i : ℕ = at-loop .loop .i in
+    let bits : ℕ = sum 16 (bit (getD (now (start .args .visited)) i 0)) in
+    let w = at-loop .loop .inv .2 (k .h) (k .s) (k .shown) in
     let more = nets-room (k .h) (k .s) i bits (omega (arith, k .shown .all)) (k .shown .counts i (omega arith)) in
-    (omega (arith, k .shown .few), omega (arith, w .ends, k .fits, c .before .before .before .loop .inv .1))
+    (omega (arith, k .shown .few), omega (arith, w .ends, k .fits, at-loop .loop .inv .1))
 
 add-i : tie.Need-add-i Inv-loop μ-loop
 add-i c = omega arith
@@ -47,14 +53,16 @@ loop-less c = omega arith
 
 loop-again : tie.Need-loop-again Inv-loop μ-loop
 loop-again c =
+    let at-loop = c .before .before .before .before .before .before in
+    let start = at-loop .before .before .before in
     let k = c .before .before .before .before .before .before .before .before .before .pre in
-    let i : ℕ = c .before .before .before .before .before .before .loop .i in
-    let bits : ℕ = sum 16 (bit (getD (now (c .before .before .before .before .before .before .before .before .before .args .visited)) i 0)) in
-    let w = c .before .before .before .before .before .before .loop .inv .2 (k .h) (k .s) (k .shown) in
+    let i : ℕ = at-loop .loop .i in
+    let bits : ℕ = sum 16 (bit (getD (now (start .args .visited)) i 0)) in
+    let w = at-loop .loop .inv .2 (k .h) (k .s) (k .shown) in
     let more = nets-room (k .h) (k .s) i bits (omega (arith, k .shown .all)) (k .shown .counts i (omega arith)) in (
       omega arith,
-      c .before .before .put-net .kept .0 ∙ c .before .before .before .before .before .before .loop .inv .1,
-      λ h s t. nets-more h s i bits (omega (arith, t .all)) (t .counts i (omega arith)) (omega (arith, w .ends, k .fits)) (c .before .before .before .before .before .before .loop .inv .2 h s t) (c .before .before .put-net .ensures),
+      c .before .before .put-net .kept .0 ∙ at-loop .loop .inv .1,
+      λ h s t. nets-more h s i bits (omega (arith, t .all)) (t .counts i (omega arith)) (omega (arith, w .ends, k .fits)) (at-loop .loop .inv .2 h s t) (c .before .before .put-net .ensures),
     )
 
 same-length : tie.Need-same-length Inv-loop μ-loop

@@ -25,7 +25,8 @@ same-length c = c .before .before .put-signed .kept .0 ∙ simp length-set
 
 returns : tie.Need-returns
 returns c =
-    let e : signed (toZ w32 (ofZ w32 (c .before .before .before .before .before .args .x))) ≡ signed (c .before .before .before .before .before .args .x) = ap signed (toZ-ofZ w32 (c .before .before .before .before .before .args .x) (c .before .before .before .before .before .fits .x)) in
+    let start = c .before .before .before .before .before in
+    let e : signed (toZ w32 (ofZ w32 (start .args .x))) ≡ signed (start .args .x) = ap signed (toZ-ofZ w32 (start .args .x) (start .fits .x)) in
     rw (sym e) (wrote-cons (omega arith) (record { ends = c .before .before .put-signed .ensures .0; is = c .before .before .put-signed .ensures .1 }))
 
 pub put-signed-field-spec : {M : Type 1} → statement M

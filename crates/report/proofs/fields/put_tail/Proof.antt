@@ -26,7 +26,10 @@ shared-slice-read-put-field : tie.Need-shared-slice-read-put-field Inv-loop μ-l
 shared-slice-read-put-field c = omega arith
 
 put-field-requires : tie.Need-put-field-requires Inv-loop μ-loop
-put-field-requires c κs = omega (arith, fields-room (now (c .before .before .before .before .before .before .args .xs)) (c .before .before .before .loop .i) (omega arith))
+put-field-requires c κs =
+    let at-loop = c .before .before .before in
+    let start = at-loop .before .before .before in
+    omega (arith, fields-room (now (start .args .xs)) (at-loop .loop .i) (omega arith))
 
 add-i : tie.Need-add-i Inv-loop μ-loop
 add-i c = omega arith
@@ -35,23 +38,31 @@ loop-less : tie.Need-loop-less Inv-loop μ-loop
 loop-less c = omega arith
 
 loop-again : tie.Need-loop-again Inv-loop μ-loop
-loop-again c = (
-  omega arith,
-  c .before .before .put-field .kept .0 ∙ c .before .before .before .before .before .before .loop .inv .1,
-  fields-more (now (c .before .before .before .before .before .before .before .before .before .args .xs)) (c .before .before .before .before .before .before .loop .i) (omega arith) (omega arith) (c .before .before .before .before .before .before .loop .inv .2) (c .before .before .put-field .ensures),
-)
+loop-again c =
+    let at-loop = c .before .before .before .before .before .before in
+    let start = at-loop .before .before .before in (
+      omega arith,
+      c .before .before .put-field .kept .0 ∙ at-loop .loop .inv .1,
+      fields-more (now (start .args .xs)) (at-loop .loop .i) (omega arith) (omega arith) (at-loop .loop .inv .2) (c .before .before .put-field .ensures),
+    )
 
 slice-write-out : tie.Need-slice-write-out Inv-loop μ-loop
-slice-write-out c = omega (arith, fields-last (now (c .before .before .before .before .args .xs)) (c .before .loop .i) (omega arith) (omega arith) (c .before .loop .inv .2))
+slice-write-out c =
+    let start = c .before .before .before .before in
+    omega (arith, fields-last (now (start .args .xs)) (c .before .loop .i) (omega arith) (omega arith) (c .before .loop .inv .2))
 
 add-result : tie.Need-add-result Inv-loop μ-loop
-add-result c = omega (arith, fields-last (now (c .before .before .before .before .args .xs)) (c .before .loop .i) (omega arith) (omega arith) (c .before .loop .inv .2))
+add-result c =
+    let start = c .before .before .before .before in
+    omega (arith, fields-last (now (start .args .xs)) (c .before .loop .i) (omega arith) (omega arith) (c .before .loop .inv .2))
 
 same-length : tie.Need-same-length Inv-loop μ-loop
 same-length c = simp length-set (c .before .loop .inv .1)
 
 returns : tie.Need-returns Inv-loop μ-loop
-returns c = fields-end (now (c .before .before .before .before .args .xs)) (c .before .loop .i) (omega arith) (omega arith) (c .before .loop .inv .2)
+returns c =
+    let start = c .before .before .before .before in
+    fields-end (now (start .args .xs)) (c .before .loop .i) (omega arith) (omega arith) (c .before .loop .inv .2)
 
 pub put-tail-spec : {M : Type 1} → statement M
 put-tail-spec =

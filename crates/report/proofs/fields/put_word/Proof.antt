@@ -38,8 +38,9 @@ loop-less c = omega arith
 
 loop-again : tie.Need-loop-again Inv-loop μ-loop
 loop-again c =
-    let e : c .before .before .before .args .at + (c .before .before .loop .i + 1) ≡ c .before .before .before .args .at + c .before .before .loop .i + 1 = omega arith in
-    (omega arith, simp length-set (c .before .before .loop .inv .1), rw e (wrote-byte (now (c .before .before .before .args .w)) (c .before .before .loop .i) (omega arith) (omega arith) (c .before .before .loop .inv .2)))
+    let start = c .before .before .before in
+    let e : start .args .at + (c .before .before .loop .i + 1) ≡ start .args .at + c .before .before .loop .i + 1 = omega arith in
+    (omega arith, simp length-set (c .before .before .loop .inv .1), rw e (wrote-byte (now (start .args .w)) (c .before .before .loop .i) (omega arith) (omega arith) (c .before .before .loop .inv .2)))
 
 add-result : tie.Need-add-result Inv-loop μ-loop
 add-result c = omega arith

@@ -1,13 +1,13 @@
--- `bear` meets its contract: the blocks passed have their weights.
+-- `weigh_blocks` meets its contract: the blocks passed have their weights.
 use native.Mathlib.Omega.{arith}
 use borrow.Author.Needs.{needs}
 use Prim.Native.Nat.{_≤_, _-_}
-use Rattle.opening.specs.Opening.{Bearing, bearing-more}
-use Rattle.opening.proofs.bear.Statement.{statement}
-use Rattle.opening.proofs.bear.Tie as tie
+use Rattle.opening.specs.Opening.{WeighedTo, weighed-more}
+use Rattle.opening.proofs.weigh_blocks.Statement.{statement}
+use Rattle.opening.proofs.weigh_blocks.Tie as tie
 
 abbrev Inv-loop : tie.InvT-loop
-Inv-loop loads₀ weights blocks n k b₀ loads b = (b ≤ k) × Bearing weights blocks n b loads
+Inv-loop loads₀ weights blocks n k b₀ loads b = (b ≤ k) × WeighedTo weights blocks n b loads
 
 abbrev μ-loop : tie.MeasureT-loop
 μ-loop loads₀ weights blocks n k b₀ loads b = k - b
@@ -37,13 +37,13 @@ loop-less : tie.Need-loop-less Inv-loop μ-loop
 loop-less c = omega arith
 
 loop-again : tie.Need-loop-again Inv-loop μ-loop
-loop-again c = (omega arith, bearing-more (c .before .before .loop .b) (c .block-weight .result) (omega (arith, c .before .before .before .before .before .pre .1)) (c .before .before .loop .inv .1) (c .block-weight .ensures))
+loop-again c = (omega arith, weighed-more (c .before .before .loop .b) (c .block-weight .result) (omega (arith, c .before .before .before .before .before .pre .1)) (c .before .before .loop .inv .1) (c .block-weight .ensures))
 
 returns : tie.Need-returns Inv-loop μ-loop
 returns c = record { len = c .before .loop .inv .1 .len; loads-are = λ j l. c .before .loop .inv .1 .done j (omega arith) }
 
-pub bear-spec : {M : Type 1} → statement M
-bear-spec =
+pub weigh-blocks-spec : {M : Type 1} → statement M
+weigh-blocks-spec =
     tie.close
     (tie.spec
     Inv-loop
