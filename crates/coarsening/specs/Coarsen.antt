@@ -1,5 +1,5 @@
 -- A's contractions on sound tables: what one of them and the loop of them ask and do, with the laws that the proofs of the code cite. Rests on
--- Linked, on calls' Join and on guarantees' Calls and Fuel. Assumes nothing.
+-- Linked, on operations's Join and on guarantees' Calls and Fuel. Assumes nothing.
 use Prim.Native.Nat.{ℕ, suc, _+_, _*_, _-_, _<_, _≤_}
 use native.Mathlib.Omega.{arith}
 use mathlib.Core.Path.{_≡_, refl, sym, ap, ap₂, _∙_, subst}
@@ -18,16 +18,16 @@ use Rattle.guarantees.specs.Climbs.{Joins}
 use Rattle.guarantees.specs.Calls.{can-join, board-join, Coarsest}
 use Rattle.guarantees.specs.Fuel.{coarsest-rests}
 use Rattle.guarantees.specs.StateBounds.{board-stack}
-use Rattle.calls.specs.Pairs.{Pushed, pairs-push, pairs-length}
-use Rattle.calls.specs.Tables.{Tables, Sound, Keeps}
-use Rattle.calls.specs.Join.{Pair, Joined}
-use Rattle.pairing.specs.Rating.{scoreOf}
-use Rattle.pairing.specs.JoinPair.{BestJoin, joinOf, joinOf-none, joinOf-some}
-use Rattle.pairing.specs.JoinLink.{Linked, join-is, join-may}
-use Rattle.pairing.specs.Bound.{Bounded, Planned, riseOf}
-use Rattle.pairing.specs.BoundLink.{bounded-after}
-use Rattle.pairing.specs.declared.join.Join.{Join}
-use Rattle.calls.specs.Keeping.{keeps-none, keeps-more}
+use Rattle.operations.specs.Pairs.{Pushed, pairs-push, pairs-length}
+use Rattle.operations.specs.Tables.{Tables, Sound, Keeps}
+use Rattle.operations.specs.Join.{Pair, Joined}
+use Rattle.best_contraction.specs.Rating.{scoreOf}
+use Rattle.best_contraction.specs.JoinPair.{BestJoin, joinOf, joinOf-none, joinOf-some}
+use Rattle.best_contraction.specs.JoinLink.{Linked, join-is, join-may}
+use Rattle.best_contraction.specs.Bound.{Bounded, Planned, riseOf}
+use Rattle.best_contraction.specs.BoundLink.{bounded-after}
+use Rattle.best_contraction.specs.declared.join.Join.{Join}
+use Rattle.operations.specs.Keeping.{keeps-none, keeps-more}
 use Rattle.coarsening.specs.Linked.{linked, block-at, block-from}
 
 -- tables and the stack's arrays are those of the state c

@@ -1,4 +1,4 @@
--- What sound tables tell the choice of a pair to contract: they hold the state that choice's laws speak of. Rests on calls' Sound and choice's
+-- What sound tables tell the choice of a pair to contract: they hold the state that choice's laws speak of. Rests on operations's Sound and choice's
 -- JoinLink. Assumes nothing.
 use Prim.Native.Nat.{ℕ, _+_, _-_, _<_, _≤_}
 use native.Mathlib.Omega.{arith}
@@ -15,10 +15,10 @@ use Rattle.model.specs.Memory.{noNet}
 use Rattle.model.specs.Measure.{Contraction, above, pin, size, weight}
 use Rattle.pins.specs.Stack.{present-le, present-pin, loadedPin, row-pin}
 use Rattle.levels.specs.Running.{netAt}
-use Rattle.calls.specs.Tables.{Tables, Sound}
-use Rattle.calls.specs.Move.{back, own-block, own-weight, in-range}
-use Rattle.pairing.specs.Rating.{TablesOk, Blank}
-use Rattle.pairing.specs.JoinLink.{Linked}
+use Rattle.operations.specs.Tables.{Tables, Sound}
+use Rattle.operations.specs.Move.{back, own-block, own-weight, in-range}
+use Rattle.best_contraction.specs.Rating.{TablesOk, Blank}
+use Rattle.best_contraction.specs.JoinLink.{Linked}
 
 -- a table of zeros
 pub blank : (n : ℕ) → n ≡ 1025 → Blank (replicate n 0)

@@ -2,14 +2,14 @@
 ghost use Prim.Native.Nat.{ℕ, _-_, _*_, _<_, _≤_};
 ghost use mathlib.Core.Path.{_≡_};
 ghost use mathlib.Core.List.{List};
-ghost use Rattle.calls.specs.Tables.{tables};
-ghost use Rattle.pairing.specs.Rating.{Blank, scoreOf};
-ghost use Rattle.pairing.specs.Bound.{Bounded};
+ghost use Rattle.operations.specs.Tables.{tables};
+ghost use Rattle.best_contraction.specs.Rating.{Blank, scoreOf};
+ghost use Rattle.best_contraction.specs.Bound.{Bounded};
 ghost use Rattle.coarsening.specs.Coarsen.{locals, OnceOk, Once, CoarsenOk, Coarsens};
-use calls::joins::join;
-use calls::pairs::Stack;
-use pairing::bounds::begin;
-use pairing::join::plan_join;
+use best_contraction::bounds::begin;
+use best_contraction::join::plan_join;
+use operations::joins::join;
+use operations::pairs::Stack;
 
 // The stack, and how many vertices have still to leave the board: 0 too where no pair is left.
 pub struct Round {
@@ -45,8 +45,8 @@ fn coarsen_once(
     counts: &mut [u16],
     visited: &mut [u16],
     gains: &mut [i32],
-    pins: &mut [u16],
-    sizes: &mut [u16],
+    presentpins: &mut [u16],
+    presentsizes: &mut [u16],
     bits: &mut [u64],
     blocks: &mut [u16],
     weights: &mut [u32],
@@ -60,19 +60,19 @@ fn coarsen_once(
     total: u32,
     s: Round,
 ) -> Round
-    requires { ⌜ OnceOk (λ loads loaded. tables (now counts) (now visited) (now gains) (now pins) (now sizes) (now bits) (now blocks) (now weights) (now aboves) loads (now netweights) (now firsts) loaded n m k total) (locals (s .stack .into) (s .stack .gone) (s .stack .len) (s .left)) average ⌝ }
-    requires { ⌜ Blank (now acc) × Bounded (scoreOf (now bits) (now pins) (now firsts) (now sizes) (now netweights) (now blocks) (now weights) m average) n (now bounds) ⌝ }
-    ensures { λ r. ⌜ ((loads loaded : List ℕ) → Once (tables (now (counts .entry)) (now (visited .entry)) (now (gains .entry)) (now (pins .entry)) (now (sizes .entry)) (now (bits .entry)) (now (blocks .entry)) (now (weights .entry)) (now (aboves .entry)) loads (now (netweights .entry)) (now (firsts .entry)) loaded n m k total) (locals (s .stack .into) (s .stack .gone) (s .stack .len) (s .left)) average
-        (tables (now (counts .exit)) (now (visited .exit)) (now (gains .exit)) (now (pins .exit)) (now (sizes .exit)) (now (bits .exit)) (now (blocks .exit)) (now (weights .exit)) (now (aboves .exit)) loads (now (netweights .exit)) (now (firsts .exit)) loaded n m k total) (locals (r .stack .into) (r .stack .gone) (r .stack .len) (r .left))) ⌝ }
-    ensures { λ r. ⌜ Blank (now (acc .exit)) × Bounded (scoreOf (now (bits .exit)) (now (pins .exit)) (now (firsts .exit)) (now (sizes .exit)) (now (netweights .exit)) (now (blocks .exit)) (now (weights .exit)) m average) n (now (bounds .exit)) ⌝ }
+    requires { ⌜ OnceOk (λ loads loadedsizes. tables (now counts) (now visited) (now gains) (now presentpins) (now presentsizes) (now bits) (now blocks) (now weights) (now aboves) loads (now netweights) (now firsts) loadedsizes n m k total) (locals (s .stack .into) (s .stack .gone) (s .stack .len) (s .left)) average ⌝ }
+    requires { ⌜ Blank (now acc) × Bounded (scoreOf (now bits) (now presentpins) (now firsts) (now presentsizes) (now netweights) (now blocks) (now weights) m average) n (now bounds) ⌝ }
+    ensures { λ r. ⌜ ((loads loadedsizes : List ℕ) → Once (tables (now (counts .entry)) (now (visited .entry)) (now (gains .entry)) (now (presentpins .entry)) (now (presentsizes .entry)) (now (bits .entry)) (now (blocks .entry)) (now (weights .entry)) (now (aboves .entry)) loads (now (netweights .entry)) (now (firsts .entry)) loadedsizes n m k total) (locals (s .stack .into) (s .stack .gone) (s .stack .len) (s .left)) average
+        (tables (now (counts .exit)) (now (visited .exit)) (now (gains .exit)) (now (presentpins .exit)) (now (presentsizes .exit)) (now (bits .exit)) (now (blocks .exit)) (now (weights .exit)) (now (aboves .exit)) loads (now (netweights .exit)) (now (firsts .exit)) loadedsizes n m k total) (locals (r .stack .into) (r .stack .gone) (r .stack .len) (r .left))) ⌝ }
+    ensures { λ r. ⌜ Blank (now (acc .exit)) × Bounded (scoreOf (now (bits .exit)) (now (presentpins .exit)) (now (firsts .exit)) (now (presentsizes .exit)) (now (netweights .exit)) (now (blocks .exit)) (now (weights .exit)) m average) n (now (bounds .exit)) ⌝ }
 {
     let pair = plan_join(
         acc,
         bounds,
         bits,
-        pins,
+        presentpins,
         firsts,
-        sizes,
+        presentsizes,
         netweights,
         blocks,
         weights,
@@ -94,8 +94,8 @@ fn coarsen_once(
         counts,
         visited,
         gains,
-        pins,
-        sizes,
+        presentpins,
+        presentsizes,
         bits,
         blocks,
         weights,
@@ -121,8 +121,8 @@ pub fn coarsen(
     counts: &mut [u16],
     visited: &mut [u16],
     gains: &mut [i32],
-    pins: &mut [u16],
-    sizes: &mut [u16],
+    presentpins: &mut [u16],
+    presentsizes: &mut [u16],
     bits: &mut [u64],
     blocks: &mut [u16],
     weights: &mut [u32],
@@ -136,18 +136,18 @@ pub fn coarsen(
     total: u32,
     stack: Stack,
 ) -> Stack
-    requires { ⌜ CoarsenOk (λ loads loaded. tables (now counts) (now visited) (now gains) (now pins) (now sizes) (now bits) (now blocks) (now weights) (now aboves) loads (now netweights) (now firsts) loaded n m k total) (stack .into) (stack .gone) (stack .len) average ⌝ }
-    ensures { λ r. ⌜ ((loads loaded : List ℕ) → Coarsens (tables (now (counts .entry)) (now (visited .entry)) (now (gains .entry)) (now (pins .entry)) (now (sizes .entry)) (now (bits .entry)) (now (blocks .entry)) (now (weights .entry)) (now (aboves .entry)) loads (now (netweights .entry)) (now (firsts .entry)) loaded n m k total) (stack .into) (stack .gone) (stack .len) average
-        (tables (now (counts .exit)) (now (visited .exit)) (now (gains .exit)) (now (pins .exit)) (now (sizes .exit)) (now (bits .exit)) (now (blocks .exit)) (now (weights .exit)) (now (aboves .exit)) loads (now (netweights .exit)) (now (firsts .exit)) loaded n m k total) (r .into) (r .gone) (r .len)) ⌝ }
+    requires { ⌜ CoarsenOk (λ loads loadedsizes. tables (now counts) (now visited) (now gains) (now presentpins) (now presentsizes) (now bits) (now blocks) (now weights) (now aboves) loads (now netweights) (now firsts) loadedsizes n m k total) (stack .into) (stack .gone) (stack .len) average ⌝ }
+    ensures { λ r. ⌜ ((loads loadedsizes : List ℕ) → Coarsens (tables (now (counts .entry)) (now (visited .entry)) (now (gains .entry)) (now (presentpins .entry)) (now (presentsizes .entry)) (now (bits .entry)) (now (blocks .entry)) (now (weights .entry)) (now (aboves .entry)) loads (now (netweights .entry)) (now (firsts .entry)) loadedsizes n m k total) (stack .into) (stack .gone) (stack .len) average
+        (tables (now (counts .exit)) (now (visited .exit)) (now (gains .exit)) (now (presentpins .exit)) (now (presentsizes .exit)) (now (bits .exit)) (now (blocks .exit)) (now (weights .exit)) (now (aboves .exit)) loads (now (netweights .exit)) (now (firsts .exit)) loadedsizes n m k total) (r .into) (r .gone) (r .len)) ⌝ }
 {
     let mut acc = [0u64; 1025];
     let mut bounds = [0u64; 1025];
     begin(
         &mut bounds,
         bits,
-        pins,
+        presentpins,
         firsts,
-        sizes,
+        presentsizes,
         netweights,
         blocks,
         m,
@@ -164,8 +164,8 @@ pub fn coarsen(
             counts,
             visited,
             gains,
-            pins,
-            sizes,
+            presentpins,
+            presentsizes,
             bits,
             blocks,
             weights,

@@ -1,4 +1,4 @@
--- The engine's answer in model's terms: is lent memory long enough, and what is promised either way. Rests on selling's Files and on model's
+-- The engine's answer in model's terms: is lent memory long enough, and what is promised either way. Rests on sale's Files and on model's
 -- Memory. Assumes nothing.
 use Prim.Native.Nat.{ℕ, _≤_}
 use native.Mathlib.Omega.{arith}
@@ -15,7 +15,7 @@ use Rattle.model.specs.Grammar.{Reading, parse}
 use Rattle.model.specs.Engine.{outcome}
 use Rattle.model.specs.Memory.{Tables as Lent, Memory, longLists, longTables, longMemory, Worked, Served, Serves}
 use Rattle.model.specs.Lent.{Lists, lent, memory}
-use Rattle.selling.specs.Files.{lotsIn, Long}
+use Rattle.sale.specs.Files.{lotsIn, Long}
 
 -- ---- the lots of a file
 -- how many lots' entries are written, by whether lent memory is long enough

@@ -4,8 +4,8 @@ ghost use Rattle.model.specs.Catalogue.{mainLimits};
 ghost use Rattle.model.specs.Lent.{lists, lent, memory};
 ghost use Rattle.columns.specs.Entry.{ServesLots};
 use lengths::is_long;
-use working::Served;
-use working::work_file;
+use sale_file::Served;
+use sale_file::work_file;
 
 // A sale file and lent memory: the lots' bales, sessions and lots above, 1,024 each; marks as loaded and as they stand, 8,192 each; the buyers'
 // first places, loaded marks and present marks, 1,024 each; counts and gains, 16,384 each; visited, 1,024; the output, 60,000 bytes.
@@ -15,27 +15,27 @@ pub fn serve(
     weights: &mut [u32],
     blocks: &mut [u16],
     aboves: &mut [u16],
-    pins: &mut [u16],
-    present: &mut [u16],
+    loadedpins: &mut [u16],
+    presentpins: &mut [u16],
     firsts: &mut [u16],
-    sizes: &mut [u16],
-    standing: &mut [u16],
+    loadedsizes: &mut [u16],
+    presentsizes: &mut [u16],
     counts: &mut [u16],
     gains: &mut [i32],
     visited: &mut [u16],
 ) -> Served
-    ensures { λ r. ⌜ ServesLots mainLimits (now (file .entry)) (memory (now (output .entry)) (lent (lists (now (weights .entry)) (now (blocks .entry)) (now (aboves .entry)) (now (pins .entry)) (now (present .entry)) (now (firsts .entry)) (now (sizes .entry)) (now (standing .entry))) (now (counts .entry)) (now (gains .entry)) (now (visited .entry)))) (memory (now (output .exit)) (lent (lists (now (weights .exit)) (now (blocks .exit)) (now (aboves .exit)) (now (pins .exit)) (now (present .exit)) (now (firsts .exit)) (now (sizes .exit)) (now (standing .exit))) (now (counts .exit)) (now (gains .exit)) (now (visited .exit)))) (r .code) (r .written) (r .lots) ⌝ }
+    ensures { λ r. ⌜ ServesLots mainLimits (now (file .entry)) (memory (now (output .entry)) (lent (lists (now (weights .entry)) (now (blocks .entry)) (now (aboves .entry)) (now (loadedpins .entry)) (now (presentpins .entry)) (now (firsts .entry)) (now (loadedsizes .entry)) (now (presentsizes .entry))) (now (counts .entry)) (now (gains .entry)) (now (visited .entry)))) (memory (now (output .exit)) (lent (lists (now (weights .exit)) (now (blocks .exit)) (now (aboves .exit)) (now (loadedpins .exit)) (now (presentpins .exit)) (now (firsts .exit)) (now (loadedsizes .exit)) (now (presentsizes .exit))) (now (counts .exit)) (now (gains .exit)) (now (visited .exit)))) (r .code) (r .written) (r .lots) ⌝ }
 {
     if !is_long(
         output,
         weights,
         blocks,
         aboves,
-        pins,
-        present,
+        loadedpins,
+        presentpins,
         firsts,
-        sizes,
-        standing,
+        loadedsizes,
+        presentsizes,
         counts,
         gains,
         visited,
@@ -52,11 +52,11 @@ pub fn serve(
         weights,
         blocks,
         aboves,
-        pins,
-        present,
+        loadedpins,
+        presentpins,
         firsts,
-        sizes,
-        standing,
+        loadedsizes,
+        presentsizes,
         counts,
         gains,
         visited,

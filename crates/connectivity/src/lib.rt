@@ -180,7 +180,7 @@ pub fn set_pin(
     counts: &mut [u16],
     visited: &mut [u16],
     gains: &mut [i32],
-    weights: &[u16],
+    netweights: &[u16],
     pins: &[u16],
     blocks: &[u16],
     n: usize,
@@ -193,13 +193,13 @@ pub fn set_pin(
     a: usize,
     b: usize,
 )
-    requires { ⌜ Sets (now weights) (now counts) (now visited) (now pins) (now blocks) (now gains) n m k first p e x a b ⌝ }
-    ensures { λ _. ⌜ Set (now (weights .entry)) (now (pins .entry)) (now (blocks .entry)) n m k first p e x a b (now (counts .entry)) (now (counts .exit)) (now (visited .entry)) (now (visited .exit)) (now (gains .entry)) (now (gains .exit)) ⌝ }
+    requires { ⌜ Sets (now netweights) (now counts) (now visited) (now pins) (now blocks) (now gains) n m k first p e x a b ⌝ }
+    ensures { λ _. ⌜ Set (now (netweights .entry)) (now (pins .entry)) (now (blocks .entry)) n m k first p e x a b (now (counts .entry)) (now (counts .exit)) (now (visited .entry)) (now (visited .exit)) (now (gains .entry)) (now (gains .exit)) ⌝ }
 {
     if a == b {
         return;
     }
-    let w = weights[e];
+    let w = netweights[e];
     let fa = count_at(counts, e, a, 3);
     let fb = count_at(counts, e, b, 2);
     own_row(gains, counts, x, e, a, k, w, true);

@@ -63,7 +63,7 @@ pub fn fill_pins(
     counts: &mut [u16],
     visited: &mut [u16],
     gains: &mut [i32],
-    weights: &[u16],
+    netweights: &[u16],
     pins: &[u16],
     blocks: &[u16],
     n: usize,
@@ -73,10 +73,10 @@ pub fn fill_pins(
     p: usize,
     e: usize,
 )
-    requires { ⌜ FillsPins (now weights) (now counts) (now visited) (now pins) (now blocks) (now gains) n m k first p e ⌝ }
-    ensures { λ _. ⌜ FilledPins (now (weights .entry)) (now (pins .entry)) (now (blocks .entry)) n m k first p e (now (counts .entry)) (now (counts .exit)) (now (visited .entry)) (now (visited .exit)) (now (gains .entry)) (now (gains .exit)) ⌝ }
+    requires { ⌜ FillsPins (now netweights) (now counts) (now visited) (now pins) (now blocks) (now gains) n m k first p e ⌝ }
+    ensures { λ _. ⌜ FilledPins (now (netweights .entry)) (now (pins .entry)) (now (blocks .entry)) n m k first p e (now (counts .entry)) (now (counts .exit)) (now (visited .entry)) (now (visited .exit)) (now (gains .entry)) (now (gains .exit)) ⌝ }
 {
-    let w = weights[e];
+    let w = netweights[e];
     count_pins(counts, visited, pins, blocks, n, m, k, first, p, e);
     share_pins(gains, counts, pins, blocks, n, k, first, p, e, w);
 }

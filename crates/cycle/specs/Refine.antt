@@ -1,5 +1,5 @@
 -- A's way back on sound tables: contractions are undone, the last one first, each with a walk from the parted pair. What one of them and the
--- loop of them ask and do, with the laws that the proofs of the code cite. Rests on calls' Join and search's Steps. Assumes nothing.
+-- loop of them ask and do, with the laws that the proofs of the code cite. Rests on operations's Join and walk's Steps. Assumes nothing.
 use Prim.Native.Nat.{ℕ, _+_, _-_, _<_, _≤_}
 use native.Mathlib.Omega.{arith}
 use mathlib.Core.Path.{_≡_, refl, sym, ap, ap₂, _∙_, subst}
@@ -14,12 +14,12 @@ use Rattle.guarantees.specs.Splits.{AllInside}
 use Rattle.guarantees.specs.SearchBounds.{tried-le, walk-counts}
 use Rattle.guarantees.specs.StateBounds.{stack-le}
 use Rattle.pins.specs.Board.{join}
-use Rattle.calls.specs.Pairs.{pairs-none, pairs-some, pairs-length}
-use Rattle.calls.specs.Tables.{Tables, Sound, Keeps}
-use Rattle.calls.specs.Move.{own-block, in-range}
-use Rattle.calls.specs.Join.{Split}
-use Rattle.calls.specs.Keeping.{keeps-none, keeps-more}
-use Rattle.search.specs.Steps.{WalkOk, Walks, Ended}
+use Rattle.operations.specs.Pairs.{pairs-none, pairs-some, pairs-length}
+use Rattle.operations.specs.Tables.{Tables, Sound, Keeps}
+use Rattle.operations.specs.Move.{own-block, in-range}
+use Rattle.operations.specs.Join.{Split}
+use Rattle.operations.specs.Keeping.{keeps-none, keeps-more}
+use Rattle.walk.specs.Steps.{WalkOk, Walks, Ended}
 
 -- ---- one of them
 -- what `refine_once` asks: (u, v), counted from 0, is on top of the stack

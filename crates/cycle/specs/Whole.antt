@@ -1,5 +1,5 @@
 -- A as a whole on sound tables without contractions: contractions, the way back, then P; equal to what model says that A does and answers.
--- Rests on coarsening's Coarsen, Refine and search's Polished. Assumes nothing.
+-- Rests on coarsening's Coarsen, Refine and walk's Polished. Assumes nothing.
 use Prim.Native.Nat.{ℕ}
 use native.Mathlib.Omega.{arith}
 use mathlib.Core.Path.{_≡_, sym, ap, _∙_, subst}
@@ -11,10 +11,10 @@ use Rattle.model.specs.Machine.{State, Step, saysA}
 use Rattle.model.specs.Search.{Coarse, Fine, boardSize, coarsen, refine, doesA}
 use Rattle.model.specs.Lent.{stackOf}
 use Rattle.guarantees.specs.StateBounds.{board-stack}
-use Rattle.calls.specs.Pairs.{pairs-none, pairs-length}
-use Rattle.calls.specs.Tables.{Tables, Sound, Keeps}
-use Rattle.calls.specs.Keeping.{keeps-more}
-use Rattle.greedy.specs.Polished.{PolishOk, Polishes}
+use Rattle.operations.specs.Pairs.{pairs-none, pairs-length}
+use Rattle.operations.specs.Tables.{Tables, Sound, Keeps}
+use Rattle.operations.specs.Keeping.{keeps-more}
+use Rattle.polish.specs.Polished.{PolishOk, Polishes}
 use Rattle.coarsening.specs.Coarsen.{Stands, CoarsenOk, Coarsens}
 use Rattle.cycle.specs.Refine.{RefineOk, Fined, Refines}
 

@@ -1,4 +1,4 @@
 // A, the n-level cycle, on the tables of a running sale.
 mod numbers;
-pub mod refining;
+mod refining;
 pub mod whole;

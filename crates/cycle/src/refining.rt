@@ -1,14 +1,14 @@
 // A's way back: contractions are undone, the last one first, each with a walk from the parted pair.
 ghost use Prim.Native.Nat.{_+_, _-_, _<_, _≤_};
 ghost use mathlib.Core.Path.{_≡_};
-ghost use Rattle.calls.specs.Tables.{tables};
+ghost use Rattle.operations.specs.Tables.{tables};
 ghost use Rattle.cycle.specs.Refine.{PartOk, Parts, RefineOk, Refines};
 use crate::numbers::counted;
 use crate::numbers::place_of;
-use calls::joins::split;
-use calls::pairs::Stack;
-use search::walks::Walked;
-use search::walks::walk;
+use operations::joins::split;
+use operations::pairs::Stack;
+use walk::walks::Walked;
+use walk::walks::walk;
 
 // The moves that the walks made and kept, all together, and the metric.
 pub struct Fine {
@@ -34,8 +34,8 @@ fn refine_once(
     counts: &mut [u16],
     visited: &mut [u16],
     gains: &mut [i32],
-    pins: &mut [u16],
-    sizes: &mut [u16],
+    presentpins: &mut [u16],
+    presentsizes: &mut [u16],
     bits: &mut [u64],
     blocks: &mut [u16],
     weights: &mut [u32],
@@ -43,7 +43,7 @@ fn refine_once(
     loads: &mut [u64; 16],
     netweights: &[u16],
     firsts: &[u16],
-    loaded: &[u16],
+    loadedsizes: &[u16],
     n: usize,
     m: usize,
     k: usize,
@@ -52,23 +52,23 @@ fn refine_once(
     u: usize,
     v: usize,
 ) -> Walked
-    requires { ⌜ PartOk (tables (now counts) (now visited) (now gains) (now pins) (now sizes) (now bits) (now blocks) (now weights) (now aboves) (now loads) (now netweights) (now firsts) (now loaded) n m k total) capacity u v ⌝ }
-    ensures { λ r. ⌜ Parts (tables (now (counts .entry)) (now (visited .entry)) (now (gains .entry)) (now (pins .entry)) (now (sizes .entry)) (now (bits .entry)) (now (blocks .entry)) (now (weights .entry)) (now (aboves .entry)) (now (loads .entry)) (now (netweights .entry)) (now (firsts .entry)) (now (loaded .entry)) n m k total) capacity u v
-        (tables (now (counts .exit)) (now (visited .exit)) (now (gains .exit)) (now (pins .exit)) (now (sizes .exit)) (now (bits .exit)) (now (blocks .exit)) (now (weights .exit)) (now (aboves .exit)) (now (loads .exit)) (now (netweights .exit)) (now (firsts .exit)) (now (loaded .exit)) n m k (r .total)) (r .tried) (r .kept) ⌝ }
+    requires { ⌜ PartOk (tables (now counts) (now visited) (now gains) (now presentpins) (now presentsizes) (now bits) (now blocks) (now weights) (now aboves) (now loads) (now netweights) (now firsts) (now loadedsizes) n m k total) capacity u v ⌝ }
+    ensures { λ r. ⌜ Parts (tables (now (counts .entry)) (now (visited .entry)) (now (gains .entry)) (now (presentpins .entry)) (now (presentsizes .entry)) (now (bits .entry)) (now (blocks .entry)) (now (weights .entry)) (now (aboves .entry)) (now (loads .entry)) (now (netweights .entry)) (now (firsts .entry)) (now (loadedsizes .entry)) n m k total) capacity u v
+        (tables (now (counts .exit)) (now (visited .exit)) (now (gains .exit)) (now (presentpins .exit)) (now (presentsizes .exit)) (now (bits .exit)) (now (blocks .exit)) (now (weights .exit)) (now (aboves .exit)) (now (loads .exit)) (now (netweights .exit)) (now (firsts .exit)) (now (loadedsizes .exit)) n m k (r .total)) (r .tried) (r .kept) ⌝ }
 {
     split(
         counts,
         visited,
         gains,
-        pins,
-        sizes,
+        presentpins,
+        presentsizes,
         bits,
         blocks,
         weights,
         aboves,
         netweights,
         firsts,
-        loaded,
+        loadedsizes,
         n,
         m,
         k,
@@ -82,8 +82,8 @@ fn refine_once(
         gains,
         blocks,
         loads,
-        pins,
-        sizes,
+        presentpins,
+        presentsizes,
         bits,
         weights,
         netweights,
@@ -103,8 +103,8 @@ pub fn refine(
     counts: &mut [u16],
     visited: &mut [u16],
     gains: &mut [i32],
-    pins: &mut [u16],
-    sizes: &mut [u16],
+    presentpins: &mut [u16],
+    presentsizes: &mut [u16],
     bits: &mut [u64],
     blocks: &mut [u16],
     weights: &mut [u32],
@@ -112,7 +112,7 @@ pub fn refine(
     loads: &mut [u64; 16],
     netweights: &[u16],
     firsts: &[u16],
-    loaded: &[u16],
+    loadedsizes: &[u16],
     n: usize,
     m: usize,
     k: usize,
@@ -120,9 +120,9 @@ pub fn refine(
     total: u32,
     stack: Stack,
 ) -> Fine
-    requires { ⌜ RefineOk (tables (now counts) (now visited) (now gains) (now pins) (now sizes) (now bits) (now blocks) (now weights) (now aboves) (now loads) (now netweights) (now firsts) (now loaded) n m k total) capacity (stack .into) (stack .gone) (stack .len) ⌝ }
-    ensures { λ r. ⌜ Refines (tables (now (counts .entry)) (now (visited .entry)) (now (gains .entry)) (now (pins .entry)) (now (sizes .entry)) (now (bits .entry)) (now (blocks .entry)) (now (weights .entry)) (now (aboves .entry)) (now (loads .entry)) (now (netweights .entry)) (now (firsts .entry)) (now (loaded .entry)) n m k total) capacity (stack .into) (stack .gone) (stack .len)
-        (tables (now (counts .exit)) (now (visited .exit)) (now (gains .exit)) (now (pins .exit)) (now (sizes .exit)) (now (bits .exit)) (now (blocks .exit)) (now (weights .exit)) (now (aboves .exit)) (now (loads .exit)) (now (netweights .exit)) (now (firsts .exit)) (now (loaded .exit)) n m k (r .total)) (r .tried) (r .kept) ⌝ }
+    requires { ⌜ RefineOk (tables (now counts) (now visited) (now gains) (now presentpins) (now presentsizes) (now bits) (now blocks) (now weights) (now aboves) (now loads) (now netweights) (now firsts) (now loadedsizes) n m k total) capacity (stack .into) (stack .gone) (stack .len) ⌝ }
+    ensures { λ r. ⌜ Refines (tables (now (counts .entry)) (now (visited .entry)) (now (gains .entry)) (now (presentpins .entry)) (now (presentsizes .entry)) (now (bits .entry)) (now (blocks .entry)) (now (weights .entry)) (now (aboves .entry)) (now (loads .entry)) (now (netweights .entry)) (now (firsts .entry)) (now (loadedsizes .entry)) n m k total) capacity (stack .into) (stack .gone) (stack .len)
+        (tables (now (counts .exit)) (now (visited .exit)) (now (gains .exit)) (now (presentpins .exit)) (now (presentsizes .exit)) (now (bits .exit)) (now (blocks .exit)) (now (weights .exit)) (now (aboves .exit)) (now (loads .exit)) (now (netweights .exit)) (now (firsts .exit)) (now (loadedsizes .exit)) n m k (r .total)) (r .tried) (r .kept) ⌝ }
 {
     let mut f = Fine {
         tried: 0,
@@ -138,8 +138,8 @@ pub fn refine(
             counts,
             visited,
             gains,
-            pins,
-            sizes,
+            presentpins,
+            presentsizes,
             bits,
             blocks,
             weights,
@@ -147,7 +147,7 @@ pub fn refine(
             loads,
             netweights,
             firsts,
-            loaded,
+            loadedsizes,
             n,
             m,
             k,

@@ -1,11 +1,11 @@
 // A as a whole: contractions, the way back, then P.
-ghost use Rattle.calls.specs.Tables.{tables};
+ghost use Rattle.operations.specs.Tables.{tables};
 ghost use Rattle.cycle.specs.Whole.{CycleOk, Levels, Does};
 use crate::numbers::counted;
 use crate::refining::refine;
-use calls::pairs::Stack;
 use coarsening::coarsen;
-use greedy::polishing::polish;
+use operations::pairs::Stack;
+use polish::polishing::polish;
 
 // How many contractions were made, the moves that the walks made and kept, all together, and the metric.
 struct Descent {
@@ -29,8 +29,8 @@ fn descend(
     counts: &mut [u16],
     visited: &mut [u16],
     gains: &mut [i32],
-    pins: &mut [u16],
-    sizes: &mut [u16],
+    presentpins: &mut [u16],
+    presentsizes: &mut [u16],
     bits: &mut [u64],
     blocks: &mut [u16],
     weights: &mut [u32],
@@ -38,7 +38,7 @@ fn descend(
     loads: &mut [u64; 16],
     netweights: &[u16],
     firsts: &[u16],
-    loaded: &[u16],
+    loadedsizes: &[u16],
     n: usize,
     m: usize,
     k: usize,
@@ -46,16 +46,16 @@ fn descend(
     capacity: u64,
     total: u32,
 ) -> Descent
-    requires { ⌜ CycleOk (tables (now counts) (now visited) (now gains) (now pins) (now sizes) (now bits) (now blocks) (now weights) (now aboves) (now loads) (now netweights) (now firsts) (now loaded) n m k total) average capacity ⌝ }
-    ensures { λ r. ⌜ Levels (tables (now (counts .entry)) (now (visited .entry)) (now (gains .entry)) (now (pins .entry)) (now (sizes .entry)) (now (bits .entry)) (now (blocks .entry)) (now (weights .entry)) (now (aboves .entry)) (now (loads .entry)) (now (netweights .entry)) (now (firsts .entry)) (now (loaded .entry)) n m k total) average capacity
-        (tables (now (counts .exit)) (now (visited .exit)) (now (gains .exit)) (now (pins .exit)) (now (sizes .exit)) (now (bits .exit)) (now (blocks .exit)) (now (weights .exit)) (now (aboves .exit)) (now (loads .exit)) (now (netweights .exit)) (now (firsts .exit)) (now (loaded .exit)) n m k (r .total)) (r .joins) (r .tried) (r .kept) ⌝ }
+    requires { ⌜ CycleOk (tables (now counts) (now visited) (now gains) (now presentpins) (now presentsizes) (now bits) (now blocks) (now weights) (now aboves) (now loads) (now netweights) (now firsts) (now loadedsizes) n m k total) average capacity ⌝ }
+    ensures { λ r. ⌜ Levels (tables (now (counts .entry)) (now (visited .entry)) (now (gains .entry)) (now (presentpins .entry)) (now (presentsizes .entry)) (now (bits .entry)) (now (blocks .entry)) (now (weights .entry)) (now (aboves .entry)) (now (loads .entry)) (now (netweights .entry)) (now (firsts .entry)) (now (loadedsizes .entry)) n m k total) average capacity
+        (tables (now (counts .exit)) (now (visited .exit)) (now (gains .exit)) (now (presentpins .exit)) (now (presentsizes .exit)) (now (bits .exit)) (now (blocks .exit)) (now (weights .exit)) (now (aboves .exit)) (now (loads .exit)) (now (netweights .exit)) (now (firsts .exit)) (now (loadedsizes .exit)) n m k (r .total)) (r .joins) (r .tried) (r .kept) ⌝ }
 {
     let stack = coarsen(
         counts,
         visited,
         gains,
-        pins,
-        sizes,
+        presentpins,
+        presentsizes,
         bits,
         blocks,
         weights,
@@ -73,8 +73,8 @@ fn descend(
         counts,
         visited,
         gains,
-        pins,
-        sizes,
+        presentpins,
+        presentsizes,
         bits,
         blocks,
         weights,
@@ -82,7 +82,7 @@ fn descend(
         loads,
         netweights,
         firsts,
-        loaded,
+        loadedsizes,
         n,
         m,
         k,
@@ -103,8 +103,8 @@ pub fn run(
     counts: &mut [u16],
     visited: &mut [u16],
     gains: &mut [i32],
-    pins: &mut [u16],
-    sizes: &mut [u16],
+    presentpins: &mut [u16],
+    presentsizes: &mut [u16],
     bits: &mut [u64],
     blocks: &mut [u16],
     weights: &mut [u32],
@@ -112,7 +112,7 @@ pub fn run(
     loads: &mut [u64; 16],
     netweights: &[u16],
     firsts: &[u16],
-    loaded: &[u16],
+    loadedsizes: &[u16],
     n: usize,
     m: usize,
     k: usize,
@@ -120,16 +120,16 @@ pub fn run(
     capacity: u64,
     total: u32,
 ) -> Cycled
-    requires { ⌜ CycleOk (tables (now counts) (now visited) (now gains) (now pins) (now sizes) (now bits) (now blocks) (now weights) (now aboves) (now loads) (now netweights) (now firsts) (now loaded) n m k total) average capacity ⌝ }
-    ensures { λ r. ⌜ Does (tables (now (counts .entry)) (now (visited .entry)) (now (gains .entry)) (now (pins .entry)) (now (sizes .entry)) (now (bits .entry)) (now (blocks .entry)) (now (weights .entry)) (now (aboves .entry)) (now (loads .entry)) (now (netweights .entry)) (now (firsts .entry)) (now (loaded .entry)) n m k total) average capacity
-        (tables (now (counts .exit)) (now (visited .exit)) (now (gains .exit)) (now (pins .exit)) (now (sizes .exit)) (now (bits .exit)) (now (blocks .exit)) (now (weights .exit)) (now (aboves .exit)) (now (loads .exit)) (now (netweights .exit)) (now (firsts .exit)) (now (loaded .exit)) n m k (r .total)) (r .joins) (r .tried) (r .kept) (r .moves) ⌝ }
+    requires { ⌜ CycleOk (tables (now counts) (now visited) (now gains) (now presentpins) (now presentsizes) (now bits) (now blocks) (now weights) (now aboves) (now loads) (now netweights) (now firsts) (now loadedsizes) n m k total) average capacity ⌝ }
+    ensures { λ r. ⌜ Does (tables (now (counts .entry)) (now (visited .entry)) (now (gains .entry)) (now (presentpins .entry)) (now (presentsizes .entry)) (now (bits .entry)) (now (blocks .entry)) (now (weights .entry)) (now (aboves .entry)) (now (loads .entry)) (now (netweights .entry)) (now (firsts .entry)) (now (loadedsizes .entry)) n m k total) average capacity
+        (tables (now (counts .exit)) (now (visited .exit)) (now (gains .exit)) (now (presentpins .exit)) (now (presentsizes .exit)) (now (bits .exit)) (now (blocks .exit)) (now (weights .exit)) (now (aboves .exit)) (now (loads .exit)) (now (netweights .exit)) (now (firsts .exit)) (now (loadedsizes .exit)) n m k (r .total)) (r .joins) (r .tried) (r .kept) (r .moves) ⌝ }
 {
     let d = descend(
         counts,
         visited,
         gains,
-        pins,
-        sizes,
+        presentpins,
+        presentsizes,
         bits,
         blocks,
         weights,
@@ -137,7 +137,7 @@ pub fn run(
         loads,
         netweights,
         firsts,
-        loaded,
+        loadedsizes,
         n,
         m,
         k,
@@ -151,8 +151,8 @@ pub fn run(
         gains,
         blocks,
         loads,
-        pins,
-        sizes,
+        presentpins,
+        presentsizes,
         bits,
         weights,
         netweights,

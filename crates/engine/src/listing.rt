@@ -3,12 +3,12 @@ ghost use mathlib.Core.Path.{_≡_};
 ghost use Rattle.model.specs.Catalogue.{mainLimits};
 ghost use Rattle.model.specs.Lent.{lists, lent, memory, two};
 ghost use Rattle.model.specs.ListEntry.{returned, Idle, ListServes};
-use calls::pairs::Journal;
-use calls::pairs::Stack;
 use lengths::is_long;
-use lists::ListRan;
-use lists::list_refusal;
-use lists::work_list;
+use operations::pairs::Journal;
+use operations::pairs::Stack;
+use sale_list::ListRan;
+use sale_list::list_refusal;
+use sale_list::work_list;
 
 // A list that is refused, and short memory, touch nothing.
 fn refused_list(code: u32) -> ListRan
@@ -34,27 +34,27 @@ pub extern "C" fn kapokdrill_list(
     weights: &mut [u32],
     blocks: &mut [u16],
     aboves: &mut [u16],
-    pins: &mut [u16],
-    present: &mut [u16],
+    loadedpins: &mut [u16],
+    presentpins: &mut [u16],
     firsts: &mut [u16],
-    sizes: &mut [u16],
-    standing: &mut [u16],
+    loadedsizes: &mut [u16],
+    presentsizes: &mut [u16],
     counts: &mut [u16],
     gains: &mut [i32],
     visited: &mut [u16],
 ) -> ListRan
-    ensures { λ r. ⌜ ListServes mainLimits (now (file .entry)) (now (list .entry)) (memory (now (output .entry)) (lent (lists (now (weights .entry)) (now (blocks .entry)) (now (aboves .entry)) (now (pins .entry)) (now (present .entry)) (now (firsts .entry)) (now (sizes .entry)) (now (standing .entry))) (now (counts .entry)) (now (gains .entry)) (now (visited .entry)))) (memory (now (output .exit)) (lent (lists (now (weights .exit)) (now (blocks .exit)) (now (aboves .exit)) (now (pins .exit)) (now (present .exit)) (now (firsts .exit)) (now (sizes .exit)) (now (standing .exit))) (now (counts .exit)) (now (gains .exit)) (now (visited .exit)))) (returned (r .code) (r .written) (r .total) (two (r .stack .into) (r .stack .gone) (r .stack .len)) (two (r .journal .vertices) (r .journal .blocks) (r .journal .len))) ⌝ }
+    ensures { λ r. ⌜ ListServes mainLimits (now (file .entry)) (now (list .entry)) (memory (now (output .entry)) (lent (lists (now (weights .entry)) (now (blocks .entry)) (now (aboves .entry)) (now (loadedpins .entry)) (now (presentpins .entry)) (now (firsts .entry)) (now (loadedsizes .entry)) (now (presentsizes .entry))) (now (counts .entry)) (now (gains .entry)) (now (visited .entry)))) (memory (now (output .exit)) (lent (lists (now (weights .exit)) (now (blocks .exit)) (now (aboves .exit)) (now (loadedpins .exit)) (now (presentpins .exit)) (now (firsts .exit)) (now (loadedsizes .exit)) (now (presentsizes .exit))) (now (counts .exit)) (now (gains .exit)) (now (visited .exit)))) (returned (r .code) (r .written) (r .total) (two (r .stack .into) (r .stack .gone) (r .stack .len)) (two (r .journal .vertices) (r .journal .blocks) (r .journal .len))) ⌝ }
 {
     if !is_long(
         output,
         weights,
         blocks,
         aboves,
-        pins,
-        present,
+        loadedpins,
+        presentpins,
         firsts,
-        sizes,
-        standing,
+        loadedsizes,
+        presentsizes,
         counts,
         gains,
         visited,
@@ -72,11 +72,11 @@ pub extern "C" fn kapokdrill_list(
         weights,
         blocks,
         aboves,
-        pins,
-        present,
+        loadedpins,
+        presentpins,
         firsts,
-        sizes,
-        standing,
+        loadedsizes,
+        presentsizes,
         counts,
         gains,
         visited,

@@ -13,7 +13,7 @@ use Rattle.laws.specs.Occurrence.{Distinct, distinct-more}
 use Rattle.laws.specs.Choice.{and-left, and-right}
 use Rattle.model.specs.Catalogue.{Limits, Hypergraph, vertices, isVertex, isBlock}
 use Rattle.model.specs.Machine.{Call}
-use Rattle.model.specs.Grammar.{Fields, at, fields, isLineOf, isLine, within, Book, Reading, unread, reading, stopped, whole, full, overfull, saleLine, grown, withLot, lotLine, Marking, marked, wrong, mark, marking, withNet, bought, buyLine, Asked, asks, nothing, asked, withCall, callLine, line, ending, lines, parse, onto, parts, value}
+use Rattle.model.specs.Grammar.{Fields, at, fields, isLineOf, isLine, within, Book, Reading, unread, reading, stopped, whole, full, overfull, saleLine, grown, withLot, lotLine, Marking, marked, wrong, mark, marking, withNet, netRead, buyLine, Asked, asks, nothing, asked, withCall, callLine, line, ending, lines, parse, onto, parts, value}
 
 -- ---- ranges
 pub vertex-range : (h : Hypergraph) (v : ℕ) → isVertex h v ≡ true → (1 ≤ v) × (v ≤ vertices h)
@@ -151,17 +151,17 @@ module _ (limits : Limits) (P : Book → Type 0) (keeps : Kept limits P) where
       let b = block-range (k .graph) (at fs 2) (and-right (within 1 65535 (at fs 1)) _ (not-false _ q)) in
       good-grown n (lotted k (at fs 1) (at fs 2)) (keeps .vertex k (at fs 1) (at fs 2) g (ltb-true _ _ t) (w .0) (w .1) (b .0) (b .1))))
 
-  good-bought : (n : ℕ) (k : Book) (w i : ℕ) (m : Marking) → P k → ltb (length (k .graph .nets)) (k .buyers) ≡ true → 1 ≤ w → w ≤ 1000 → 1 ≤ i → Marked (k .graph) (k .marks) i m → Good (bought n k w m)
-  unfolding bought
-  good-bought n k w i (wrong q) g t wl wu l a = good-stopped q n
-  good-bought n k w i (marked vs m) g t wl wu l a = good-grown n (netted k w vs m) (keeps .net k w vs m g (ltb-true _ _ t) wl wu (omega (arith, a .1)) (a .0))
+  good-net-read : (n : ℕ) (k : Book) (w i : ℕ) (m : Marking) → P k → ltb (length (k .graph .nets)) (k .buyers) ≡ true → 1 ≤ w → w ≤ 1000 → 1 ≤ i → Marked (k .graph) (k .marks) i m → Good (netRead n k w m)
+  unfolding netRead
+  good-net-read n k w i (wrong q) g t wl wu l a = good-stopped q n
+  good-net-read n k w i (marked vs m) g t wl wu l a = good-grown n (netted k w vs m) (keeps .net k w vs m g (ltb-true _ _ t) wl wu (omega (arith, a .1)) (a .0))
 
   good-buy : (n : ℕ) (k : Book) (fs : Fields) → P k → ltb (length (k .graph .nets)) (k .buyers) ≡ true → Good (buyLine n k fs)
   unfolding buyLine
   good-buy n k fs g t = good-or (not (isLine "BUY" fs && leb 3 (length fs))) 2 n _ (λ f. good-or (not (within 1 1000 (at fs 1))) 3 n _ (λ q.
       let w = within-range 1 1000 (at fs 1) (not-false _ q) in
       let long : 3 ≤ length fs = leb-true 3 (length fs) (and-right (isLine "BUY" fs) _ (not-false _ f)) in
-      good-bought n k (at fs 1) (0 + length (drop 2 fs)) (marking (k .graph) (marked [] (k .marks)) (drop 2 fs)) g t (w .0) (w .1) (omega (arith, length-drop 2 fs))
+      good-net-read n k (at fs 1) (0 + length (drop 2 fs)) (marking (k .graph) (marked [] (k .marks)) (drop 2 fs)) g t (w .0) (w .1) (omega (arith, length-drop 2 fs))
       (marked-all (k .graph) (k .marks) 0 (marked [] (k .marks)) (drop 2 fs) (none, refl))))
     where
       none : Marks (k .graph) (k .marks) [] (k .marks)

@@ -10,7 +10,7 @@ use lib.Dec.{eqb, leb, ltb}
 use lib.ListN.{length, drop}
 use Rattle.laws.specs.Fold.{sumOver, any}
 use Rattle.model.specs.Catalogue.{Limits, Hypergraph, vertices, isVertex, isBlock}
-use Rattle.model.specs.Grammar.{Fields, at, fields, isLineOf, isLine, within, bytes, Book, Reading, unread, reading, stopped, whole, full, overfull, saleLine, grown, lotLine, Marking, marked, wrong, mark, marking, bought, buyLine, Asked, asks, nothing, asked, withCall, callLine, line, ending, lines, parse, onto, parts, value}
+use Rattle.model.specs.Grammar.{Fields, at, fields, isLineOf, isLine, within, bytes, Book, Reading, unread, reading, stopped, whole, full, overfull, saleLine, grown, lotLine, Marking, marked, wrong, mark, marking, netRead, buyLine, Asked, asks, nothing, asked, withCall, callLine, line, ending, lines, parse, onto, parts, value}
 use Rattle.model.specs.Report.{digits, row}
 use Rattle.model.specs.Engine.{outcome, engine}
 use Rattle.guarantees.specs.Numbers.{digits-le}
@@ -89,8 +89,8 @@ module _ (limits : Limits) (n : ℕ) where
   wrong-marking h m [] s = s
   wrong-marking h m (f ∷ fs) s = wrong-marking h (mark h m (value f)) fs (wrong-mark h m (value f) s)
 
-  stops-bought : (k : Book) (w : ℕ) (m : Marking) → Wrong m → Stops n (bought n k w m)
-  unfolding bought
+  stops-bought : (k : Book) (w : ℕ) (m : Marking) → Wrong m → Stops n (netRead n k w m)
+  unfolding netRead
   stops-bought k w (wrong q) s = stops-at q n (s .0) (s .1)
   stops-bought k w (marked vs m) s = stops-grown _
 

@@ -10,16 +10,16 @@ pub fn is_long(
     weights: &[u32],
     blocks: &[u16],
     aboves: &[u16],
-    pins: &[u16],
-    present: &[u16],
+    loadedpins: &[u16],
+    presentpins: &[u16],
     firsts: &[u16],
-    sizes: &[u16],
-    standing: &[u16],
+    loadedsizes: &[u16],
+    presentsizes: &[u16],
     counts: &[u16],
     gains: &[i32],
     visited: &[u16],
 ) -> bool
-    ensures { λ r. ⌜ r ≡ longMemory mainLimits (memory (now (output .entry)) (lent (lists (now (weights .entry)) (now (blocks .entry)) (now (aboves .entry)) (now (pins .entry)) (now (present .entry)) (now (firsts .entry)) (now (sizes .entry)) (now (standing .entry))) (now (counts .entry)) (now (gains .entry)) (now (visited .entry)))) ⌝ }
+    ensures { λ r. ⌜ r ≡ longMemory mainLimits (memory (now (output .entry)) (lent (lists (now (weights .entry)) (now (blocks .entry)) (now (aboves .entry)) (now (loadedpins .entry)) (now (presentpins .entry)) (now (firsts .entry)) (now (loadedsizes .entry)) (now (presentsizes .entry))) (now (counts .entry)) (now (gains .entry)) (now (visited .entry)))) ⌝ }
 {
     if output.len() < 60000 {
         return false;
@@ -33,7 +33,7 @@ pub fn is_long(
     if aboves.len() < 1024 {
         return false;
     }
-    if !stretches::are_long(pins, present, firsts, sizes, standing) {
+    if !stretches::are_long(loadedpins, presentpins, firsts, loadedsizes, presentsizes) {
         return false;
     }
     if counts.len() < 16384 {

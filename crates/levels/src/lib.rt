@@ -20,10 +20,10 @@ pub fn move_vertex(
     visited: &mut [u16],
     gains: &mut [i32],
     blocks: &mut [u16],
-    weights: &[u16],
-    pins: &[u16],
+    netweights: &[u16],
+    presentpins: &[u16],
     firsts: &[u16],
-    sizes: &[u16],
+    presentsizes: &[u16],
     bits: &[u64],
     n: usize,
     m: usize,
@@ -31,21 +31,21 @@ pub fn move_vertex(
     u: usize,
     t: u16,
 )
-    requires { ⌜ MoveNeeds (running (now counts) (now visited) (now gains) (now pins) (now sizes) (now bits) (now blocks) (now weights) (now firsts)) n m k u t ⌝ }
-    ensures { λ _. ⌜ MoveDoes (running (now (counts .entry)) (now (visited .entry)) (now (gains .entry)) (now (pins .entry)) (now (sizes .entry)) (now (bits .entry)) (now (blocks .entry)) (now (weights .entry)) (now (firsts .entry))) (running (now (counts .exit)) (now (visited .exit)) (now (gains .exit)) (now (pins .entry)) (now (sizes .entry)) (now (bits .entry)) (now (blocks .exit)) (now (weights .entry)) (now (firsts .entry))) n m k u t ⌝ }
+    requires { ⌜ MoveNeeds (running (now counts) (now visited) (now gains) (now presentpins) (now presentsizes) (now bits) (now blocks) (now netweights) (now firsts)) n m k u t ⌝ }
+    ensures { λ _. ⌜ MoveDoes (running (now (counts .entry)) (now (visited .entry)) (now (gains .entry)) (now (presentpins .entry)) (now (presentsizes .entry)) (now (bits .entry)) (now (blocks .entry)) (now (netweights .entry)) (now (firsts .entry))) (running (now (counts .exit)) (now (visited .exit)) (now (gains .exit)) (now (presentpins .entry)) (now (presentsizes .entry)) (now (bits .entry)) (now (blocks .exit)) (now (netweights .entry)) (now (firsts .entry))) n m k u t ⌝ }
 {
     let s = index(blocks[u]);
     let b = index(t);
     let mut e = next_net(bits, u, 0, m);
     while e < m {
         let first = index(firsts[e]);
-        let p = index(sizes[e]);
+        let p = index(presentsizes[e]);
         set_pin(
             counts,
             visited,
             gains,
-            weights,
-            pins,
+            netweights,
+            presentpins,
             blocks,
             n,
             m,
@@ -67,10 +67,10 @@ fn contract_nets(
     counts: &mut [u16],
     visited: &mut [u16],
     gains: &mut [i32],
-    pins: &mut [u16],
-    sizes: &mut [u16],
+    presentpins: &mut [u16],
+    presentsizes: &mut [u16],
     bits: &mut [u64],
-    weights: &[u16],
+    netweights: &[u16],
     blocks: &[u16],
     firsts: &[u16],
     n: usize,
@@ -79,20 +79,20 @@ fn contract_nets(
     u: usize,
     v: usize,
 )
-    requires { ⌜ ContractsAll (now weights) (now counts) (now visited) (now pins) (now blocks) (now firsts) (now sizes) (now bits) (now gains) n m k u v ⌝ }
-    ensures { λ _. ⌜ ContractedAll (now (weights .entry)) (now (blocks .entry)) (now (firsts .entry)) n m k u v (now (pins .entry)) (now (pins .exit)) (now (sizes .entry)) (now (sizes .exit)) (now (bits .entry)) (now (bits .exit)) (now (counts .entry)) (now (counts .exit)) (now (visited .entry)) (now (visited .exit)) (now (gains .entry)) (now (gains .exit)) ⌝ }
+    requires { ⌜ ContractsAll (now netweights) (now counts) (now visited) (now presentpins) (now blocks) (now firsts) (now presentsizes) (now bits) (now gains) n m k u v ⌝ }
+    ensures { λ _. ⌜ ContractedAll (now (netweights .entry)) (now (blocks .entry)) (now (firsts .entry)) n m k u v (now (presentpins .entry)) (now (presentpins .exit)) (now (presentsizes .entry)) (now (presentsizes .exit)) (now (bits .entry)) (now (bits .exit)) (now (counts .entry)) (now (counts .exit)) (now (visited .entry)) (now (visited .exit)) (now (gains .entry)) (now (gains .exit)) ⌝ }
 {
     let mut e = next_net(bits, v, 0, m);
     while e < m {
         let first = index(firsts[e]);
-        let p = index(sizes[e]);
+        let p = index(presentsizes[e]);
         let r = contract_net(
             counts,
             visited,
             gains,
-            pins,
+            presentpins,
             bits,
-            weights,
+            netweights,
             blocks,
             n,
             m,
@@ -103,7 +103,7 @@ fn contract_nets(
             u,
             v,
         );
-        sizes[e] = narrow(r);
+        presentsizes[e] = narrow(r);
         e = next_net(bits, v, e + 1, m);
     }
     copy_or(bits, u, v);
@@ -114,11 +114,11 @@ pub fn contract(
     counts: &mut [u16],
     visited: &mut [u16],
     gains: &mut [i32],
-    pins: &mut [u16],
-    sizes: &mut [u16],
+    presentpins: &mut [u16],
+    presentsizes: &mut [u16],
     bits: &mut [u64],
     blocks: &mut [u16],
-    weights: &[u16],
+    netweights: &[u16],
     firsts: &[u16],
     n: usize,
     m: usize,
@@ -126,17 +126,17 @@ pub fn contract(
     u: usize,
     v: usize,
 )
-    requires { ⌜ ContractNeeds (running (now counts) (now visited) (now gains) (now pins) (now sizes) (now bits) (now blocks) (now weights) (now firsts)) n m k u v ⌝ }
-    ensures { λ _. ⌜ ContractDoes (running (now (counts .entry)) (now (visited .entry)) (now (gains .entry)) (now (pins .entry)) (now (sizes .entry)) (now (bits .entry)) (now (blocks .entry)) (now (weights .entry)) (now (firsts .entry))) (running (now (counts .exit)) (now (visited .exit)) (now (gains .exit)) (now (pins .exit)) (now (sizes .exit)) (now (bits .exit)) (now (blocks .exit)) (now (weights .entry)) (now (firsts .entry))) n m k u v ⌝ }
+    requires { ⌜ ContractNeeds (running (now counts) (now visited) (now gains) (now presentpins) (now presentsizes) (now bits) (now blocks) (now netweights) (now firsts)) n m k u v ⌝ }
+    ensures { λ _. ⌜ ContractDoes (running (now (counts .entry)) (now (visited .entry)) (now (gains .entry)) (now (presentpins .entry)) (now (presentsizes .entry)) (now (bits .entry)) (now (blocks .entry)) (now (netweights .entry)) (now (firsts .entry))) (running (now (counts .exit)) (now (visited .exit)) (now (gains .exit)) (now (presentpins .exit)) (now (presentsizes .exit)) (now (bits .exit)) (now (blocks .exit)) (now (netweights .entry)) (now (firsts .entry))) n m k u v ⌝ }
 {
     contract_nets(
         counts,
         visited,
         gains,
-        pins,
-        sizes,
+        presentpins,
+        presentsizes,
         bits,
-        weights,
+        netweights,
         blocks,
         firsts,
         n,
@@ -153,34 +153,34 @@ fn uncontract_nets(
     counts: &mut [u16],
     visited: &mut [u16],
     gains: &mut [i32],
-    pins: &mut [u16],
-    sizes: &mut [u16],
+    presentpins: &mut [u16],
+    presentsizes: &mut [u16],
     bits: &mut [u64],
-    weights: &[u16],
+    netweights: &[u16],
     blocks: &[u16],
     firsts: &[u16],
-    loaded: &[u16],
+    loadedsizes: &[u16],
     n: usize,
     m: usize,
     k: usize,
     u: usize,
     v: usize,
 )
-    requires { ⌜ UncontractsAll (now weights) (now counts) (now visited) (now pins) (now blocks) (now firsts) (now sizes) (now loaded) (now bits) (now gains) n m k u v ⌝ }
-    ensures { λ _. ⌜ UncontractedAll (now (weights .entry)) (now (blocks .entry)) (now (firsts .entry)) (now (loaded .entry)) n m k u v (now (pins .entry)) (now (pins .exit)) (now (sizes .entry)) (now (sizes .exit)) (now (bits .entry)) (now (bits .exit)) (now (counts .entry)) (now (counts .exit)) (now (visited .entry)) (now (visited .exit)) (now (gains .entry)) (now (gains .exit)) ⌝ }
+    requires { ⌜ UncontractsAll (now netweights) (now counts) (now visited) (now presentpins) (now blocks) (now firsts) (now presentsizes) (now loadedsizes) (now bits) (now gains) n m k u v ⌝ }
+    ensures { λ _. ⌜ UncontractedAll (now (netweights .entry)) (now (blocks .entry)) (now (firsts .entry)) (now (loadedsizes .entry)) n m k u v (now (presentpins .entry)) (now (presentpins .exit)) (now (presentsizes .entry)) (now (presentsizes .exit)) (now (bits .entry)) (now (bits .exit)) (now (counts .entry)) (now (counts .exit)) (now (visited .entry)) (now (visited .exit)) (now (gains .entry)) (now (gains .exit)) ⌝ }
 {
     let mut e = next_net(bits, v, 0, m);
     while e < m {
         let first = index(firsts[e]);
-        let p = index(sizes[e]);
-        let full = index(loaded[e]);
+        let p = index(presentsizes[e]);
+        let full = index(loadedsizes[e]);
         let r = split_net(
             counts,
             visited,
             gains,
-            pins,
+            presentpins,
             bits,
-            weights,
+            netweights,
             blocks,
             n,
             m,
@@ -192,7 +192,7 @@ fn uncontract_nets(
             u,
             v,
         );
-        sizes[e] = narrow(r);
+        presentsizes[e] = narrow(r);
         e = next_net(bits, v, e + 1, m);
     }
 }
@@ -202,34 +202,34 @@ pub fn uncontract(
     counts: &mut [u16],
     visited: &mut [u16],
     gains: &mut [i32],
-    pins: &mut [u16],
-    sizes: &mut [u16],
+    presentpins: &mut [u16],
+    presentsizes: &mut [u16],
     bits: &mut [u64],
     blocks: &mut [u16],
-    weights: &[u16],
+    netweights: &[u16],
     firsts: &[u16],
-    loaded: &[u16],
+    loadedsizes: &[u16],
     n: usize,
     m: usize,
     k: usize,
     u: usize,
     v: usize,
 )
-    requires { ⌜ UncontractNeeds (now loaded) (running (now counts) (now visited) (now gains) (now pins) (now sizes) (now bits) (now blocks) (now weights) (now firsts)) n m k u v ⌝ }
-    ensures { λ _. ⌜ UncontractDoes (now (loaded .entry)) (running (now (counts .entry)) (now (visited .entry)) (now (gains .entry)) (now (pins .entry)) (now (sizes .entry)) (now (bits .entry)) (now (blocks .entry)) (now (weights .entry)) (now (firsts .entry))) (running (now (counts .exit)) (now (visited .exit)) (now (gains .exit)) (now (pins .exit)) (now (sizes .exit)) (now (bits .exit)) (now (blocks .exit)) (now (weights .entry)) (now (firsts .entry))) n m k u v ⌝ }
+    requires { ⌜ UncontractNeeds (now loadedsizes) (running (now counts) (now visited) (now gains) (now presentpins) (now presentsizes) (now bits) (now blocks) (now netweights) (now firsts)) n m k u v ⌝ }
+    ensures { λ _. ⌜ UncontractDoes (now (loadedsizes .entry)) (running (now (counts .entry)) (now (visited .entry)) (now (gains .entry)) (now (presentpins .entry)) (now (presentsizes .entry)) (now (bits .entry)) (now (blocks .entry)) (now (netweights .entry)) (now (firsts .entry))) (running (now (counts .exit)) (now (visited .exit)) (now (gains .exit)) (now (presentpins .exit)) (now (presentsizes .exit)) (now (bits .exit)) (now (blocks .exit)) (now (netweights .entry)) (now (firsts .entry))) n m k u v ⌝ }
 {
     blocks[v] = blocks[u];
     uncontract_nets(
         counts,
         visited,
         gains,
-        pins,
-        sizes,
+        presentpins,
+        presentsizes,
         bits,
-        weights,
+        netweights,
         blocks,
         firsts,
-        loaded,
+        loadedsizes,
         n,
         m,
         k,

@@ -14,9 +14,9 @@ pub fn contract_net(
     counts: &mut [u16],
     visited: &mut [u16],
     gains: &mut [i32],
-    pins: &mut [u16],
+    presentpins: &mut [u16],
     bits: &[u64],
-    weights: &[u16],
+    netweights: &[u16],
     blocks: &[u16],
     n: usize,
     m: usize,
@@ -27,16 +27,16 @@ pub fn contract_net(
     u: usize,
     v: usize,
 ) -> usize
-    requires { ⌜ ContractNetNeeds (now weights) (now counts) (now visited) (now pins) (now blocks) (now bits) (now gains) n m k first p e u v ⌝ }
-    ensures { λ r. ⌜ ContractNetDoes (now (weights .entry)) (now (blocks .entry)) n m k first p e u v r (now (pins .entry)) (now (pins .exit)) (now (counts .entry)) (now (counts .exit)) (now (visited .entry)) (now (visited .exit)) (now (gains .entry)) (now (gains .exit)) ⌝ }
+    requires { ⌜ ContractNetNeeds (now netweights) (now counts) (now visited) (now presentpins) (now blocks) (now bits) (now gains) n m k first p e u v ⌝ }
+    ensures { λ r. ⌜ ContractNetDoes (now (netweights .entry)) (now (blocks .entry)) n m k first p e u v r (now (presentpins .entry)) (now (presentpins .exit)) (now (counts .entry)) (now (counts .exit)) (now (visited .entry)) (now (visited .exit)) (now (gains .entry)) (now (gains .exit)) ⌝ }
 {
     let s = index(blocks[v]);
     set_pin(
         counts,
         visited,
         gains,
-        weights,
-        pins,
+        netweights,
+        presentpins,
         blocks,
         n,
         m,
@@ -49,7 +49,7 @@ pub fn contract_net(
         0,
     );
     let both = is_pin(bits, u, e);
-    let r = relink(pins, first, p, number(u), number(v), both);
+    let r = relink(presentpins, first, p, number(u), number(v), both);
     if r < p {
         return r;
     }
@@ -57,8 +57,8 @@ pub fn contract_net(
         counts,
         visited,
         gains,
-        weights,
-        pins,
+        netweights,
+        presentpins,
         blocks,
         n,
         m,
@@ -78,30 +78,30 @@ pub fn split_net(
     counts: &mut [u16],
     visited: &mut [u16],
     gains: &mut [i32],
-    pins: &mut [u16],
+    presentpins: &mut [u16],
     bits: &mut [u64],
-    weights: &[u16],
+    netweights: &[u16],
     blocks: &[u16],
     n: usize,
     m: usize,
     k: usize,
     first: usize,
     p: usize,
-    loaded: usize,
+    loadedsizes: usize,
     e: usize,
     u: usize,
     v: usize,
 ) -> usize
-    requires { ⌜ SplitNetNeeds (now weights) (now counts) (now visited) (now pins) (now blocks) (now bits) (now gains) n m k first p loaded e u v ⌝ }
-    ensures { λ r. ⌜ SplitNetDoes (now (weights .entry)) (now (blocks .entry)) n m k first p loaded e u v r (now (pins .entry)) (now (pins .exit)) (now (bits .entry)) (now (bits .exit)) (now (counts .entry)) (now (counts .exit)) (now (visited .entry)) (now (visited .exit)) (now (gains .entry)) (now (gains .exit)) ⌝ }
+    requires { ⌜ SplitNetNeeds (now netweights) (now counts) (now visited) (now presentpins) (now blocks) (now bits) (now gains) n m k first p loadedsizes e u v ⌝ }
+    ensures { λ r. ⌜ SplitNetDoes (now (netweights .entry)) (now (blocks .entry)) n m k first p loadedsizes e u v r (now (presentpins .entry)) (now (presentpins .exit)) (now (bits .entry)) (now (bits .exit)) (now (counts .entry)) (now (counts .exit)) (now (visited .entry)) (now (visited .exit)) (now (gains .entry)) (now (gains .exit)) ⌝ }
 {
     let s = index(blocks[v]);
     set_pin(
         counts,
         visited,
         gains,
-        weights,
-        pins,
+        netweights,
+        presentpins,
         blocks,
         n,
         m,
@@ -113,7 +113,7 @@ pub fn split_net(
         0,
         s,
     );
-    let r = uncontract_net(pins, bits, first, p, loaded, e, u, v);
+    let r = uncontract_net(presentpins, bits, first, p, loadedsizes, e, u, v);
     if p < r {
         return r;
     }
@@ -121,8 +121,8 @@ pub fn split_net(
         counts,
         visited,
         gains,
-        weights,
-        pins,
+        netweights,
+        presentpins,
         blocks,
         n,
         m,

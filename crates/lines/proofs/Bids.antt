@@ -10,7 +10,7 @@ use lib.Dec.{leb}
 use borrow.Author.Tests.{le-leb, lt-leb}
 use Rattle.laws.specs.Fold.{all}
 use Rattle.model.specs.Catalogue.{vertices}
-use Rattle.model.specs.Grammar.{Fields, bytes, same, parts, fields, at, isLine, isNumber, within, Book, stopped, marked, marking, bought, buyLine}
+use Rattle.model.specs.Grammar.{Fields, bytes, same, parts, fields, at, isLine, isNumber, within, Book, stopped, marked, marking, netRead, buyLine}
 use Rattle.text.specs.Field.{formOf, counted, Third}
 use Rattle.lines.specs.Mark.{MarksRead, marksSeen, BuyRead}
 use Rattle.lines.specs.declared.Pinned.{Pinned}
@@ -58,7 +58,7 @@ module _ (x : List ℕ) (r : ℕ) (is : bytes "BUY" ≡ BUY) (form : r ≡ formO
 -- ---- the line
 module _ (n : ℕ) (k : Book) (fs : Fields) where
   buy-is : (a b : Bool) → (isLine "BUY" fs && leb 3 (length fs)) ≡ a → within 1 1000 (at fs 1) ≡ b
-      → buyLine n k fs ≡ cond (not a) (stopped 2 n) (cond (not b) (stopped 3 n) (bought n k (at fs 1) (marking (k .graph) (marked [] (k .marks)) (drop 2 fs))))
+      → buyLine n k fs ≡ cond (not a) (stopped 2 n) (cond (not b) (stopped 3 n) (netRead n k (at fs 1) (marking (k .graph) (marked [] (k .marks)) (drop 2 fs))))
   unfolding buyLine
   buy-is a b p q = rw (← p, ← q)
 
@@ -87,10 +87,10 @@ module _ (s : List ℕ) (at₀ end lots j first : ℕ) (marks stamps : List ℕ)
     buy-range u = none 3 (λ n k. sym (buy-is n k fs true false good (ap (within 1 1000) (sym ew) ∙ u)))
 
     module _ (in-range : within 1 1000 w ≡ true) (b : ℕ) (third : Third s at₀ end b) (m : Pinned) (marks′ stamps′ : List ℕ) (read : MarksRead (parts 44 (slice b end s)) lots j first m marks marks′ stamps′) where
-      says : (n : ℕ) (k : Book) → vertices (k .graph) ≡ lots → k .marks ≡ first → bought n k w (marksSeen first m marks′) ≡ buyLine n k fs
+      says : (n : ℕ) (k : Book) → vertices (k .graph) ≡ lots → k .marks ≡ first → netRead n k w (marksSeen first m marks′) ≡ buyLine n k fs
       says n k e z =
-          ap (bought n k w) (read .says (k .graph) e ∙ ap (λ (f : ℕ). marking (k .graph) (marked [] f) (parts 44 (slice b end s))) (sym z) ∙ ap (marking (k .graph) (marked [] (k .marks))) (third .is))
-          ∙ ap (λ (v : ℕ). bought n k v (marking (k .graph) (marked [] (k .marks)) (drop 2 fs))) ew
+          ap (netRead n k w) (read .says (k .graph) e ∙ ap (λ (f : ℕ). marking (k .graph) (marked [] f) (parts 44 (slice b end s))) (sym z) ∙ ap (marking (k .graph) (marked [] (k .marks))) (third .is))
+          ∙ ap (λ (v : ℕ). netRead n k v (marking (k .graph) (marked [] (k .marks)) (drop 2 fs))) ew
           ∙ sym (buy-is n k fs true true good (ap (within 1 1000) (sym ew) ∙ in-range))
 
       pub buy-read : (e : ℕ) → m ≡ Good e → BuyRead fs lots j first (Bought w e) marks marks′ stamps′
@@ -99,17 +99,17 @@ module _ (s : List ℕ) (at₀ end lots j first : ℕ) (marks stamps : List ℕ)
         past = λ v f z. let u : e ≡ f = cc in rw (← u) (read .past e q);
         len = read .len;
         slen = read .slen;
-        says = λ n k c z. ap (λ (y : Pinned). bought n k w (marksSeen first y marks′)) (sym q) ∙ says n k c z;
+        says = λ n k c z. ap (λ (y : Pinned). netRead n k w (marksSeen first y marks′)) (sym q) ∙ says n k c z;
         next = λ v f z. let u : e ≡ f = cc in rw (← u) (read .next e q);
       }
 
       pub buy-wrong : (e : ℕ) → m ≡ Wrong e → BuyRead fs lots j first (NoBuy e) marks marks′ stamps′
-      unfolding bought
+      unfolding netRead
       buy-wrong e q = record {
         keep = read .keep;
         past = λ v f z. absurd (let u : _≡_ {A = ℕ} 0 1 = cc in omega arith);
         len = read .len;
         slen = read .slen;
-        says = λ n k c z. ap (λ (y : Pinned). bought n k w (marksSeen first y marks′)) (sym q) ∙ says n k c z;
+        says = λ n k c z. ap (λ (y : Pinned). netRead n k w (marksSeen first y marks′)) (sym q) ∙ says n k c z;
         next = λ v f z. absurd (let u : _≡_ {A = ℕ} 0 1 = cc in omega arith);
       }

@@ -8,7 +8,7 @@ use lib.ListN.{length, getD, take}
 use lib.Seq.{slice}
 use Rattle.laws.specs.Fold.{any}
 use Rattle.model.specs.Catalogue.{Hypergraph, vertices}
-use Rattle.model.specs.Grammar.{Fields, Book, Reading, stopped, Marking, marked, wrong, mark, marking, bought, buyLine}
+use Rattle.model.specs.Grammar.{Fields, Book, Reading, stopped, Marking, marked, wrong, mark, marking, netRead, buyLine}
 use Rattle.lines.specs.Line.{Past}
 use Rattle.lines.specs.declared.Pinned.{Pinned}
 use Rattle.lines.specs.declared.Pinned.the-variants.{Good, Wrong}
@@ -54,7 +54,7 @@ pub record MarksRead (fs : Fields) (lots j first : ℕ) (r : Pinned) (marks mark
 
 -- a buyer's line
 abbrev pub buySeen : ℕ → Book → ℕ → Buy → List ℕ → Reading
-buySeen n k first (Bought w m) marks = bought n k w (marked (slice first m marks) m)
+buySeen n k first (Bought w m) marks = netRead n k w (marked (slice first m marks) m)
 buySeen n k first (NoBuy q) marks = stopped q n
 
 pub record BuyRead (fs : Fields) (lots j first : ℕ) (r : Buy) (marks marks′ stamps′ : List ℕ) : Type 0 where

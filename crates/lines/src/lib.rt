@@ -81,7 +81,7 @@ pub fn call_line(s: &[u8], at: usize, end: usize) -> Ask
 }
 
 // x is neither below low nor above high.
-pub fn between(low: u32, high: u32, x: u32) -> bool
+fn between(low: u32, high: u32, x: u32) -> bool
     ensures { λ r. ⌜ r ≡ within low high x ⌝ }
 {
     if x < low {
@@ -137,16 +137,16 @@ pub fn lot_line(s: &[u8], at: usize, end: usize, blocks: u16) -> Lot
 }
 
 // One mark more of buyer j: 0, or the refusal.
-pub fn put_pin(
+fn put_pin(
     v: u32,
     vertices: u32,
     j: u16,
     m: usize,
-    pins: &mut [u16],
+    loadedpins: &mut [u16],
     stamps: &mut [u16; 1024],
 ) -> u8
-    requires { ⌜ (vertices ≤ 1024) × (8192 ≤ length (now pins)) × (length (now stamps) ≡ 1024) ⌝ }
-    ensures { λ r. ⌜ MarkOne v vertices j m r (now (pins .entry)) (now (stamps .entry)) (now (pins .exit)) (now (stamps .exit)) ⌝ }
+    requires { ⌜ (vertices ≤ 1024) × (8192 ≤ length (now loadedpins)) × (length (now stamps) ≡ 1024) ⌝ }
+    ensures { λ r. ⌜ MarkOne v vertices j m r (now (loadedpins .entry)) (now (stamps .entry)) (now (loadedpins .exit)) (now (stamps .exit)) ⌝ }
 {
     if v < 1 {
         return 3;
@@ -161,31 +161,31 @@ pub fn put_pin(
     if 8192 <= m {
         return 5;
     }
-    pins[m] = v as u16;
+    loadedpins[m] = v as u16;
     stamps[x] = j;
     0
 }
 
 // The marks of buyer j, in the fields from `at` to `end`, into the table from `first` on.
-pub fn read_pins(
+fn read_pins(
     s: &[u8],
     at: usize,
     end: usize,
     vertices: u32,
     j: u16,
     first: usize,
-    pins: &mut [u16],
+    loadedpins: &mut [u16],
     stamps: &mut [u16; 1024],
 ) -> Pinned
-    requires { ⌜ (at ≤ end) × (end ≤ length (now s)) × (all (parts 44 (slice at end (now s))) isNumber ≡ true) × (vertices ≤ 1024) × (first ≤ 8192) × (8192 ≤ length (now pins)) × (length (now stamps) ≡ 1024) × Fresh j (now stamps) ⌝ }
-    ensures { λ r. ⌜ MarksRead (parts 44 (slice at end (now (s .entry)))) vertices j first r (now (pins .entry)) (now (pins .exit)) (now (stamps .exit)) ⌝ }
+    requires { ⌜ (at ≤ end) × (end ≤ length (now s)) × (all (parts 44 (slice at end (now s))) isNumber ≡ true) × (vertices ≤ 1024) × (first ≤ 8192) × (8192 ≤ length (now loadedpins)) × (length (now stamps) ≡ 1024) × Fresh j (now stamps) ⌝ }
+    ensures { λ r. ⌜ MarksRead (parts 44 (slice at end (now (s .entry)))) vertices j first r (now (loadedpins .entry)) (now (loadedpins .exit)) (now (stamps .exit)) ⌝ }
 {
     let mut i = at;
     let mut m = first;
     loop {
         let f = text::read_field(s, i, end);
         let e = f.end;
-        let q = put_pin(f.value, vertices, j, m, pins, stamps);
+        let q = put_pin(f.value, vertices, j, m, loadedpins, stamps);
         if q != 0 {
             return Pinned::Wrong(q);
         }
@@ -205,11 +205,11 @@ pub fn buy_line(
     vertices: u32,
     j: u16,
     first: usize,
-    pins: &mut [u16],
+    loadedpins: &mut [u16],
     stamps: &mut [u16; 1024],
 ) -> Buy
-    requires { ⌜ (at ≤ end) × (end ≤ length (now s)) × (vertices ≤ 1024) × (first ≤ 8192) × (8192 ≤ length (now pins)) × (length (now stamps) ≡ 1024) × Fresh j (now stamps) ⌝ }
-    ensures { λ r. ⌜ BuyRead (fields (slice at end (now (s .entry)))) vertices j first r (now (pins .entry)) (now (pins .exit)) (now (stamps .exit)) ⌝ }
+    requires { ⌜ (at ≤ end) × (end ≤ length (now s)) × (vertices ≤ 1024) × (first ≤ 8192) × (8192 ≤ length (now loadedpins)) × (length (now stamps) ≡ 1024) × Fresh j (now stamps) ⌝ }
+    ensures { λ r. ⌜ BuyRead (fields (slice at end (now (s .entry)))) vertices j first r (now (loadedpins .entry)) (now (loadedpins .exit)) (now (stamps .exit)) ⌝ }
 {
     if text::form(s, at, end, b"BUY") < 3 {
         return Buy::NoBuy(2);
@@ -219,7 +219,7 @@ pub fn buy_line(
         return Buy::NoBuy(3);
     }
     let b = text::third(s, at, end);
-    match read_pins(s, b, end, vertices, j, first, pins, stamps) {
+    match read_pins(s, b, end, vertices, j, first, loadedpins, stamps) {
         Pinned::Good(m) => Buy::Bought(w as u16, m),
         Pinned::Wrong(q) => Buy::NoBuy(q),
     }

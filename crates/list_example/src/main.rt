@@ -9,11 +9,11 @@ fn main() {
     let mut weights = [0u32; 1024];
     let mut blocks = [0u16; 1024];
     let mut aboves = [0u16; 1024];
-    let mut pins = [0u16; 8192];
-    let mut present = [0u16; 8192];
+    let mut loadedpins = [0u16; 8192];
+    let mut presentpins = [0u16; 8192];
     let mut firsts = [0u16; 1024];
-    let mut sizes = [0u16; 1024];
-    let mut standing = [0u16; 1024];
+    let mut loadedsizes = [0u16; 1024];
+    let mut presentsizes = [0u16; 1024];
     let mut counts = [0u16; 16384];
     let mut gains = [0i32; 16384];
     let mut visited = [0u16; 1024];
@@ -27,11 +27,11 @@ fn main() {
         &mut weights,
         &mut blocks,
         &mut aboves,
-        &mut pins,
-        &mut present,
+        &mut loadedpins,
+        &mut presentpins,
         &mut firsts,
-        &mut sizes,
-        &mut standing,
+        &mut loadedsizes,
+        &mut presentsizes,
         &mut counts,
         &mut gains,
         &mut visited,

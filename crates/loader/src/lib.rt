@@ -16,7 +16,7 @@ pub struct Sizes {
     pub nets: u32,
     pub blocks: u32,
     pub imbalance: u32,
-    pub pins: usize,
+    pub loadedpins: usize,
     pub calls: usize,
     pub average: u32,
     pub capacity: u32,
@@ -29,7 +29,7 @@ pub enum Loaded {
 }
 
 // The first n entries become 0.
-pub fn clear(to: &mut [u16], n: usize)
+fn clear(to: &mut [u16], n: usize)
     requires { ⌜ n ≤ length (now to) ⌝ }
     ensures { λ _. ⌜ Filled 0 (λ i. ltb i n) (λ i. 0) (now (to .entry)) (now (to .exit)) ⌝ }
 {
@@ -41,7 +41,7 @@ pub fn clear(to: &mut [u16], n: usize)
 }
 
 // The first n entries become those of `from`.
-pub fn copy(from: &[u16], to: &mut [u16], n: usize)
+fn copy(from: &[u16], to: &mut [u16], n: usize)
     requires { ⌜ (n ≤ length (now from)) × (n ≤ length (now to)) ⌝ }
     ensures { λ _. ⌜ Filled 0 (λ i. ltb i n) (λ i. getD (now (from .entry)) i 0) (now (to .entry)) (now (to .exit)) ⌝ }
 {
@@ -53,36 +53,36 @@ pub fn copy(from: &[u16], to: &mut [u16], n: usize)
 }
 
 // No lot is joined into another, and the present marks are the loaded ones.
-pub fn start(
+fn start(
     vertices: usize,
     nets: usize,
     m: usize,
-    pins: &[u16],
-    sizes: &[u16],
+    loadedpins: &[u16],
+    loadedsizes: &[u16],
     aboves: &mut [u16],
-    present: &mut [u16],
-    counts: &mut [u16],
+    presentpins: &mut [u16],
+    presentsizes: &mut [u16],
 )
-    requires { ⌜ (vertices ≤ length (now aboves)) × (m ≤ length (now pins)) × (m ≤ length (now present)) × (nets ≤ length (now sizes)) × (nets ≤ length (now counts)) ⌝ }
-    ensures { λ _. ⌜ Filled 0 (λ i. ltb i vertices) (λ i. 0) (now (aboves .entry)) (now (aboves .exit)) × Filled 0 (λ i. ltb i m) (λ i. getD (now (pins .entry)) i 0) (now (present .entry)) (now (present .exit)) × Filled 0 (λ i. ltb i nets) (λ i. getD (now (sizes .entry)) i 0) (now (counts .entry)) (now (counts .exit)) ⌝ }
+    requires { ⌜ (vertices ≤ length (now aboves)) × (m ≤ length (now loadedpins)) × (m ≤ length (now presentpins)) × (nets ≤ length (now loadedsizes)) × (nets ≤ length (now presentsizes)) ⌝ }
+    ensures { λ _. ⌜ Filled 0 (λ i. ltb i vertices) (λ i. 0) (now (aboves .entry)) (now (aboves .exit)) × Filled 0 (λ i. ltb i m) (λ i. getD (now (loadedpins .entry)) i 0) (now (presentpins .entry)) (now (presentpins .exit)) × Filled 0 (λ i. ltb i nets) (λ i. getD (now (loadedsizes .entry)) i 0) (now (presentsizes .entry)) (now (presentsizes .exit)) ⌝ }
 {
     clear(aboves, vertices);
-    copy(pins, present, m);
-    copy(sizes, counts, nets);
+    copy(loadedpins, presentpins, m);
+    copy(loadedsizes, presentsizes, nets);
 }
 
 // The sizes of an accepted catalogue, with ⌈W/k⌉ and the cap.
-pub fn measure(
+fn measure(
     weights: &[u32],
     vertices: u32,
     nets: u32,
     blocks: u32,
     imbalance: u32,
-    pins: usize,
+    loadedpins: usize,
     calls: usize,
 ) -> Sizes
     requires { ⌜ (vertices ≤ 1024) × (vertices ≤ length (now weights)) × (1 ≤ blocks) × (blocks ≤ 16) × (imbalance ≤ 1000) × (averageOf blocks (take vertices (now weights)) ≤ 67107871) ⌝ }
-    ensures { λ r. ⌜ r ≡ sizesOf vertices nets blocks imbalance pins calls (averageOf blocks (take vertices (now (weights .entry)))) ((1000 + imbalance) * averageOf blocks (take vertices (now (weights .entry))) / 1000) ⌝ }
+    ensures { λ r. ⌜ r ≡ sizesOf vertices nets blocks imbalance loadedpins calls (averageOf blocks (take vertices (now (weights .entry)))) ((1000 + imbalance) * averageOf blocks (take vertices (now (weights .entry))) / 1000) ⌝ }
 {
     let average = reader::average_weight(weights, vertices as usize, blocks);
     let capacity = reader::capacity(average, imbalance);
@@ -91,7 +91,7 @@ pub fn measure(
         nets: nets,
         blocks: blocks,
         imbalance: imbalance,
-        pins: pins,
+        loadedpins: loadedpins,
         calls: calls,
         average: average as u32,
         capacity: capacity as u32,
@@ -104,29 +104,29 @@ pub fn load(
     vmax: u32,
     bmax: u32,
     weights: &mut [u32],
-    draft: &mut [u16],
+    blocks: &mut [u16],
     aboves: &mut [u16],
-    pins: &mut [u16],
-    present: &mut [u16],
+    loadedpins: &mut [u16],
+    presentpins: &mut [u16],
     firsts: &mut [u16],
-    sizes: &mut [u16],
-    counts: &mut [u16],
-    costs: &mut [u16; 1024],
+    loadedsizes: &mut [u16],
+    presentsizes: &mut [u16],
+    netweights: &mut [u16; 1024],
     calls: &mut [u32],
 ) -> Loaded
-    requires { ⌜ (vmax ≤ 1024) × (bmax ≤ 16) × (length (now costs) ≡ 1024) × (1536 ≤ length (now calls)) × LongLists vmax (lists (now weights) (now draft) (now aboves) (now pins) (now present) (now firsts) (now sizes) (now counts)) ⌝ }
-    ensures { λ r. ⌜ Loads (limitsOf vmax bmax) (now (s .entry)) r (lists (now (weights .entry)) (now (draft .entry)) (now (aboves .entry)) (now (pins .entry)) (now (present .entry)) (now (firsts .entry)) (now (sizes .entry)) (now (counts .entry))) (lists (now (weights .exit)) (now (draft .exit)) (now (aboves .exit)) (now (pins .exit)) (now (present .exit)) (now (firsts .exit)) (now (sizes .exit)) (now (counts .exit))) (now (costs .exit)) (now (calls .exit)) ⌝ }
+    requires { ⌜ (vmax ≤ 1024) × (bmax ≤ 16) × (length (now netweights) ≡ 1024) × (1536 ≤ length (now calls)) × LongLists vmax (lists (now weights) (now blocks) (now aboves) (now loadedpins) (now presentpins) (now firsts) (now loadedsizes) (now presentsizes)) ⌝ }
+    ensures { λ r. ⌜ Loads (limitsOf vmax bmax) (now (s .entry)) r (lists (now (weights .entry)) (now (blocks .entry)) (now (aboves .entry)) (now (loadedpins .entry)) (now (presentpins .entry)) (now (firsts .entry)) (now (loadedsizes .entry)) (now (presentsizes .entry))) (lists (now (weights .exit)) (now (blocks .exit)) (now (aboves .exit)) (now (loadedpins .exit)) (now (presentpins .exit)) (now (firsts .exit)) (now (loadedsizes .exit)) (now (presentsizes .exit))) (now (netweights .exit)) (now (calls .exit)) ⌝ }
 {
     match reader::read(
         s,
         vmax,
         bmax,
         weights,
-        draft,
-        costs,
+        blocks,
+        netweights,
         firsts,
-        sizes,
-        pins,
+        loadedsizes,
+        loadedpins,
         calls,
     ) {
         Outcome::Refused(q, n) => Loaded::Refused(q, n),
@@ -135,11 +135,11 @@ pub fn load(
                 l as usize,
                 b as usize,
                 m,
-                pins,
-                sizes,
+                loadedpins,
+                loadedsizes,
                 aboves,
-                present,
-                counts,
+                presentpins,
+                presentsizes,
             );
             Loaded::Accepted(measure(weights, l, b, k, t, m, n))
         }

@@ -1,5 +1,5 @@
 -- The end of a list of calls: the tables that stand for the machine's state are what the closing report is read from, and each answer and the
--- closing report fit into the 60,000 bytes lent. Rests on steps' Steps, on report's Closing and on guarantees' ReportFits. Assumes nothing.
+-- closing report fit into the 60,000 bytes lent. Rests on edit_calls's Steps, on report's Closing and on guarantees' ReportFits. Assumes nothing.
 use Prim.Native.Nat.{ℕ, _+_, _<_, _≤_}
 use native.Mathlib.Omega.{arith}
 use mathlib.Core.Path.{_≡_, sym, ap, _∙_}
@@ -16,9 +16,9 @@ use Rattle.model.specs.Lent.{Two}
 use Rattle.model.specs.Demand.{Accepted}
 use Rattle.guarantees.specs.StateBounds.{stack-le}
 use Rattle.guarantees.specs.ReportFits.{report-fits}
-use Rattle.calls.specs.Pairs.{pairs-length}
-use Rattle.calls.specs.Tables.{Tables, tables, Sound}
-use Rattle.steps.specs.Steps.{Runs}
+use Rattle.operations.specs.Pairs.{pairs-length}
+use Rattle.operations.specs.Tables.{Tables, tables, Sound}
+use Rattle.edit_calls.specs.Steps.{Runs}
 use Rattle.report.specs.Closing.{Ended}
 use Rattle.memory.specs.Prefix.{answers-more}
 

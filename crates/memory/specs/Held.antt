@@ -27,8 +27,8 @@ use Rattle.connectivity.specs.Matrix.{KeptGains}
 use Rattle.connectivity.specs.Set.{kept-gains-trans}
 use Rattle.levels.specs.Running.{netAt}
 use Rattle.levels.specs.Reading.{Reads, reads}
-use Rattle.calls.specs.Tables.{Tables as CallTables, tables, runningOf, Sound, Keeps}
-use Rattle.filling.specs.Prepare.{Prepared}
+use Rattle.operations.specs.Tables.{Tables as CallTables, tables, runningOf, Sound, Keeps}
+use Rattle.first_tables.specs.Prepare.{Prepared}
 use Rattle.loader.specs.Tables.{Started}
 use Rattle.loader.proofs.Fill.{filled-in, filled-out}
 use Rattle.memory.specs.Mask.{mask-is}

@@ -9,7 +9,7 @@ use Rattle.model.specs.Catalogue.{Hypergraph, mainLimits, totalWeight, a
 use Rattle.model.specs.Measure.{above, climb, representative, weight, blockWeight}
 use Rattle.model.specs.Machine.{callM, callW}
 use Rattle.model.specs.Report.{digitsOf, digits}
-use Rattle.model.specs.Grammar.{Reading, reading, stopped, marked, wrong, bytes, same, parts, isNumber, onward, value, fields, isLine, saleLine, overfull, grown, withLot, lotLine, mark, marking, withNet, bought, buyLine, asked, withCall, callLine, line, ending, lines, parse}
+use Rattle.model.specs.Grammar.{Reading, reading, stopped, marked, wrong, bytes, same, parts, isNumber, onward, value, fields, isLine, saleLine, overfull, grown, withLot, lotLine, mark, marking, withNet, netRead, buyLine, asked, withCall, callLine, line, ending, lines, parse}
 
 -- a text, so many times
 unfoldable pub many : ℕ → List ℕ → List ℕ
@@ -109,5 +109,5 @@ pub edges :
       marks = 1;
       calls = callM 999999999 0 ∷ callW 1 1 ∷ [];
     }))
-unfolding many digitsOf digits sum sumTo foldTo sumOver any all totalWeight averageWeight capacity above climb representative weight blockWeight bytes same parts isNumber onward value fields isLine saleLine overfull grown withLot lotLine mark marking withNet bought buyLine asked withCall callLine line ending lines parse
+unfolding many digitsOf digits sum sumTo foldTo sumOver any all totalWeight averageWeight capacity above climb representative weight blockWeight bytes same parts isNumber onward value fields isLine saleLine overfull grown withLot lotLine mark marking withNet netRead buyLine asked withCall callLine line ending lines parse
 edges = (refl, refl, refl, refl, refl, refl, refl, refl, refl, refl, refl, refl, refl, refl, refl, refl, refl, refl, refl, refl, refl, refl, refl, refl, refl, refl, refl, refl, refl, refl, refl, refl, refl, refl, refl, refl, refl, refl, refl, refl, refl, refl, refl, refl, refl, refl, refl, refl, refl, refl, refl)

@@ -161,9 +161,9 @@ unfoldable pub withNet : Hypergraph → ℕ → List ℕ → Hypergraph
 withNet h w vs = record { blocks = h .blocks; imbalance = h .imbalance; weights = h .weights; draft = h .draft; nets = h .nets ++ (record { weight = w; pins = vs } ∷ []) }
 
 -- a buyer with its marks
-unfoldable pub bought : ℕ → Book → ℕ → Marking → Reading
-bought n k w (wrong q) = stopped q n
-bought n k w (marked vs m) = grown n (record {
+unfoldable pub netRead : ℕ → Book → ℕ → Marking → Reading
+netRead n k w (wrong q) = stopped q n
+netRead n k w (marked vs m) = grown n (record {
   lots = k .lots;
   buyers = k .buyers;
   graph = withNet (k .graph) w vs;
@@ -176,7 +176,7 @@ unfoldable pub buyLine : ℕ → Book → Fields → Reading
 buyLine n k fs =
     cond (not (isLine "BUY" fs && leb 3 (length fs))) (stopped 2 n)
     (cond (not (within 1 1000 (at fs 1))) (stopped 3 n)
-    (bought n k (at fs 1) (marking (k .graph) (marked [] (k .marks)) (drop 2 fs))))
+    (netRead n k (at fs 1) (marking (k .graph) (marked [] (k .marks)) (drop 2 fs))))
 
 -- a call line's call, or none
 pub data Asked : Type 0 where

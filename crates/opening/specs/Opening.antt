@@ -1,5 +1,5 @@
 -- The tables as loading leaves them become a running sale: blocks' weights, the draft's metric, and the tables filled are sound for a
--- fresh machine. Rests on filling and on calls' Tables. Assumes nothing.
+-- fresh machine. Rests on first_tables and on operations's Tables. Assumes nothing.
 use Prim.Native.Nat.{ℕ, _+_, _*_, _-_, _<_, _≤_}
 use native.Mathlib.Decide.{ℕ-discrete}
 use native.Mathlib.Nat.{mul-le-mul-left, mul-zero}
@@ -32,10 +32,10 @@ use Rattle.connectivity.specs.Listed.{vertexAt}
 use Rattle.connectivity.specs.Set.{Frame}
 use Rattle.levels.specs.Running.{Running, running, Follows, netAt}
 use Rattle.report.proofs.Climb.{connected}
-use Rattle.filling.specs.Prepare.{Prepares, Prepared}
-use Rattle.filling.specs.Load.{Loaded, prepared-follows}
+use Rattle.first_tables.specs.Prepare.{Prepares, Prepared}
+use Rattle.first_tables.specs.Load.{Loaded, prepared-follows}
 use Rattle.reader.specs.Whole.{blockTerm}
-use Rattle.calls.specs.Tables.{Tables, tables, Fit, Sound}
+use Rattle.operations.specs.Tables.{Tables, tables, Fit, Sound}
 
 -- the tables as loading leaves them: those of a catalogue within the ranges, before any call
 pub record Opens (h : Hypergraph) (pins blocks firsts sizes loadedSizes weights netWeights bits counts visited : List ℕ) (gains : List ℤ) (n m k : ℕ) : Type 0 where

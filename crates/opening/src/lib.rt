@@ -51,29 +51,29 @@ pub fn open(
     gains: &mut [i32],
     bits: &mut [u64],
     loads: &mut [u64; 16],
-    pins: &[u16],
+    presentpins: &[u16],
     blocks: &[u16],
     firsts: &[u16],
-    sizes: &[u16],
+    presentsizes: &[u16],
     weights: &[u32],
     netweights: &[u16],
     n: usize,
     m: usize,
     k: usize,
 ) -> u32
-    requires { ⌜ CanOpen (now pins) (now blocks) (now firsts) (now sizes) (now weights) (now netweights) (now bits) (now counts) (now visited) (now gains) (now loads) n m k ⌝ }
-    ensures { λ r. ⌜ Opened (now (pins .entry)) (now (blocks .entry)) (now (firsts .entry)) (now (sizes .entry)) (now (weights .entry)) (now (netweights .entry)) n m k (now (bits .entry)) (now (bits .exit)) (now (counts .entry)) (now (counts .exit)) (now (visited .entry)) (now (visited .exit)) (now (gains .entry)) (now (gains .exit)) (now (loads .exit)) r ⌝ }
+    requires { ⌜ CanOpen (now presentpins) (now blocks) (now firsts) (now presentsizes) (now weights) (now netweights) (now bits) (now counts) (now visited) (now gains) (now loads) n m k ⌝ }
+    ensures { λ r. ⌜ Opened (now (presentpins .entry)) (now (blocks .entry)) (now (firsts .entry)) (now (presentsizes .entry)) (now (weights .entry)) (now (netweights .entry)) n m k (now (bits .entry)) (now (bits .exit)) (now (counts .entry)) (now (counts .exit)) (now (visited .entry)) (now (visited .exit)) (now (gains .entry)) (now (gains .exit)) (now (loads .exit)) r ⌝ }
 {
-    filling::prepare(
+    first_tables::prepare(
         counts,
         visited,
         gains,
         bits,
         netweights,
-        pins,
+        presentpins,
         blocks,
         firsts,
-        sizes,
+        presentsizes,
         n,
         m,
         k,

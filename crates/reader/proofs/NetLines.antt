@@ -12,7 +12,7 @@ use lib.Dec.{eqb}
 use borrow.Author.Tests.{ne-eqb, lt-ltb, le-ltb}
 use Rattle.laws.specs.Sum.{sum, sum-zero, sum-step, sum-ext}
 use Rattle.model.specs.Catalogue.{Limits, Net, Hypergraph, vertices}
-use Rattle.model.specs.Grammar.{Book, Reading, reading, stopped, parts, fields, whole, grown, withNet, marked, bought, buyLine, line, lines}
+use Rattle.model.specs.Grammar.{Book, Reading, reading, stopped, parts, fields, whole, grown, withNet, marked, netRead, buyLine, line, lines}
 use Rattle.text.specs.Field.{FirstAt}
 use Rattle.reader.proofs.Turns.{lines-stopped, no-more, turned}
 use Rattle.reader.proofs.Lots.{partly, partly-end}
@@ -96,9 +96,9 @@ module _ (l b : ℕ) (h : Hypergraph) (m : ℕ) (ns : List Net) (size : vertices
   unfolding line
   buy-turn limits n x = rw (le-ltb (vertices h) l (omega arith), lt-ltb (length ns) b lt)
 
-bought-is : (n l b w m e : ℕ) (h : Hypergraph) (ns : List Net) (vs : List ℕ) → bought n (book l b (withNets h ns) m []) w (marked vs e) ≡ grown n (book l b (withNets h (ns ++ (record { weight = w; pins = vs } ∷ []))) e [])
-unfolding bought withNet
-bought-is n l b w m e h ns vs = refl
+net-read-is : (n l b w m e : ℕ) (h : Hypergraph) (ns : List Net) (vs : List ℕ) → netRead n (book l b (withNets h ns) m []) w (marked vs e) ≡ grown n (book l b (withNets h (ns ++ (record { weight = w; pins = vs } ∷ []))) e [])
+unfolding netRead withNet
+net-read-is n l b w m e h ns vs = refl
 
 pub record OnBuys (s : List ℕ) (at l b : ℕ) (f₀ c₀ marks₀ w f c marks stamps : List ℕ) (i j m : ℕ) : Type 0 where
   pub i-le : i ≤ length s
@@ -222,6 +222,6 @@ module _ (s : List ℕ) (at l b : ℕ) (f₀ c₀ marks₀ w f c marks stamps : 
                     let u : l + 1 + (j + 1) ≡ l + 2 + j = omega arith in
                     step limits h q
                     ∙ ap (λ (y : Buy). lines limits (l + 2 + j + 1) (buySeen (l + 2 + j) (now-book h) m y marks′) (parts 10 (slice (e + 1) (length s) s))) is
-                    ∙ ap (λ (y : Reading). lines limits (l + 2 + j + 1) y (parts 10 (slice (e + 1) (length s) s))) (bought-is (l + 2 + j) l b x m z h ns (slice m z marks′))
+                    ∙ ap (λ (y : Reading). lines limits (l + 2 + j + 1) y (parts 10 (slice (e + 1) (length s) s))) (net-read-is (l + 2 + j) l b x m z h ns (slice m z marks′))
                     ∙ rw (p, u, nets-more j m z x w f c marks marks′ (read .keep) le wl fl cl (on .inside));
               }

@@ -41,7 +41,7 @@ pub enum Ended {
 }
 
 // Reads the call lines, the first of which is the n-th line.
-pub fn read_calls(s: &[u8], at: usize, n: usize, calls: &mut [u32]) -> Ended
+fn read_calls(s: &[u8], at: usize, n: usize, calls: &mut [u32]) -> Ended
     requires { ⌜ (at ≤ length (now s)) × (n ≤ 4096) × (1536 ≤ length (now calls)) ⌝ }
     ensures { λ r. ⌜ CallsRead (now (s .entry)) at n r (now (calls .exit)) ⌝ }
 {
@@ -74,7 +74,7 @@ pub fn read_calls(s: &[u8], at: usize, n: usize, calls: &mut [u32]) -> Ended
 }
 
 // Reads the lot lines, the first of which is line 2.
-pub fn read_vertices(
+fn read_vertices(
     s: &[u8],
     at: usize,
     vertices: usize,
@@ -109,19 +109,19 @@ pub fn read_vertices(
 }
 
 // Reads the buyers' lines, which follow the lot lines.
-pub fn read_nets(
+fn read_nets(
     s: &[u8],
     at: usize,
     vertices: u32,
     nets: usize,
-    costs: &mut [u16; 1024],
+    netweights: &mut [u16; 1024],
     firsts: &mut [u16],
-    sizes: &mut [u16],
-    pins: &mut [u16],
+    loadedsizes: &mut [u16],
+    loadedpins: &mut [u16],
     stamps: &mut [u16; 1024],
 ) -> Nets
-    requires { ⌜ BuysReady (now s) at vertices nets (now costs) (now firsts) (now sizes) (now pins) (now stamps) ⌝ }
-    ensures { λ r. ⌜ BuysRead (now (s .entry)) at vertices nets r (now (firsts .entry)) (now (sizes .entry)) (now (pins .entry)) (now (costs .exit)) (now (firsts .exit)) (now (sizes .exit)) (now (pins .exit)) ⌝ }
+    requires { ⌜ BuysReady (now s) at vertices nets (now netweights) (now firsts) (now loadedsizes) (now loadedpins) (now stamps) ⌝ }
+    ensures { λ r. ⌜ BuysRead (now (s .entry)) at vertices nets r (now (firsts .entry)) (now (loadedsizes .entry)) (now (loadedpins .entry)) (now (netweights .exit)) (now (firsts .exit)) (now (loadedsizes .exit)) (now (loadedpins .exit)) ⌝ }
 {
     let len = s.len();
     let base = vertices as usize + 2;
@@ -133,14 +133,14 @@ pub fn read_nets(
         if e == len {
             return Nets::Cut(2, base + j);
         }
-        match lines::buy_line(s, i, e, vertices, (j + 1) as u16, m, pins, stamps) {
+        match lines::buy_line(s, i, e, vertices, (j + 1) as u16, m, loadedpins, stamps) {
             Buy::NoBuy(q) => {
                 return Nets::Cut(q, base + j);
             }
             Buy::Bought(w, z) => {
-                costs[j] = w;
+                netweights[j] = w;
                 firsts[j] = m as u16;
-                sizes[j] = (z - m) as u16;
+                loadedsizes[j] = (z - m) as u16;
                 m = z;
             }
         }
@@ -151,7 +151,7 @@ pub fn read_nets(
 }
 
 // The weights of the first n vertices together.
-pub fn total_weight(weights: &[u32], n: usize) -> u64
+fn total_weight(weights: &[u32], n: usize) -> u64
     requires { ⌜ (n ≤ 1024) × (n ≤ length (now weights)) ⌝ }
     ensures { λ r. ⌜ (r ≡ sumOver (take n (now (weights .entry))) (λ w. w)) × (r ≤ n * 4294967295) ⌝ }
 {
@@ -181,7 +181,7 @@ pub fn capacity(average: u64, imbalance: u32) -> u64
 }
 
 // What a vertex adds to the weight of block b.
-pub fn share(weight: u32, block: u16, b: u32) -> u32
+fn share(weight: u32, block: u16, b: u32) -> u32
     ensures { λ r. ⌜ r ≡ cond (eqb block b) weight 0 ⌝ }
 {
     if block as u32 == b { weight } else { 0 }
@@ -202,7 +202,7 @@ pub fn block_weight(weights: &[u32], draft: &[u16], n: usize, b: u32) -> u64
 }
 
 // A session of the draft is above its cap.
-pub fn overfull(vertices: u32, blocks: u32, imbalance: u32, weights: &[u32], draft: &[u16]) -> bool
+fn overfull(vertices: u32, blocks: u32, imbalance: u32, weights: &[u32], draft: &[u16]) -> bool
     requires { ⌜ (vertices ≤ 1024) × (2 ≤ blocks) × (blocks ≤ 16) × (imbalance ≤ 1000) × (vertices ≤ length (now weights)) × (vertices ≤ length (now draft)) ⌝ }
     ensures { λ r. ⌜ overfullIs vertices blocks imbalance (now (weights .entry)) (now (draft .entry)) r ⌝ }
 {
@@ -221,7 +221,7 @@ pub fn overfull(vertices: u32, blocks: u32, imbalance: u32, weights: &[u32], dra
 }
 
 // What follows the catalogue's last line.
-pub fn finish(
+fn finish(
     s: &[u8],
     at: usize,
     vertices: u32,
@@ -244,7 +244,7 @@ pub fn finish(
 }
 
 // What follows the lot lines.
-pub fn after_vertices(
+fn after_vertices(
     s: &[u8],
     at: usize,
     vertices: u32,
@@ -253,25 +253,25 @@ pub fn after_vertices(
     imbalance: u32,
     weights: &[u32],
     draft: &[u16],
-    costs: &mut [u16; 1024],
+    netweights: &mut [u16; 1024],
     firsts: &mut [u16],
-    sizes: &mut [u16],
-    pins: &mut [u16],
+    loadedsizes: &mut [u16],
+    loadedpins: &mut [u16],
     stamps: &mut [u16; 1024],
     calls: &mut [u32],
 ) -> Rest
-    requires { ⌜ Ready (now s) at vertices nets blocks imbalance (now weights) (now draft) (now costs) (now firsts) (now sizes) (now pins) (now stamps) (now calls) ⌝ }
-    ensures { λ r. ⌜ NetsRead (now (s .entry)) at vertices nets blocks imbalance r (now (weights .entry)) (now (draft .entry)) (now (firsts .entry)) (now (sizes .entry)) (now (pins .entry)) (now (costs .exit)) (now (firsts .exit)) (now (sizes .exit)) (now (pins .exit)) (now (calls .exit)) ⌝ }
+    requires { ⌜ Ready (now s) at vertices nets blocks imbalance (now weights) (now draft) (now netweights) (now firsts) (now loadedsizes) (now loadedpins) (now stamps) (now calls) ⌝ }
+    ensures { λ r. ⌜ NetsRead (now (s .entry)) at vertices nets blocks imbalance r (now (weights .entry)) (now (draft .entry)) (now (firsts .entry)) (now (loadedsizes .entry)) (now (loadedpins .entry)) (now (netweights .exit)) (now (firsts .exit)) (now (loadedsizes .exit)) (now (loadedpins .exit)) (now (calls .exit)) ⌝ }
 {
     match read_nets(
         s,
         at,
         vertices,
         nets as usize,
-        costs,
+        netweights,
         firsts,
-        sizes,
-        pins,
+        loadedsizes,
+        loadedpins,
         stamps,
     ) {
         Nets::Cut(q, n) => Rest::Not(q, n),
@@ -294,7 +294,7 @@ pub fn after_vertices(
 }
 
 // What follows the first line.
-pub fn after_head(
+fn after_head(
     s: &[u8],
     at: usize,
     vertices: u32,
@@ -303,14 +303,14 @@ pub fn after_head(
     imbalance: u32,
     weights: &mut [u32],
     draft: &mut [u16],
-    costs: &mut [u16; 1024],
+    netweights: &mut [u16; 1024],
     firsts: &mut [u16],
-    sizes: &mut [u16],
-    pins: &mut [u16],
+    loadedsizes: &mut [u16],
+    loadedpins: &mut [u16],
     calls: &mut [u32],
 ) -> Rest
-    requires { ⌜ (at ≤ length (now s)) × InRange mainLimits vertices nets blocks imbalance × Long vertices (now weights) (now draft) (now costs) (now firsts) (now sizes) (now pins) (now calls) ⌝ }
-    ensures { λ r. ⌜ CatalogueRead (now (s .entry)) at vertices nets blocks imbalance r (now (weights .entry)) (now (draft .entry)) (now (firsts .entry)) (now (sizes .entry)) (now (pins .entry)) (now (weights .exit)) (now (draft .exit)) (now (costs .exit)) (now (firsts .exit)) (now (sizes .exit)) (now (pins .exit)) (now (calls .exit)) ⌝ }
+    requires { ⌜ (at ≤ length (now s)) × InRange mainLimits vertices nets blocks imbalance × Long vertices (now weights) (now draft) (now netweights) (now firsts) (now loadedsizes) (now loadedpins) (now calls) ⌝ }
+    ensures { λ r. ⌜ CatalogueRead (now (s .entry)) at vertices nets blocks imbalance r (now (weights .entry)) (now (draft .entry)) (now (firsts .entry)) (now (loadedsizes .entry)) (now (loadedpins .entry)) (now (weights .exit)) (now (draft .exit)) (now (netweights .exit)) (now (firsts .exit)) (now (loadedsizes .exit)) (now (loadedpins .exit)) (now (calls .exit)) ⌝ }
 {
     let mut stamps = [0u16; 1024];
     match read_vertices(s, at, vertices as usize, blocks as u16, weights, draft) {
@@ -324,10 +324,10 @@ pub fn after_head(
             imbalance,
             weights,
             draft,
-            costs,
+            netweights,
             firsts,
-            sizes,
-            pins,
+            loadedsizes,
+            loadedpins,
             &mut stamps,
             calls,
         ),
@@ -341,14 +341,14 @@ pub fn read(
     bmax: u32,
     weights: &mut [u32],
     draft: &mut [u16],
-    costs: &mut [u16; 1024],
+    netweights: &mut [u16; 1024],
     firsts: &mut [u16],
-    sizes: &mut [u16],
-    pins: &mut [u16],
+    loadedsizes: &mut [u16],
+    loadedpins: &mut [u16],
     calls: &mut [u32],
 ) -> Outcome
-    requires { ⌜ (bmax ≤ 16) × Long vmax (now weights) (now draft) (now costs) (now firsts) (now sizes) (now pins) (now calls) ⌝ }
-    ensures { λ r. ⌜ FileRead (limitsOf vmax bmax) (now (s .entry)) r (now (weights .entry)) (now (draft .entry)) (now (firsts .entry)) (now (sizes .entry)) (now (pins .entry)) (now (weights .exit)) (now (draft .exit)) (now (costs .exit)) (now (firsts .exit)) (now (sizes .exit)) (now (pins .exit)) (now (calls .exit)) ⌝ }
+    requires { ⌜ (bmax ≤ 16) × Long vmax (now weights) (now draft) (now netweights) (now firsts) (now loadedsizes) (now loadedpins) (now calls) ⌝ }
+    ensures { λ r. ⌜ FileRead (limitsOf vmax bmax) (now (s .entry)) r (now (weights .entry)) (now (draft .entry)) (now (firsts .entry)) (now (loadedsizes .entry)) (now (loadedpins .entry)) (now (weights .exit)) (now (draft .exit)) (now (netweights .exit)) (now (firsts .exit)) (now (loadedsizes .exit)) (now (loadedpins .exit)) (now (calls .exit)) ⌝ }
 {
     let len = s.len();
     if 60000 < len {
@@ -369,10 +369,10 @@ pub fn read(
             imbalance,
             weights,
             draft,
-            costs,
+            netweights,
             firsts,
-            sizes,
-            pins,
+            loadedsizes,
+            loadedpins,
             calls,
         ) {
             Rest::Not(q, n) => Outcome::Refused(q, n),

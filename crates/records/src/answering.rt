@@ -18,16 +18,16 @@ pub fn core(
     file: &[u8],
     room: usize,
     output: &mut [u8],
-    pins: &mut [u16],
-    present: &mut [u16],
+    loadedpins: &mut [u16],
+    presentpins: &mut [u16],
     firsts: &mut [u16],
-    sizes: &mut [u16],
-    standing: &mut [u16],
+    loadedsizes: &mut [u16],
+    presentsizes: &mut [u16],
     counts: &mut [u16],
     gains: &mut [i32],
     visited: &mut [u16],
 ) -> Answer
-    ensures { λ r. ⌜ Answers (now (file .entry)) room (now (output .entry)) (others (now (pins .entry)) (now (present .entry)) (now (firsts .entry)) (now (sizes .entry)) (now (standing .entry)) (now (counts .entry)) (now (gains .entry)) (now (visited .entry))) (now (output .exit)) (others (now (pins .exit)) (now (present .exit)) (now (firsts .exit)) (now (sizes .exit)) (now (standing .exit)) (now (counts .exit)) (now (gains .exit)) (now (visited .exit))) r ⌝ }
+    ensures { λ r. ⌜ Answers (now (file .entry)) room (now (output .entry)) (others (now (loadedpins .entry)) (now (presentpins .entry)) (now (firsts .entry)) (now (loadedsizes .entry)) (now (presentsizes .entry)) (now (counts .entry)) (now (gains .entry)) (now (visited .entry))) (now (output .exit)) (others (now (loadedpins .exit)) (now (presentpins .exit)) (now (firsts .exit)) (now (loadedsizes .exit)) (now (presentsizes .exit)) (now (counts .exit)) (now (gains .exit)) (now (visited .exit))) r ⌝ }
 {
     if room < 1024 {
         let blank = Lot {
@@ -52,11 +52,11 @@ pub fn core(
         &mut weights,
         &mut blocks,
         &mut aboves,
-        pins,
-        present,
+        loadedpins,
+        presentpins,
         firsts,
-        sizes,
-        standing,
+        loadedsizes,
+        presentsizes,
         counts,
         gains,
         visited,

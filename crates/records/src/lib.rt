@@ -27,7 +27,7 @@ pub fn write(lots: &mut [Lot], n: usize, new: [Lot; 1024])
 }
 
 // The records of three tables.
-pub fn gather(weights: [u32; 1024], blocks: [u16; 1024], aboves: [u16; 1024]) -> [Lot; 1024]
+fn gather(weights: [u32; 1024], blocks: [u16; 1024], aboves: [u16; 1024]) -> [Lot; 1024]
     ensures { λ r. ⌜ (balesOf r ≡ weights) × (sessionsOf r ≡ blocks) × (abovesOf r ≡ aboves) ⌝ }
 {
     let blank = Lot {

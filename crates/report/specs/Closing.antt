@@ -1,4 +1,4 @@
--- The tables that the closing report is read from, as they show a state of the machine; and that the report fits. Rests on calls' Tables
+-- The tables that the closing report is read from, as they show a state of the machine; and that the report fits. Rests on operations's Tables
 -- and model's Report. Assumes nothing.
 use Prim.Native.Nat.{ℕ, _+_, _<_, _≤_}
 use mathlib.Core.Path.{_≡_}
@@ -14,8 +14,8 @@ use Rattle.model.specs.Report.{lotRows, buyRows, closing}
 use Rattle.guarantees.specs.Climbs.{Sound as SoundStack}
 use Rattle.guarantees.specs.Splits.{AllInside}
 use Rattle.levels.specs.Running.{netAt}
-use Rattle.calls.specs.Pairs.{stackOf}
-use Rattle.calls.specs.Tables.{tables, Sound}
+use Rattle.operations.specs.Pairs.{stackOf}
+use Rattle.operations.specs.Tables.{tables, Sound}
 
 -- the first n entries are the vertices above: 0 on the board, else one of the vertices 1..n
 pub record Aboves (cs : List Contraction) (n : ℕ) (aboves : List ℕ) : Type 0 where

@@ -12,7 +12,7 @@ ghost use Rattle.model.specs.Catalogue.{Hypergraph};
 ghost use Rattle.model.specs.Measure.{Contraction, climb, representative as standsFor};
 ghost use Rattle.model.specs.Machine.{State};
 ghost use Rattle.model.specs.Report.{digits, row, lotRows, buyRows, closing};
-ghost use Rattle.calls.specs.Pairs.{stackOf};
+ghost use Rattle.operations.specs.Pairs.{stackOf};
 ghost use Rattle.report.specs.Wrote.{Wrote};
 ghost use Rattle.report.specs.Place.{joinPlace};
 ghost use Rattle.report.specs.Closing.{Aboves, Climbable, Vertices, VertexIn, VerticesFit, Nets, NetsFit, Ended, ClosingFits};
@@ -41,7 +41,7 @@ fn join_place(gone: &[u16; 1024], depth: usize, v: usize) -> usize
     depth
 }
 
-// The vertex that stands for `v`, by a climb of at most `steps` contractions.
+// The vertex that stands for `v`, by a climb of at most `edit_calls` contractions.
 fn representative(aboves: &[u16], v: usize, steps: usize) -> usize
     requires { ⌜ Climbable (now aboves) v ⌝ }
     ensures { λ r. ⌜ ((cs : List Contraction) (n : ℕ) → Aboves cs n (now (aboves .entry)) → v ≤ n → r ≡ climb steps cs v) ⌝ }

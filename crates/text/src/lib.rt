@@ -135,7 +135,7 @@ pub fn read_field(s: &[u8], at: usize, end: usize) -> Number
 }
 
 // Whether the field from `at` to `end` is `w`.
-pub fn word(s: &[u8], at: usize, end: usize, w: &[u8]) -> bool
+fn word(s: &[u8], at: usize, end: usize, w: &[u8]) -> bool
     requires { ⌜ (at ≤ end) × (end ≤ length (now s)) ⌝ }
     ensures { λ r. ⌜ r ≡ same (slice at end (now (s .entry))) (now (w .entry)) ⌝ }
 {
@@ -153,7 +153,7 @@ pub fn word(s: &[u8], at: usize, end: usize, w: &[u8]) -> bool
 }
 
 // One more than the number of fields from `at` to `end`, if each is a number; else 0.
-pub fn count(s: &[u8], at: usize, end: usize) -> usize
+fn count(s: &[u8], at: usize, end: usize) -> usize
     requires { ⌜ (1 ≤ at) × (at ≤ end) × (end ≤ length (now s)) ⌝ }
     ensures { λ r. ⌜ r ≡ counted 1 (parts 44 (slice at end (now (s .entry)))) ⌝ }
 {

@@ -4,10 +4,10 @@ use native.Mathlib.Omega.{arith}
 use mathlib.Core.Path.{_≡_, refl}
 use mathlib.Core.List.{List}
 use lib.ListN.{length, length-replicate}
-use Rattle.calls.specs.Tables.{tables}
-use Rattle.pairing.specs.Rating.{Blank, scoreOf}
-use Rattle.pairing.specs.Bound.{Bounded}
-use Rattle.pairing.specs.BoundLaw.{bounded-begin}
+use Rattle.operations.specs.Tables.{tables}
+use Rattle.best_contraction.specs.Rating.{Blank, scoreOf}
+use Rattle.best_contraction.specs.Bound.{Bounded}
+use Rattle.best_contraction.specs.BoundLaw.{bounded-begin}
 use Rattle.coarsening.specs.Linked.{blank, tables-ok}
 use Rattle.coarsening.specs.Coarsen.{locals, Going, len-is, going-none, going-more, going-done, once-asks}
 use Rattle.coarsening.proofs.coarsen.Statement.{statement}

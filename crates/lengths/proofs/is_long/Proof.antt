@@ -1,6 +1,6 @@
 use borrow.Author.Needs.{needs}
 use mathlib.Core.Path.{refl}
-use Rattle.steps.specs.Refusal.{both-no, both-yes}
+use Rattle.edit_calls.specs.Refusal.{both-no, both-yes}
 use Rattle.lengths.specs.Tests.{by-tests, short-no, short-yes, lists-test}
 use Rattle.lengths.proofs.is_long.Statement.{statement}
 use Rattle.lengths.proofs.is_long.Tie as tie

@@ -67,11 +67,11 @@ narrow-requires c κs =
     let at-loop = at-slice-known6 .before .before .before .before in
     omega (arith, at-contract-net .contract-net .ensures .shorter, at-index2 .index2 .ensures, at-slice-known6 .slice-known6 .given (at-loop .loop .e))
 
-mul-sizes : tie.Need-mul-sizes Inv-loop μ-loop
-mul-sizes c = omega arith
+mul-presentsizes : tie.Need-mul-presentsizes Inv-loop μ-loop
+mul-presentsizes c = omega arith
 
-slice-write-sizes : tie.Need-slice-write-sizes Inv-loop μ-loop
-slice-write-sizes c = omega (arith, c .before .before .before .before .before .before .before .before .before .before .before .before .before .before .before .before .before .before .before .loop .inv .2 .world .lists .sizes-fit)
+slice-write-presentsizes : tie.Need-slice-write-presentsizes Inv-loop μ-loop
+slice-write-presentsizes c = omega (arith, c .before .before .before .before .before .before .before .before .before .before .before .before .before .before .before .before .before .before .before .loop .inv .2 .world .lists .sizes-fit)
 
 add-next-net : tie.Need-add-next-net Inv-loop μ-loop
 add-next-net c = omega arith
@@ -155,8 +155,8 @@ contract-nets-spec =
     index-requires-2
     contract-net-requires
     narrow-requires
-    mul-sizes
-    slice-write-sizes
+    mul-presentsizes
+    slice-write-presentsizes
     add-next-net
     next-net-requires-2
     loop-less

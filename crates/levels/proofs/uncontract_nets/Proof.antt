@@ -77,11 +77,11 @@ narrow-requires c κs =
     let at-loop = at-shared-slice-known6 .before .before .before .before .before .before in
     omega (arith, at-split-net .split-net .ensures .split .small, at-index3 .index3 .ensures, at-shared-slice-known6 .shared-slice-known6 .given (at-loop .loop .e))
 
-mul-sizes : tie.Need-mul-sizes Inv-loop μ-loop
-mul-sizes c = omega arith
+mul-presentsizes : tie.Need-mul-presentsizes Inv-loop μ-loop
+mul-presentsizes c = omega arith
 
-slice-write-sizes : tie.Need-slice-write-sizes Inv-loop μ-loop
-slice-write-sizes c = omega (arith, c .before .before .before .before .before .before .before .before .before .before .before .before .before .before .before .before .before .before .before .before .before .before .before .loop .inv .2 .world .lists .sizes-fit)
+slice-write-presentsizes : tie.Need-slice-write-presentsizes Inv-loop μ-loop
+slice-write-presentsizes c = omega (arith, c .before .before .before .before .before .before .before .before .before .before .before .before .before .before .before .before .before .before .before .before .before .before .before .loop .inv .2 .world .lists .sizes-fit)
 
 add-next-net : tie.Need-add-next-net Inv-loop μ-loop
 add-next-net c = omega arith
@@ -145,8 +145,8 @@ uncontract-nets-spec =
     index-requires-3
     split-net-requires
     narrow-requires
-    mul-sizes
-    slice-write-sizes
+    mul-presentsizes
+    slice-write-presentsizes
     add-next-net
     next-net-requires-2
     loop-less

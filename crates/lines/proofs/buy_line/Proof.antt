@@ -26,7 +26,7 @@ form-requires c κs = search needs
 returns : tie.Need-returns
 returns c =
     let start = c .before .before .before .before .before in
-    let a = start .args in let x = slice (a .at) (a .end) (now (a .s)) in buy-bad (now (a .s)) (a .at) (a .end) (a .vertices) (a .j) (a .first) (now (a .pins)) (now (a .stamps)) (start .pre .5) (c .before .form .result) word-BUY (c .before .form .ensures) (c .if1 .taken)
+    let a = start .args in let x = slice (a .at) (a .end) (now (a .s)) in buy-bad (now (a .s)) (a .at) (a .end) (a .vertices) (a .j) (a .first) (now (a .loadedpins)) (now (a .stamps)) (start .pre .5) (c .before .form .result) word-BUY (c .before .form .ensures) (c .if1 .taken)
 
 get-requires : tie.Need-get-requires
 get-requires c κs = let a = c .before .before .before .before .before .args in let x = slice (a .at) (a .end) (now (a .s)) in (omega arith, omega arith, numbered (66 ∷ 85 ∷ 89 ∷ []) (fields x) (c .before .form .result - 1) 1 (sym (c .before .form .ensures) ∙ omega arith) (omega arith) (omega arith))
@@ -35,7 +35,7 @@ between-requires : tie.Need-between-requires
 between-requires c κs = search needs
 
 returns-2 : tie.Need-returns-2
-returns-2 c = let a = c .before .before .before .before .before .before .before .before .args in let x = slice (a .at) (a .end) (now (a .s)) in buy-range (now (a .s)) (a .at) (a .end) (a .vertices) (a .j) (a .first) (now (a .pins)) (now (a .stamps)) (c .before .before .before .before .before .before .before .before .pre .5) (c .before .before .before .before .form .result) word-BUY (c .before .before .before .before .form .ensures) (omega arith) (c .before .before .get .result) (c .before .before .get .ensures) (sym (c .before .between .ensures) ∙ not-true _ (c .if2 .taken))
+returns-2 c = let a = c .before .before .before .before .before .before .before .before .args in let x = slice (a .at) (a .end) (now (a .s)) in buy-range (now (a .s)) (a .at) (a .end) (a .vertices) (a .j) (a .first) (now (a .loadedpins)) (now (a .stamps)) (c .before .before .before .before .before .before .before .before .pre .5) (c .before .before .before .before .form .result) word-BUY (c .before .before .before .before .form .ensures) (omega arith) (c .before .before .get .result) (c .before .before .get .ensures) (sym (c .before .between .ensures) ∙ not-true _ (c .if2 .taken))
 
 third-requires : tie.Need-third-requires
 third-requires c κs = let a = c .before .before .before .before .before .before .before .before .args in let x = slice (a .at) (a .end) (now (a .s)) in (omega arith, omega arith, buy-long x (c .before .before .before .before .form .result) word-BUY (c .before .before .before .before .form .ensures) (omega arith))
@@ -56,13 +56,13 @@ same-length : tie.Need-same-length
 same-length c = search needs
 
 returns-3 : tie.Need-returns-3
-returns-3 c = let a = c .before .before .before .before .before .before .before .before .before .before .before .before .before .before .before .before .before .args in let x = slice (a .at) (a .end) (now (a .s)) in buy-read (now (a .s)) (a .at) (a .end) (a .vertices) (a .j) (a .first) (now (a .pins)) (now (a .stamps)) (c .before .before .before .before .before .before .before .before .before .before .before .before .before .before .before .before .before .pre .5) (c .before .before .before .before .before .before .before .before .before .before .before .before .before .form .result) word-BUY (c .before .before .before .before .before .before .before .before .before .before .before .before .before .form .ensures) (omega arith) (c .before .before .before .before .before .before .before .before .before .before .before .get .result) (c .before .before .before .before .before .before .before .before .before .before .before .get .ensures) (sym (c .before .before .before .before .before .before .before .before .before .before .between .ensures) ∙ not-false _ (c .before .before .before .before .before .before .before .before .before .if2 .left)) (c .before .before .before .before .before .before .before .before .third .result) (c .before .before .before .before .before .before .before .before .third .ensures) (c .before .before .before .before .before .read-pins .result) (c .before .before .before .before .before .read-pins .last .1 .1 .1 .1 .1 .1 .0) (c .before .before .before .before .before .read-pins .last .1 .1 .1 .1 .1 .1 .1 .0) (c .before .before .before .before .before .read-pins .ensures) (c .before .m .given .0 .0) (c .before .m .given .1)
+returns-3 c = let a = c .before .before .before .before .before .before .before .before .before .before .before .before .before .before .before .before .before .args in let x = slice (a .at) (a .end) (now (a .s)) in buy-read (now (a .s)) (a .at) (a .end) (a .vertices) (a .j) (a .first) (now (a .loadedpins)) (now (a .stamps)) (c .before .before .before .before .before .before .before .before .before .before .before .before .before .before .before .before .before .pre .5) (c .before .before .before .before .before .before .before .before .before .before .before .before .before .form .result) word-BUY (c .before .before .before .before .before .before .before .before .before .before .before .before .before .form .ensures) (omega arith) (c .before .before .before .before .before .before .before .before .before .before .before .get .result) (c .before .before .before .before .before .before .before .before .before .before .before .get .ensures) (sym (c .before .before .before .before .before .before .before .before .before .before .between .ensures) ∙ not-false _ (c .before .before .before .before .before .before .before .before .before .if2 .left)) (c .before .before .before .before .before .before .before .before .third .result) (c .before .before .before .before .before .before .before .before .third .ensures) (c .before .before .before .before .before .read-pins .result) (c .before .before .before .before .before .read-pins .last .1 .1 .1 .1 .1 .1 .0) (c .before .before .before .before .before .read-pins .last .1 .1 .1 .1 .1 .1 .1 .0) (c .before .before .before .before .before .read-pins .ensures) (c .before .m .given .0 .0) (c .before .m .given .1)
 
 same-length-2 : tie.Need-same-length-2
 same-length-2 c = search needs
 
 returns-4 : tie.Need-returns-4
-returns-4 c = let a = c .before .before .before .before .before .before .before .before .before .before .before .before .before .before .before .before .before .args in let x = slice (a .at) (a .end) (now (a .s)) in buy-wrong (now (a .s)) (a .at) (a .end) (a .vertices) (a .j) (a .first) (now (a .pins)) (now (a .stamps)) (c .before .before .before .before .before .before .before .before .before .before .before .before .before .before .before .before .before .pre .5) (c .before .before .before .before .before .before .before .before .before .before .before .before .before .form .result) word-BUY (c .before .before .before .before .before .before .before .before .before .before .before .before .before .form .ensures) (omega arith) (c .before .before .before .before .before .before .before .before .before .before .before .get .result) (c .before .before .before .before .before .before .before .before .before .before .before .get .ensures) (sym (c .before .before .before .before .before .before .before .before .before .before .between .ensures) ∙ not-false _ (c .before .before .before .before .before .before .before .before .before .if2 .left)) (c .before .before .before .before .before .before .before .before .third .result) (c .before .before .before .before .before .before .before .before .third .ensures) (c .before .before .before .before .before .read-pins .result) (c .before .before .before .before .before .read-pins .last .1 .1 .1 .1 .1 .1 .0) (c .before .before .before .before .before .read-pins .last .1 .1 .1 .1 .1 .1 .1 .0) (c .before .before .before .before .before .read-pins .ensures) (c .before .q .given .0 .0) (c .before .q .given .1)
+returns-4 c = let a = c .before .before .before .before .before .before .before .before .before .before .before .before .before .before .before .before .before .args in let x = slice (a .at) (a .end) (now (a .s)) in buy-wrong (now (a .s)) (a .at) (a .end) (a .vertices) (a .j) (a .first) (now (a .loadedpins)) (now (a .stamps)) (c .before .before .before .before .before .before .before .before .before .before .before .before .before .before .before .before .before .pre .5) (c .before .before .before .before .before .before .before .before .before .before .before .before .before .form .result) word-BUY (c .before .before .before .before .before .before .before .before .before .before .before .before .before .form .ensures) (omega arith) (c .before .before .before .before .before .before .before .before .before .before .before .get .result) (c .before .before .before .before .before .before .before .before .before .before .before .get .ensures) (sym (c .before .before .before .before .before .before .before .before .before .before .between .ensures) ∙ not-false _ (c .before .before .before .before .before .before .before .before .before .if2 .left)) (c .before .before .before .before .before .before .before .before .third .result) (c .before .before .before .before .before .before .before .before .third .ensures) (c .before .before .before .before .before .read-pins .result) (c .before .before .before .before .before .read-pins .last .1 .1 .1 .1 .1 .1 .0) (c .before .before .before .before .before .read-pins .last .1 .1 .1 .1 .1 .1 .1 .0) (c .before .before .before .before .before .read-pins .ensures) (c .before .q .given .0 .0) (c .before .q .given .1)
 
 pub buy-line-spec : {M : Type 1} → statement M
 buy-line-spec =

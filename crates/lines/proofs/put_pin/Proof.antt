@@ -7,10 +7,10 @@ use Rattle.lines.proofs.put_pin.Statement.{statement}
 use Rattle.lines.proofs.put_pin.Tie as tie
 
 returns : tie.Need-returns
-returns c = let a = c .before .args in mark-low (a .v) (a .vertices) (a .j) (a .m) (now (a .pins)) (now (a .stamps)) (omega arith) (omega arith) (c .before .pre .2) (c .if1 .taken)
+returns c = let a = c .before .args in mark-low (a .v) (a .vertices) (a .j) (a .m) (now (a .loadedpins)) (now (a .stamps)) (omega arith) (omega arith) (c .before .pre .2) (c .if1 .taken)
 
 returns-2 : tie.Need-returns-2
-returns-2 c = let a = c .before .before .args in mark-high (a .v) (a .vertices) (a .j) (a .m) (now (a .pins)) (now (a .stamps)) (omega arith) (omega arith) (c .before .before .pre .2) (c .if2 .taken)
+returns-2 c = let a = c .before .before .args in mark-high (a .v) (a .vertices) (a .j) (a .m) (now (a .loadedpins)) (now (a .stamps)) (omega arith) (omega arith) (c .before .before .pre .2) (c .if2 .taken)
 
 cast-x : tie.Need-cast-x
 cast-x c = search needs
@@ -22,19 +22,19 @@ element-copy-out-if3 : tie.Need-element-copy-out-if3
 element-copy-out-if3 c = search needs
 
 returns-3 : tie.Need-returns-3
-returns-3 c = let a = c .before .before .before .before .args in mark-twice (a .v) (a .vertices) (a .j) (a .m) (now (a .pins)) (now (a .stamps)) (omega arith) (omega arith) (c .before .before .before .before .pre .2) (omega arith) (omega arith) (c .if3 .taken)
+returns-3 c = let a = c .before .before .before .before .args in mark-twice (a .v) (a .vertices) (a .j) (a .m) (now (a .loadedpins)) (now (a .stamps)) (omega arith) (omega arith) (c .before .before .before .before .pre .2) (omega arith) (omega arith) (c .if3 .taken)
 
 returns-4 : tie.Need-returns-4
-returns-4 c = let a = c .before .before .before .before .before .args in mark-full (a .v) (a .vertices) (a .j) (a .m) (now (a .pins)) (now (a .stamps)) (omega arith) (omega arith) (c .before .before .before .before .before .pre .2) (omega arith) (omega arith) (c .before .if3 .left) (omega arith)
+returns-4 c = let a = c .before .before .before .before .before .args in mark-full (a .v) (a .vertices) (a .j) (a .m) (now (a .loadedpins)) (now (a .stamps)) (omega arith) (omega arith) (c .before .before .before .before .before .pre .2) (omega arith) (omega arith) (c .before .if3 .left) (omega arith)
 
-cast-pins : tie.Need-cast-pins
-cast-pins c = search needs
+cast-loadedpins : tie.Need-cast-loadedpins
+cast-loadedpins c = search needs
 
-mul-pins : tie.Need-mul-pins
-mul-pins c = search needs
+mul-loadedpins : tie.Need-mul-loadedpins
+mul-loadedpins c = search needs
 
-slice-write-pins : tie.Need-slice-write-pins
-slice-write-pins c = search needs
+slice-write-loadedpins : tie.Need-slice-write-loadedpins
+slice-write-loadedpins c = search needs
 
 mul-stamps : tie.Need-mul-stamps
 mul-stamps c = search needs
@@ -46,7 +46,7 @@ same-length : tie.Need-same-length
 same-length c = search needs
 
 returns-5 : tie.Need-returns-5
-returns-5 c = let a = c .before .before .before .before .before .args in mark-new (a .v) (a .vertices) (a .j) (a .m) (now (a .pins)) (now (a .stamps)) (omega arith) (omega arith) (c .before .before .before .before .before .pre .2) (omega arith) (omega arith) (c .before .if3 .left) (omega arith)
+returns-5 c = let a = c .before .before .before .before .before .args in mark-new (a .v) (a .vertices) (a .j) (a .m) (now (a .loadedpins)) (now (a .stamps)) (omega arith) (omega arith) (c .before .before .before .before .before .pre .2) (omega arith) (omega arith) (c .before .if3 .left) (omega arith)
 
 pub put-pin-spec : {M : Type 1} → statement M
 put-pin-spec =
@@ -59,9 +59,9 @@ put-pin-spec =
     element-copy-out-if3
     returns-3
     returns-4
-    cast-pins
-    mul-pins
-    slice-write-pins
+    cast-loadedpins
+    mul-loadedpins
+    slice-write-loadedpins
     mul-stamps
     element-write-stamps
     same-length

@@ -17,7 +17,7 @@ loop-holds : tie.Need-loop-holds Inv-loop μ-loop
 loop-holds c =
     let a = c .before .before .args in
     let p = c .before .before .pre in
-    marks-start (now (a .s)) (a .at) (a .end) (a .vertices) (a .j) (a .first) (now (a .pins)) (now (a .stamps)) (p .0) (p .3) (p .2) (p .4) (p .5) (p .6) (p .7)
+    marks-start (now (a .s)) (a .at) (a .end) (a .vertices) (a .j) (a .first) (now (a .loadedpins)) (now (a .stamps)) (p .0) (p .3) (p .2) (p .4) (p .5) (p .6) (p .7)
 
 read-field-requires : tie.Need-read-field-requires Inv-loop μ-loop
 read-field-requires c κs =
@@ -45,7 +45,7 @@ returns c =
     let l = at-loop .loop in
     let f = at-field .read-field in
     let q = at-put-pin .put-pin in
-    marks-stop (now (a .s)) (a .at) (a .end) (a .vertices) (a .j) (a .first) (now (a .pins)) (l .pins) (l .stamps) (l .i) (l .m) (l .inv) (omega arith)
+    marks-stop (now (a .s)) (a .at) (a .end) (a .vertices) (a .j) (a .first) (now (a .loadedpins)) (l .loadedpins) (l .stamps) (l .i) (l .m) (l .inv) (omega arith)
     (f .result .end) (f .result .value) (f .ensures) (q .result) (q .last .1 .1 .1 .1 .0) (q .last .1 .1 .1 .1 .1 .0) (q .ensures) (c .if1 .taken)
 
 add-m : tie.Need-add-m Inv-loop μ-loop
@@ -66,7 +66,7 @@ returns-2 c =
     let l = at-loop .loop in
     let f = at-field .read-field in
     let q = at-put-pin .put-pin in
-    marks-last (now (a .s)) (a .at) (a .end) (a .vertices) (a .j) (a .first) (now (a .pins)) (l .pins) (l .stamps) (l .i) (l .m) (l .inv) (omega arith)
+    marks-last (now (a .s)) (a .at) (a .end) (a .vertices) (a .j) (a .first) (now (a .loadedpins)) (l .loadedpins) (l .stamps) (l .i) (l .m) (l .inv) (omega arith)
     (f .result .end) (f .result .value) (f .ensures) (q .result) (q .last .1 .1 .1 .1 .0) (q .last .1 .1 .1 .1 .1 .0) (q .ensures) (c .before .if1 .left) (c .if2 .taken)
 
 add-i : tie.Need-add-i Inv-loop μ-loop
@@ -84,7 +84,7 @@ loop-again c =
     let l = at-loop .loop in
     let f = at-field .read-field in
     let q = at-put-pin .put-pin in
-    marks-on (now (a .s)) (a .at) (a .end) (a .vertices) (a .j) (a .first) (now (a .pins)) (l .pins) (l .stamps) (l .i) (l .m) (l .inv) (omega arith)
+    marks-on (now (a .s)) (a .at) (a .end) (a .vertices) (a .j) (a .first) (now (a .loadedpins)) (l .loadedpins) (l .stamps) (l .i) (l .m) (l .inv) (omega arith)
     (f .result .end) (f .result .value) (f .ensures) (q .result) (q .last .1 .1 .1 .1 .0) (q .last .1 .1 .1 .1 .1 .0) (q .ensures) (c .before .if1 .left) (omega arith)
 
 pub read-pins-spec : {M : Type 1} → statement M

@@ -38,7 +38,7 @@ measure-requires c κs =
       omega (arith, f .range .k-low),
       omega (arith, f .range .k-high, c .before .before .before .before .before .before .before .before .before .before .before .before .before .before .before .before .before .before .before .before .before .before .before .before .before .before .before .before .before .before .before .before .before .before .before .before .before .before .before .before .before .before .before .before .before .before .pre .1),
       f .range .t-high,
-      omega (arith, f .range .k-high, c .before .before .before .before .before .before .before .before .before .before .before .before .before .before .before .before .before .before .before .before .before .before .before .before .before .before .before .before .before .before .before .before .before .before .before .before .before .before .before .before .before .before .before .before .before .before .pre .1, small (limitsOf (a .vmax) (a .bmax)) (now (a .s)) (c .before .before .before .before .before .before .before .before .before .before .before .before .before .before .l .given .0 .0) (c .before .before .before .before .before .before .before .before .before .before .before .before .before .before .l .given .0 .1 .0) (c .before .before .before .before .before .before .before .before .before .before .before .before .before .before .l .given .0 .1 .1 .0) (c .before .before .before .before .before .before .before .before .before .before .before .before .before .before .l .given .0 .1 .1 .1 .0) (c .before .before .before .before .before .before .before .before .before .before .before .before .before .before .l .given .0 .1 .1 .1 .1 .0) (c .before .before .before .before .before .before .before .before .before .before .before .before .before .before .l .given .0 .1 .1 .1 .1 .1 .0) (now (a .weights)) (now (a .draft)) (now (a .aboves)) (now (a .pins)) (now (a .present)) (now (a .firsts)) (now (a .sizes)) (now (a .counts)) _ _ (now (a .aboves)) _ (now (a .present)) _ _ (now (a .counts)) _ _ (c .before .before .before .before .before .before .before .before .before .before .before .before .before .before .before .before .before .before .before .before .before .before .before .before .before .before .before .before .read .result) (c .before .before .before .before .before .before .before .before .before .before .before .before .before .before .before .before .before .before .before .before .before .before .before .before .before .before .before .before .read .ensures) (c .before .before .before .before .before .before .before .before .before .before .before .before .before .before .l .given .1) (c .before .before .before .before .before .before .before .before .before .before .before .before .before .before .before .before .before .before .before .before .before .before .before .before .before .before .before .before .before .before .before .before .before .before .before .before .before .before .before .before .before .before .before .before .before .before .pre .0) (c .before .before .before .before .before .before .before .before .before .before .before .before .before .before .before .before .before .before .before .before .before .before .before .before .before .before .before .before .read .kept .1 .1 .1 .0) (c .before .before .before .before .before .before .before .before .before .before .before .before .before .before .before .before .before .before .before .before .before .before .before .before .before .before .before .before .read .kept .1 .1 .1 .1 .0) (c .before .before .before .before .before .before .before .before .before .before .before .before .before .before .before .before .before .before .before .before .before .before .before .before .before .before .before .before .read .kept .1 .1 .1 .1 .1 .1 .1 .1 .0) (c .before .before .before .before .before .before .before .before .before .before .before .before .before .before .before .before .before .before .before .before .before .before .before .before .before .before .before .before .read .kept .1 .1 .1 .1 .1 .1 .0) (c .before .before .before .before .before .before .before .before .before .before .before .before .before .before .before .before .before .before .before .before .before .before .before .before .before .before .before .before .read .kept .1 .1 .1 .1 .1 .1 .1 .0) (p .weights) (p .blocks) (p .loadedPins) (p .presentPins)),
+      omega (arith, f .range .k-high, c .before .before .before .before .before .before .before .before .before .before .before .before .before .before .before .before .before .before .before .before .before .before .before .before .before .before .before .before .before .before .before .before .before .before .before .before .before .before .before .before .before .before .before .before .before .before .pre .1, small (limitsOf (a .vmax) (a .bmax)) (now (a .s)) (c .before .before .before .before .before .before .before .before .before .before .before .before .before .before .l .given .0 .0) (c .before .before .before .before .before .before .before .before .before .before .before .before .before .before .l .given .0 .1 .0) (c .before .before .before .before .before .before .before .before .before .before .before .before .before .before .l .given .0 .1 .1 .0) (c .before .before .before .before .before .before .before .before .before .before .before .before .before .before .l .given .0 .1 .1 .1 .0) (c .before .before .before .before .before .before .before .before .before .before .before .before .before .before .l .given .0 .1 .1 .1 .1 .0) (c .before .before .before .before .before .before .before .before .before .before .before .before .before .before .l .given .0 .1 .1 .1 .1 .1 .0) (now (a .weights)) (now (a .blocks)) (now (a .aboves)) (now (a .loadedpins)) (now (a .presentpins)) (now (a .firsts)) (now (a .loadedsizes)) (now (a .presentsizes)) _ _ (now (a .aboves)) _ (now (a .presentpins)) _ _ (now (a .presentsizes)) _ _ (c .before .before .before .before .before .before .before .before .before .before .before .before .before .before .before .before .before .before .before .before .before .before .before .before .before .before .before .before .read .result) (c .before .before .before .before .before .before .before .before .before .before .before .before .before .before .before .before .before .before .before .before .before .before .before .before .before .before .before .before .read .ensures) (c .before .before .before .before .before .before .before .before .before .before .before .before .before .before .l .given .1) (c .before .before .before .before .before .before .before .before .before .before .before .before .before .before .before .before .before .before .before .before .before .before .before .before .before .before .before .before .before .before .before .before .before .before .before .before .before .before .before .before .before .before .before .before .before .before .pre .0) (c .before .before .before .before .before .before .before .before .before .before .before .before .before .before .before .before .before .before .before .before .before .before .before .before .before .before .before .before .read .kept .1 .1 .1 .0) (c .before .before .before .before .before .before .before .before .before .before .before .before .before .before .before .before .before .before .before .before .before .before .before .before .before .before .before .before .read .kept .1 .1 .1 .1 .0) (c .before .before .before .before .before .before .before .before .before .before .before .before .before .before .before .before .before .before .before .before .before .before .before .before .before .before .before .before .read .kept .1 .1 .1 .1 .1 .1 .1 .1 .0) (c .before .before .before .before .before .before .before .before .before .before .before .before .before .before .before .before .before .before .before .before .before .before .before .before .before .before .before .before .read .kept .1 .1 .1 .1 .1 .1 .0) (c .before .before .before .before .before .before .before .before .before .before .before .before .before .before .before .before .before .before .before .before .before .before .before .before .before .before .before .before .read .kept .1 .1 .1 .1 .1 .1 .1 .0) (p .weights) (p .blocks) (p .loadedPins) (p .presentPins)),
     )
 
 same-length : tie.Need-same-length
@@ -64,7 +64,7 @@ returns c =
     let at-read = c .before .before .before .before .before .before .before .before .before .before .before .before .before .before .before in
     let start = at-read .before .before .before .before .before .before .before .before .before .before .before .before .before .before .before .before .before .before in
     let a = start .args in
-    refused (limitsOf (a .vmax) (a .bmax)) (now (a .s)) (at-read .read .result) (c .before .q .given .0 .0) (c .before .q .given .0 .1 .0) (now (a .weights)) (now (a .draft)) (now (a .aboves)) (now (a .present)) (now (a .counts)) (now (a .firsts)) (now (a .sizes)) (now (a .pins)) _ _ _ _ _ _ _ (at-read .read .ensures) (c .before .q .given .1)
+    refused (limitsOf (a .vmax) (a .bmax)) (now (a .s)) (at-read .read .result) (c .before .q .given .0 .0) (c .before .q .given .0 .1 .0) (now (a .weights)) (now (a .blocks)) (now (a .aboves)) (now (a .presentpins)) (now (a .presentsizes)) (now (a .firsts)) (now (a .loadedsizes)) (now (a .loadedpins)) _ _ _ _ _ _ _ (at-read .read .ensures) (c .before .q .given .1)
 
 same-length-7 : tie.Need-same-length-7
 same-length-7 c =
@@ -110,7 +110,7 @@ returns-2 c =
     let a = start .args in
     let p = start .pre .4 in
     let e = at-start .start .ensures in
-    accepted (limitsOf (a .vmax) (a .bmax)) (now (a .s)) (at-l .l .given .0 .0) (at-l .l .given .0 .1 .0) (at-l .l .given .0 .1 .1 .0) (at-l .l .given .0 .1 .1 .1 .0) (at-l .l .given .0 .1 .1 .1 .1 .0) (at-l .l .given .0 .1 .1 .1 .1 .1 .0) (now (a .weights)) (now (a .draft)) (now (a .aboves)) (now (a .pins)) (now (a .present)) (now (a .firsts)) (now (a .sizes)) (now (a .counts)) _ _ _ _ _ _ _ _ _ _ (at-read .read .result) (at-read .read .ensures) (at-l .l .given .1) (start .pre .0) (at-read .read .kept .1 .1 .1 .0) (at-read .read .kept .1 .1 .1 .1 .0) (at-read .read .kept .1 .1 .1 .1 .1 .1 .1 .1 .0) (at-read .read .kept .1 .1 .1 .1 .1 .1 .0) (at-read .read .kept .1 .1 .1 .1 .1 .1 .1 .0) (p .weights) (p .blocks) (p .loadedPins) (p .presentPins) (e .0) (e .1) (e .2) (c .measure .result) (c .measure .ensures)
+    accepted (limitsOf (a .vmax) (a .bmax)) (now (a .s)) (at-l .l .given .0 .0) (at-l .l .given .0 .1 .0) (at-l .l .given .0 .1 .1 .0) (at-l .l .given .0 .1 .1 .1 .0) (at-l .l .given .0 .1 .1 .1 .1 .0) (at-l .l .given .0 .1 .1 .1 .1 .1 .0) (now (a .weights)) (now (a .blocks)) (now (a .aboves)) (now (a .loadedpins)) (now (a .presentpins)) (now (a .firsts)) (now (a .loadedsizes)) (now (a .presentsizes)) _ _ _ _ _ _ _ _ _ _ (at-read .read .result) (at-read .read .ensures) (at-l .l .given .1) (start .pre .0) (at-read .read .kept .1 .1 .1 .0) (at-read .read .kept .1 .1 .1 .1 .0) (at-read .read .kept .1 .1 .1 .1 .1 .1 .1 .1 .0) (at-read .read .kept .1 .1 .1 .1 .1 .1 .0) (at-read .read .kept .1 .1 .1 .1 .1 .1 .1 .0) (p .weights) (p .blocks) (p .loadedPins) (p .presentPins) (e .0) (e .1) (e .2) (c .measure .result) (c .measure .ensures)
 
 pub load-spec : {M : Type 1} → statement M
 load-spec =

@@ -1,4 +1,4 @@
--- `open` meets its contract: prepared tables, borne weights and the metric together are sound.
+-- `open` meets its contract: prepared tables, the blocks' weights and the metric together are sound.
 use borrow.Author.Needs.{needs}
 use Rattle.opening.specs.Opening.{prepare-ok, opened}
 use Rattle.opening.proofs.open.Statement.{statement}

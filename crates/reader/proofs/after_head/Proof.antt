@@ -34,7 +34,7 @@ returns : tie.Need-returns
 returns c =
     let at-read-vertices = c .before .before .before .before .before .before .before in
     let start = at-read-vertices .before .before .before .before .before .before .before .before .before .before in
-    let a = start .args in lots-cut (now (a .s)) (a .at) (a .vertices) (a .nets) (a .blocks) (a .imbalance) (now (a .weights)) (now (a .draft)) (now (a .firsts)) (now (a .sizes)) (now (a .pins)) _ _ (at-read-vertices .read-vertices .result) (at-read-vertices .read-vertices .ensures) (c .before .q .given .0 .0) (c .before .q .given .0 .1 .0) (c .before .q .given .1) (now (a .costs)) (now (a .firsts)) (now (a .sizes)) (now (a .pins)) (now (a .calls))
+    let a = start .args in lots-cut (now (a .s)) (a .at) (a .vertices) (a .nets) (a .blocks) (a .imbalance) (now (a .weights)) (now (a .draft)) (now (a .firsts)) (now (a .loadedsizes)) (now (a .loadedpins)) _ _ (at-read-vertices .read-vertices .result) (at-read-vertices .read-vertices .ensures) (c .before .q .given .0 .0) (c .before .q .given .0 .1 .0) (c .before .q .given .1) (now (a .netweights)) (now (a .firsts)) (now (a .loadedsizes)) (now (a .loadedpins)) (now (a .calls))
 
 same-length-3 : tie.Need-same-length-3
 same-length-3 c = search needs
@@ -60,7 +60,7 @@ returns-2 c =
     let at-i = at-after-vertices .before .before .before .before .before .before .before .before .before .before in
     let at-read-vertices = at-i .before .before .before .before .before .before in
     let start = at-read-vertices .before .before .before .before .before .before .before .before .before .before in
-    let a = start .args in lots-go (now (a .s)) (a .at) (a .vertices) (a .nets) (a .blocks) (a .imbalance) (now (a .weights)) (now (a .draft)) (now (a .firsts)) (now (a .sizes)) (now (a .pins)) _ _ (at-read-vertices .read-vertices .result) (at-read-vertices .read-vertices .ensures) (at-i .i .given .0 .0) (at-i .i .given .1) (at-after-vertices .after-vertices .result) _ _ _ _ _ (at-after-vertices .after-vertices .ensures)
+    let a = start .args in lots-go (now (a .s)) (a .at) (a .vertices) (a .nets) (a .blocks) (a .imbalance) (now (a .weights)) (now (a .draft)) (now (a .firsts)) (now (a .loadedsizes)) (now (a .loadedpins)) _ _ (at-read-vertices .read-vertices .result) (at-read-vertices .read-vertices .ensures) (at-i .i .given .0 .0) (at-i .i .given .1) (at-after-vertices .after-vertices .result) _ _ _ _ _ (at-after-vertices .after-vertices .ensures)
 
 pub after-head-spec : {M : Type 1} → statement M
 after-head-spec =

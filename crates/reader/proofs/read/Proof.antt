@@ -10,13 +10,13 @@ use Rattle.reader.proofs.read.Tie as tie
 returns : tie.Need-returns
 returns c =
     let start = c .before .before .before .before .before .before .before .before in
-    let a = start .args in too-long (limitsOf (a .vmax) (a .bmax)) (now (a .s)) (now (a .weights)) (now (a .draft)) (now (a .firsts)) (now (a .sizes)) (now (a .pins)) (now (a .costs)) (now (a .calls)) (c .if1 .taken)
+    let a = start .args in too-long (limitsOf (a .vmax) (a .bmax)) (now (a .s)) (now (a .weights)) (now (a .draft)) (now (a .firsts)) (now (a .loadedsizes)) (now (a .loadedpins)) (now (a .netweights)) (now (a .calls)) (c .if1 .taken)
 
 line-end-requires : tie.Need-line-end-requires
 line-end-requires c κs = search needs
 
 returns-2 : tie.Need-returns-2
-returns-2 c = let a = c .before .before .before .before .before .before .before .before .before .before .args in no-line (limitsOf (a .vmax) (a .bmax)) (now (a .s)) (now (a .weights)) (now (a .draft)) (now (a .firsts)) (now (a .sizes)) (now (a .pins)) (omega (arith, c .before .before .if1 .left)) (c .before .line-end .result) (c .before .line-end .ensures) (now (a .costs)) (now (a .calls)) (c .if2 .taken)
+returns-2 c = let a = c .before .before .before .before .before .before .before .before .before .before .args in no-line (limitsOf (a .vmax) (a .bmax)) (now (a .s)) (now (a .weights)) (now (a .draft)) (now (a .firsts)) (now (a .loadedsizes)) (now (a .loadedpins)) (omega (arith, c .before .before .if1 .left)) (c .before .line-end .result) (c .before .line-end .ensures) (now (a .netweights)) (now (a .calls)) (c .if2 .taken)
 
 sale-line-requires : tie.Need-sale-line-requires
 sale-line-requires c κs = search needs
@@ -40,7 +40,7 @@ enum-known-m : tie.Need-enum-known-m
 enum-known-m c = search needs
 
 returns-3 : tie.Need-returns-3
-returns-3 c = let a = c .before .before .before .before .before .before .before .before .before .before .before .before .before .before .args in bad-sale (limitsOf (a .vmax) (a .bmax)) (now (a .s)) (now (a .weights)) (now (a .draft)) (now (a .firsts)) (now (a .sizes)) (now (a .pins)) (omega (arith, c .before .before .before .before .before .before .if1 .left)) (c .before .before .before .before .before .line-end .result) (c .before .before .before .before .before .line-end .ensures) (omega (arith, c .before .before .before .before .if2 .left, c .before .before .before .before .before .line-end .ensures .high)) (c .before .before .before .sale-line .result) (c .before .before .before .sale-line .ensures) (now (a .costs)) (now (a .calls)) (c .before .q .given .0 .0) (c .before .q .given .1)
+returns-3 c = let a = c .before .before .before .before .before .before .before .before .before .before .before .before .before .before .args in bad-sale (limitsOf (a .vmax) (a .bmax)) (now (a .s)) (now (a .weights)) (now (a .draft)) (now (a .firsts)) (now (a .loadedsizes)) (now (a .loadedpins)) (omega (arith, c .before .before .before .before .before .before .if1 .left)) (c .before .before .before .before .before .line-end .result) (c .before .before .before .before .before .line-end .ensures) (omega (arith, c .before .before .before .before .if2 .left, c .before .before .before .before .before .line-end .ensures .high)) (c .before .before .before .sale-line .result) (c .before .before .before .sale-line .ensures) (now (a .netweights)) (now (a .calls)) (c .before .q .given .0 .0) (c .before .q .given .1)
 
 same-length : tie.Need-same-length
 same-length c = search needs
@@ -61,7 +61,7 @@ same-length-6 : tie.Need-same-length-6
 same-length-6 c = search needs
 
 returns-4 : tie.Need-returns-4
-returns-4 c = let a = c .before .before .before .before .before .before .before .before .before .before .before .before .before .before .before .before .before .before .before .before .before .before .before .before .before .before .before .before .before .before .before .before .before .before .before .before .before .args in file-not (limitsOf (a .vmax) (a .bmax)) (now (a .s)) (now (a .weights)) (now (a .draft)) (now (a .firsts)) (now (a .sizes)) (now (a .pins)) (omega (arith, c .before .before .before .before .before .before .before .before .before .before .before .before .before .before .before .before .before .before .before .before .before .before .before .before .before .before .before .before .before .if1 .left)) (c .before .before .before .before .before .before .before .before .before .before .before .before .before .before .before .before .before .before .before .before .before .before .before .before .before .before .before .before .line-end .result) (c .before .before .before .before .before .before .before .before .before .before .before .before .before .before .before .before .before .before .before .before .before .before .before .before .before .before .before .before .line-end .ensures) (omega (arith, c .before .before .before .before .before .before .before .before .before .before .before .before .before .before .before .before .before .before .before .before .before .before .before .before .before .before .before .if2 .left, c .before .before .before .before .before .before .before .before .before .before .before .before .before .before .before .before .before .before .before .before .before .before .before .before .before .before .before .before .line-end .ensures .high)) (c .before .before .before .before .before .before .before .before .before .before .before .before .before .before .before .before .before .before .before .before .before .before .before .before .before .before .sale-line .result) (c .before .before .before .before .before .before .before .before .before .before .before .before .before .before .before .before .before .before .before .before .before .before .before .before .before .before .sale-line .ensures) (c .before .before .before .before .before .before .before .before .before .before .before .before .before .before .before .before .before .before .before .before .before .before .before .before .vertices .given .0 .0) (c .before .before .before .before .before .before .before .before .before .before .before .before .before .before .before .before .before .before .before .before .before .before .before .before .vertices .given .0 .1 .0) (c .before .before .before .before .before .before .before .before .before .before .before .before .before .before .before .before .before .before .before .before .before .before .before .before .vertices .given .0 .1 .1 .0) (c .before .before .before .before .before .before .before .before .before .before .before .before .before .before .before .before .before .before .before .before .before .before .before .before .vertices .given .0 .1 .1 .1 .0) (c .before .before .before .before .before .before .before .before .before .before .before .before .before .before .before .before .before .before .before .before .before .before .before .before .vertices .given .1) (c .before .before .before .before .before .before .before .before .before .before .before .before .before .before .before .after-head .result) _ _ _ _ _ _ _ (c .before .before .before .before .before .before .before .before .before .before .before .before .before .before .before .after-head .ensures) (c .before .q2 .given .0 .0) (c .before .q2 .given .0 .1 .0) (c .before .q2 .given .1)
+returns-4 c = let a = c .before .before .before .before .before .before .before .before .before .before .before .before .before .before .before .before .before .before .before .before .before .before .before .before .before .before .before .before .before .before .before .before .before .before .before .before .before .args in file-not (limitsOf (a .vmax) (a .bmax)) (now (a .s)) (now (a .weights)) (now (a .draft)) (now (a .firsts)) (now (a .loadedsizes)) (now (a .loadedpins)) (omega (arith, c .before .before .before .before .before .before .before .before .before .before .before .before .before .before .before .before .before .before .before .before .before .before .before .before .before .before .before .before .before .if1 .left)) (c .before .before .before .before .before .before .before .before .before .before .before .before .before .before .before .before .before .before .before .before .before .before .before .before .before .before .before .before .line-end .result) (c .before .before .before .before .before .before .before .before .before .before .before .before .before .before .before .before .before .before .before .before .before .before .before .before .before .before .before .before .line-end .ensures) (omega (arith, c .before .before .before .before .before .before .before .before .before .before .before .before .before .before .before .before .before .before .before .before .before .before .before .before .before .before .before .if2 .left, c .before .before .before .before .before .before .before .before .before .before .before .before .before .before .before .before .before .before .before .before .before .before .before .before .before .before .before .before .line-end .ensures .high)) (c .before .before .before .before .before .before .before .before .before .before .before .before .before .before .before .before .before .before .before .before .before .before .before .before .before .before .sale-line .result) (c .before .before .before .before .before .before .before .before .before .before .before .before .before .before .before .before .before .before .before .before .before .before .before .before .before .before .sale-line .ensures) (c .before .before .before .before .before .before .before .before .before .before .before .before .before .before .before .before .before .before .before .before .before .before .before .before .vertices .given .0 .0) (c .before .before .before .before .before .before .before .before .before .before .before .before .before .before .before .before .before .before .before .before .before .before .before .before .vertices .given .0 .1 .0) (c .before .before .before .before .before .before .before .before .before .before .before .before .before .before .before .before .before .before .before .before .before .before .before .before .vertices .given .0 .1 .1 .0) (c .before .before .before .before .before .before .before .before .before .before .before .before .before .before .before .before .before .before .before .before .before .before .before .before .vertices .given .0 .1 .1 .1 .0) (c .before .before .before .before .before .before .before .before .before .before .before .before .before .before .before .before .before .before .before .before .before .before .before .before .vertices .given .1) (c .before .before .before .before .before .before .before .before .before .before .before .before .before .before .before .after-head .result) _ _ _ _ _ _ _ (c .before .before .before .before .before .before .before .before .before .before .before .before .before .before .before .after-head .ensures) (c .before .q2 .given .0 .0) (c .before .q2 .given .0 .1 .0) (c .before .q2 .given .1)
 
 same-length-7 : tie.Need-same-length-7
 same-length-7 c = search needs
@@ -82,7 +82,7 @@ same-length-12 : tie.Need-same-length-12
 same-length-12 c = search needs
 
 returns-5 : tie.Need-returns-5
-returns-5 c = let a = c .before .before .before .before .before .before .before .before .before .before .before .before .before .before .before .before .before .before .before .before .before .before .before .before .before .before .before .before .before .before .before .before .before .before .before .before .before .args in file-kept (limitsOf (a .vmax) (a .bmax)) (now (a .s)) (now (a .weights)) (now (a .draft)) (now (a .firsts)) (now (a .sizes)) (now (a .pins)) (omega (arith, c .before .before .before .before .before .before .before .before .before .before .before .before .before .before .before .before .before .before .before .before .before .before .before .before .before .before .before .before .before .if1 .left)) (c .before .before .before .before .before .before .before .before .before .before .before .before .before .before .before .before .before .before .before .before .before .before .before .before .before .before .before .before .line-end .result) (c .before .before .before .before .before .before .before .before .before .before .before .before .before .before .before .before .before .before .before .before .before .before .before .before .before .before .before .before .line-end .ensures) (omega (arith, c .before .before .before .before .before .before .before .before .before .before .before .before .before .before .before .before .before .before .before .before .before .before .before .before .before .before .before .if2 .left, c .before .before .before .before .before .before .before .before .before .before .before .before .before .before .before .before .before .before .before .before .before .before .before .before .before .before .before .before .line-end .ensures .high)) (c .before .before .before .before .before .before .before .before .before .before .before .before .before .before .before .before .before .before .before .before .before .before .before .before .before .before .sale-line .result) (c .before .before .before .before .before .before .before .before .before .before .before .before .before .before .before .before .before .before .before .before .before .before .before .before .before .before .sale-line .ensures) (c .before .before .before .before .before .before .before .before .before .before .before .before .before .before .before .before .before .before .before .before .before .before .before .before .vertices .given .0 .0) (c .before .before .before .before .before .before .before .before .before .before .before .before .before .before .before .before .before .before .before .before .before .before .before .before .vertices .given .0 .1 .0) (c .before .before .before .before .before .before .before .before .before .before .before .before .before .before .before .before .before .before .before .before .before .before .before .before .vertices .given .0 .1 .1 .0) (c .before .before .before .before .before .before .before .before .before .before .before .before .before .before .before .before .before .before .before .before .before .before .before .before .vertices .given .0 .1 .1 .1 .0) (c .before .before .before .before .before .before .before .before .before .before .before .before .before .before .before .before .before .before .before .before .before .before .before .before .vertices .given .1) (c .before .before .before .before .before .before .before .before .before .before .before .before .before .before .before .after-head .result) _ _ _ _ _ _ _ (c .before .before .before .before .before .before .before .before .before .before .before .before .before .before .before .after-head .ensures) (c .before .m .given .0 .0) (c .before .m .given .0 .1 .0) (c .before .m .given .1)
+returns-5 c = let a = c .before .before .before .before .before .before .before .before .before .before .before .before .before .before .before .before .before .before .before .before .before .before .before .before .before .before .before .before .before .before .before .before .before .before .before .before .before .args in file-kept (limitsOf (a .vmax) (a .bmax)) (now (a .s)) (now (a .weights)) (now (a .draft)) (now (a .firsts)) (now (a .loadedsizes)) (now (a .loadedpins)) (omega (arith, c .before .before .before .before .before .before .before .before .before .before .before .before .before .before .before .before .before .before .before .before .before .before .before .before .before .before .before .before .before .if1 .left)) (c .before .before .before .before .before .before .before .before .before .before .before .before .before .before .before .before .before .before .before .before .before .before .before .before .before .before .before .before .line-end .result) (c .before .before .before .before .before .before .before .before .before .before .before .before .before .before .before .before .before .before .before .before .before .before .before .before .before .before .before .before .line-end .ensures) (omega (arith, c .before .before .before .before .before .before .before .before .before .before .before .before .before .before .before .before .before .before .before .before .before .before .before .before .before .before .before .if2 .left, c .before .before .before .before .before .before .before .before .before .before .before .before .before .before .before .before .before .before .before .before .before .before .before .before .before .before .before .before .line-end .ensures .high)) (c .before .before .before .before .before .before .before .before .before .before .before .before .before .before .before .before .before .before .before .before .before .before .before .before .before .before .sale-line .result) (c .before .before .before .before .before .before .before .before .before .before .before .before .before .before .before .before .before .before .before .before .before .before .before .before .before .before .sale-line .ensures) (c .before .before .before .before .before .before .before .before .before .before .before .before .before .before .before .before .before .before .before .before .before .before .before .before .vertices .given .0 .0) (c .before .before .before .before .before .before .before .before .before .before .before .before .before .before .before .before .before .before .before .before .before .before .before .before .vertices .given .0 .1 .0) (c .before .before .before .before .before .before .before .before .before .before .before .before .before .before .before .before .before .before .before .before .before .before .before .before .vertices .given .0 .1 .1 .0) (c .before .before .before .before .before .before .before .before .before .before .before .before .before .before .before .before .before .before .before .before .before .before .before .before .vertices .given .0 .1 .1 .1 .0) (c .before .before .before .before .before .before .before .before .before .before .before .before .before .before .before .before .before .before .before .before .before .before .before .before .vertices .given .1) (c .before .before .before .before .before .before .before .before .before .before .before .before .before .before .before .after-head .result) _ _ _ _ _ _ _ (c .before .before .before .before .before .before .before .before .before .before .before .before .before .before .before .after-head .ensures) (c .before .m .given .0 .0) (c .before .m .given .0 .1 .0) (c .before .m .given .1)
 
 pub read-spec : {M : Type 1} → statement M
 read-spec =

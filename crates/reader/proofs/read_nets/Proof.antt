@@ -20,7 +20,7 @@ add-base c = omega arith
 loop-holds : tie.Need-loop-holds Inv-loop μ-loop
 loop-holds c =
     let start = c .before .before .before .before in
-    let a = start .args in buys-start (now (a .s)) (a .at) (a .vertices) (a .nets) (now (a .costs)) (now (a .firsts)) (now (a .sizes)) (now (a .pins)) (now (a .stamps)) (start .pre)
+    let a = start .args in buys-start (now (a .s)) (a .at) (a .vertices) (a .nets) (now (a .netweights)) (now (a .firsts)) (now (a .loadedsizes)) (now (a .loadedpins)) (now (a .stamps)) (start .pre)
 
 line-end-requires : tie.Need-line-end-requires Inv-loop μ-loop
 line-end-requires c κs = (omega arith, omega arith)
@@ -38,7 +38,7 @@ same-length-3 : tie.Need-same-length-3 Inv-loop μ-loop
 same-length-3 c = c .before .before .before .loop .inv .m-same
 
 returns : tie.Need-returns Inv-loop μ-loop
-returns c = let a = c .before .before .before .before .before .before .before .before .args in let l = c .before .before .before .loop in buys-none (now (a .s)) (a .at) (a .vertices) (a .nets) (now (a .firsts)) (now (a .sizes)) (now (a .pins)) (l .costs) (l .firsts) (l .sizes) (l .pins) (l .stamps) (l .i) (l .j) (l .m) (l .inv) (omega arith) (c .before .line-end .result) (c .before .line-end .ensures) (omega arith)
+returns c = let a = c .before .before .before .before .before .before .before .before .args in let l = c .before .before .before .loop in buys-none (now (a .s)) (a .at) (a .vertices) (a .nets) (now (a .firsts)) (now (a .loadedsizes)) (now (a .loadedpins)) (l .netweights) (l .firsts) (l .loadedsizes) (l .loadedpins) (l .stamps) (l .i) (l .j) (l .m) (l .inv) (omega arith) (c .before .line-end .result) (c .before .line-end .ensures) (omega arith)
 
 add-buy-line : tie.Need-add-buy-line Inv-loop μ-loop
 add-buy-line c = omega arith
@@ -72,16 +72,16 @@ same-length-6 c =
     at-buy-line .buy-line .ensures .len ∙ at-loop .loop .inv .m-same
 
 returns-2 : tie.Need-returns-2 Inv-loop μ-loop
-returns-2 c = let a = c .before .before .before .before .before .before .before .before .before .before .before .before .before .before .before .before .args in let l = c .before .before .before .before .before .before .before .before .before .before .before .loop in buys-stop (now (a .s)) (a .at) (a .vertices) (a .nets) (now (a .firsts)) (now (a .sizes)) (now (a .pins)) (l .costs) (l .firsts) (l .sizes) (l .pins) (l .stamps) (l .i) (l .j) (l .m) (l .inv) (omega arith) (c .before .before .before .before .before .before .before .before .before .line-end .result) (c .before .before .before .before .before .before .before .before .before .line-end .ensures) (omega arith) (c .before .before .before .before .before .buy-line .result) (c .before .before .before .before .before .buy-line .last .1 .1 .1 .1 .1 .1 .0) (c .before .before .before .before .before .buy-line .last .1 .1 .1 .1 .1 .1 .1 .0) (c .before .before .before .before .before .buy-line .ensures) (c .before .q .given .0 .0) (c .before .q .given .1)
+returns-2 c = let a = c .before .before .before .before .before .before .before .before .before .before .before .before .before .before .before .before .args in let l = c .before .before .before .before .before .before .before .before .before .before .before .loop in buys-stop (now (a .s)) (a .at) (a .vertices) (a .nets) (now (a .firsts)) (now (a .loadedsizes)) (now (a .loadedpins)) (l .netweights) (l .firsts) (l .loadedsizes) (l .loadedpins) (l .stamps) (l .i) (l .j) (l .m) (l .inv) (omega arith) (c .before .before .before .before .before .before .before .before .before .line-end .result) (c .before .before .before .before .before .before .before .before .before .line-end .ensures) (omega arith) (c .before .before .before .before .before .buy-line .result) (c .before .before .before .before .before .buy-line .last .1 .1 .1 .1 .1 .1 .0) (c .before .before .before .before .before .buy-line .last .1 .1 .1 .1 .1 .1 .1 .0) (c .before .before .before .before .before .buy-line .ensures) (c .before .q .given .0 .0) (c .before .q .given .1)
 
 enum-known-w : tie.Need-enum-known-w Inv-loop μ-loop
 enum-known-w c = search needs
 
-mul-costs : tie.Need-mul-costs Inv-loop μ-loop
-mul-costs c = omega arith
+mul-netweights : tie.Need-mul-netweights Inv-loop μ-loop
+mul-netweights c = omega arith
 
-element-write-costs : tie.Need-element-write-costs Inv-loop μ-loop
-element-write-costs c = omega arith
+element-write-netweights : tie.Need-element-write-netweights Inv-loop μ-loop
+element-write-netweights c = omega arith
 
 cast-firsts : tie.Need-cast-firsts Inv-loop μ-loop
 cast-firsts c = omega (arith, c .before .before .before .before .before .before .before .before .before .before .before .loop .inv .m-le)
@@ -92,17 +92,17 @@ mul-firsts c = omega arith
 slice-write-firsts : tie.Need-slice-write-firsts Inv-loop μ-loop
 slice-write-firsts c = omega (arith, c .before .before .before .before .before .before .before .before .before .before .before .loop .inv .f-len, c .before .before .before .before .before .before .before .before .before .before .before .loop .inv .b-le)
 
-sub-sizes : tie.Need-sub-sizes Inv-loop μ-loop
-sub-sizes c = omega (arith, (let g = c .before .before .before .before .before .buy-line .ensures .next (c .before .w .given .0 .0) (c .before .w .given .0 .1 .0) (c .before .w .given .1) in g .f-le))
+sub-loadedsizes : tie.Need-sub-loadedsizes Inv-loop μ-loop
+sub-loadedsizes c = omega (arith, (let g = c .before .before .before .before .before .buy-line .ensures .next (c .before .w .given .0 .0) (c .before .w .given .0 .1 .0) (c .before .w .given .1) in g .f-le))
 
-cast-sizes : tie.Need-cast-sizes Inv-loop μ-loop
-cast-sizes c = omega (arith, (let g = c .before .before .before .before .before .buy-line .ensures .next (c .before .w .given .0 .0) (c .before .w .given .0 .1 .0) (c .before .w .given .1) in g .f-le), (let g = c .before .before .before .before .before .buy-line .ensures .next (c .before .w .given .0 .0) (c .before .w .given .0 .1 .0) (c .before .w .given .1) in g .m-le))
+cast-loadedsizes : tie.Need-cast-loadedsizes Inv-loop μ-loop
+cast-loadedsizes c = omega (arith, (let g = c .before .before .before .before .before .buy-line .ensures .next (c .before .w .given .0 .0) (c .before .w .given .0 .1 .0) (c .before .w .given .1) in g .f-le), (let g = c .before .before .before .before .before .buy-line .ensures .next (c .before .w .given .0 .0) (c .before .w .given .0 .1 .0) (c .before .w .given .1) in g .m-le))
 
-mul-sizes : tie.Need-mul-sizes Inv-loop μ-loop
-mul-sizes c = omega arith
+mul-loadedsizes : tie.Need-mul-loadedsizes Inv-loop μ-loop
+mul-loadedsizes c = omega arith
 
-slice-write-sizes : tie.Need-slice-write-sizes Inv-loop μ-loop
-slice-write-sizes c = omega (arith, c .before .before .before .before .before .before .before .before .before .before .before .loop .inv .c-len, c .before .before .before .before .before .before .before .before .before .before .before .loop .inv .b-le)
+slice-write-loadedsizes : tie.Need-slice-write-loadedsizes Inv-loop μ-loop
+slice-write-loadedsizes c = omega (arith, c .before .before .before .before .before .before .before .before .before .before .before .loop .inv .c-len, c .before .before .before .before .before .before .before .before .before .before .before .loop .inv .b-le)
 
 add-j : tie.Need-add-j Inv-loop μ-loop
 add-j c = omega arith
@@ -114,7 +114,7 @@ loop-less : tie.Need-loop-less Inv-loop μ-loop
 loop-less c = omega arith
 
 loop-again : tie.Need-loop-again Inv-loop μ-loop
-loop-again c = let a = c .before .before .before .before .before .before .before .before .before .before .before .before .before .before .before .before .args in let l = c .before .before .before .before .before .before .before .before .before .before .before .loop in buys-on (now (a .s)) (a .at) (a .vertices) (a .nets) (now (a .firsts)) (now (a .sizes)) (now (a .pins)) (l .costs) (l .firsts) (l .sizes) (l .pins) (l .stamps) (l .i) (l .j) (l .m) (l .inv) (omega arith) (c .before .before .before .before .before .before .before .before .before .line-end .result) (c .before .before .before .before .before .before .before .before .before .line-end .ensures) (omega arith) (c .before .before .before .before .before .buy-line .result) (c .before .before .before .before .before .buy-line .last .1 .1 .1 .1 .1 .1 .0) (c .before .before .before .before .before .buy-line .last .1 .1 .1 .1 .1 .1 .1 .0) (c .before .before .before .before .before .buy-line .ensures) (c .before .w .given .0 .0) (c .before .w .given .0 .1 .0) (c .before .w .given .1)
+loop-again c = let a = c .before .before .before .before .before .before .before .before .before .before .before .before .before .before .before .before .args in let l = c .before .before .before .before .before .before .before .before .before .before .before .loop in buys-on (now (a .s)) (a .at) (a .vertices) (a .nets) (now (a .firsts)) (now (a .loadedsizes)) (now (a .loadedpins)) (l .netweights) (l .firsts) (l .loadedsizes) (l .loadedpins) (l .stamps) (l .i) (l .j) (l .m) (l .inv) (omega arith) (c .before .before .before .before .before .before .before .before .before .line-end .result) (c .before .before .before .before .before .before .before .before .before .line-end .ensures) (omega arith) (c .before .before .before .before .before .buy-line .result) (c .before .before .before .before .before .buy-line .last .1 .1 .1 .1 .1 .1 .0) (c .before .before .before .before .before .buy-line .last .1 .1 .1 .1 .1 .1 .1 .0) (c .before .before .before .before .before .buy-line .ensures) (c .before .w .given .0 .0) (c .before .w .given .0 .1 .0) (c .before .w .given .1)
 
 same-length-7 : tie.Need-same-length-7 Inv-loop μ-loop
 same-length-7 c = c .before .loop .inv .f-same
@@ -126,7 +126,7 @@ same-length-9 : tie.Need-same-length-9 Inv-loop μ-loop
 same-length-9 c = c .before .loop .inv .m-same
 
 returns-3 : tie.Need-returns-3 Inv-loop μ-loop
-returns-3 c = let a = c .before .before .before .before .before .before .args in let l = c .before .loop in buys-done (now (a .s)) (a .at) (a .vertices) (a .nets) (now (a .firsts)) (now (a .sizes)) (now (a .pins)) (l .costs) (l .firsts) (l .sizes) (l .pins) (l .stamps) (l .i) (l .j) (l .m) (l .inv) (omega arith)
+returns-3 c = let a = c .before .before .before .before .before .before .args in let l = c .before .loop in buys-done (now (a .s)) (a .at) (a .vertices) (a .nets) (now (a .firsts)) (now (a .loadedsizes)) (now (a .loadedpins)) (l .netweights) (l .firsts) (l .loadedsizes) (l .loadedpins) (l .stamps) (l .i) (l .j) (l .m) (l .inv) (omega arith)
 
 pub read-nets-spec : {M : Type 1} → statement M
 read-nets-spec =
@@ -152,15 +152,15 @@ read-nets-spec =
     same-length-6
     returns-2
     enum-known-w
-    mul-costs
-    element-write-costs
+    mul-netweights
+    element-write-netweights
     cast-firsts
     mul-firsts
     slice-write-firsts
-    sub-sizes
-    cast-sizes
-    mul-sizes
-    slice-write-sizes
+    sub-loadedsizes
+    cast-loadedsizes
+    mul-loadedsizes
+    slice-write-loadedsizes
     add-j
     add-i
     loop-less

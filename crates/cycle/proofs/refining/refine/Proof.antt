@@ -3,7 +3,7 @@ use Prim.Native.Nat.{_+_, _*_, _≤_}
 use native.Mathlib.Omega.{arith}
 use mathlib.Core.Path.{_≡_, refl}
 use lib.ListN.{length}
-use Rattle.calls.specs.Tables.{tables}
+use Rattle.operations.specs.Tables.{tables}
 use Rattle.cycle.specs.Refine.{Refining, stack-to, top-asks, part-asks, parts-few, refining-none, refining-more, refining-done}
 use Rattle.cycle.proofs.refining.refine.Statement.{statement}
 use Rattle.cycle.proofs.refining.refine.Tie as tie

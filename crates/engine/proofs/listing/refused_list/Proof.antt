@@ -1,6 +1,6 @@
 use borrow.Author.Needs.{needs}
 use mathlib.Core.Path.{refl}
-use Rattle.lists.specs.Lists.{idle}
+use Rattle.sale_list.specs.Lists.{idle}
 use Rattle.engine.proofs.listing.refused_list.Statement.{statement}
 use Rattle.engine.proofs.listing.refused_list.Tie as tie
 

@@ -15,7 +15,7 @@ use Rattle.records.proofs.answering.core.Tie as tie
 returns : tie.Need-returns
 returns c =
     let a = c .before .before .before .before .before .before .before .before .before .before .args in
-    record { fits = omega arith; small = omega arith; serves = λ lots e. no-room mainLimits (a .file .now) (a .output .now) lots (others (a .pins .now) (a .present .now) (a .firsts .now) (a .sizes .now) (a .standing .now) (a .counts .now) (a .gains .now) (a .visited .now)) (omega (arith, e, c .if1 .taken)) }
+    record { fits = omega arith; small = omega arith; serves = λ lots e. no-room mainLimits (a .file .now) (a .output .now) lots (others (a .loadedpins .now) (a .presentpins .now) (a .firsts .now) (a .loadedsizes .now) (a .presentsizes .now) (a .counts .now) (a .gains .now) (a .visited .now)) (omega (arith, e, c .if1 .taken)) }
 
 slice-aggregate-serve : tie.Need-slice-aggregate-serve
 slice-aggregate-serve c = search needs
@@ -67,12 +67,12 @@ returns-2 c =
     let zeros : List ℕ = replicate 1024 0 in
     let long : 1024 ≤ length zeros = omega (arith, length-replicate {A = ℕ} 1024 0) in
     let room : 1024 ≤ a .room = c .before .before .before .before .before .before .before .before .before .before .before .before .before .before .before .before .before .before .before .before .before .before .before .before .before .before .before .before .before .before .before .before .before .before .if1 .left in
-    let few : c .before .before .before .before .before .before .before .before .before .before .before .before .before .before .before .before .before .before .before .before .before .serve .result .lots ≤ 1024 = omega (arith, told .lots-are, lots-few mainLimits (a .file .now) (longMemory mainLimits (inTables (a .output .now) zeros zeros zeros (others (a .pins .now) (a .present .now) (a .firsts .now) (a .sizes .now) (a .standing .now) (a .counts .now) (a .gains .now) (a .visited .now))))) in
+    let few : c .before .before .before .before .before .before .before .before .before .before .before .before .before .before .before .before .before .before .before .before .before .serve .result .lots ≤ 1024 = omega (arith, told .lots-are, lots-few mainLimits (a .file .now) (longMemory mainLimits (inTables (a .output .now) zeros zeros zeros (others (a .loadedpins .now) (a .presentpins .now) (a .firsts .now) (a .loadedsizes .now) (a .presentsizes .now) (a .counts .now) (a .gains .now) (a .visited .now))))) in
     record {
       fits = omega (arith, few, room);
       small = few;
       serves = λ lots e. serves-records mainLimits (a .file .now) (a .output .now) (last .1 .0) zeros zeros zeros (last .1 .1 .0) (last .1 .1 .1 .0) (last .1 .1 .1 .1 .0)
-          (others (a .pins .now) (a .present .now) (a .firsts .now) (a .sizes .now) (a .standing .now) (a .counts .now) (a .gains .now) (a .visited .now)) (others (last .1 .1 .1 .1 .1 .0) (last .1 .1 .1 .1 .1 .1 .0) (last .1 .1 .1 .1 .1 .1 .1 .0) (last .1 .1 .1 .1 .1 .1 .1 .1 .0) (last .1 .1 .1 .1 .1 .1 .1 .1 .1 .0) (last .1 .1 .1 .1 .1 .1 .1 .1 .1 .1 .0) (last .1 .1 .1 .1 .1 .1 .1 .1 .1 .1 .1 .0) (last .1 .1 .1 .1 .1 .1 .1 .1 .1 .1 .1 .1 .0)) (c .gather .result) lots (c .before .before .before .before .before .before .before .before .before .before .before .before .before .before .before .before .before .before .before .before .before .serve .result .lots) _ _
+          (others (a .loadedpins .now) (a .presentpins .now) (a .firsts .now) (a .loadedsizes .now) (a .presentsizes .now) (a .counts .now) (a .gains .now) (a .visited .now)) (others (last .1 .1 .1 .1 .1 .0) (last .1 .1 .1 .1 .1 .1 .0) (last .1 .1 .1 .1 .1 .1 .1 .0) (last .1 .1 .1 .1 .1 .1 .1 .1 .0) (last .1 .1 .1 .1 .1 .1 .1 .1 .1 .0) (last .1 .1 .1 .1 .1 .1 .1 .1 .1 .1 .0) (last .1 .1 .1 .1 .1 .1 .1 .1 .1 .1 .1 .0) (last .1 .1 .1 .1 .1 .1 .1 .1 .1 .1 .1 .1 .0)) (c .gather .result) lots (c .before .before .before .before .before .before .before .before .before .before .before .before .before .before .before .before .before .before .before .before .before .serve .result .lots) _ _
           long long long (omega (arith, e, room)) few (c .gather .ensures) (told .lots-are) (told .serves);
     }
 

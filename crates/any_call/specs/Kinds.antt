@@ -1,0 +1,114 @@
+-- The call that a letter's byte and two numbers are, by kinds: J and S; M, B, W and P; A. Rests on model's Grammar. Assumes nothing.
+use Prim.Native.Nat.{ℕ, zero, suc, _<_, _^_}
+use native.Mathlib.Omega.{arith}
+use mathlib.Core.Path.{_≡_, refl, sym, ap, _∙_, subst}
+use mathlib.Core.Bool.{Bool, true, false, cond, _||_}
+use borrow.Author.Tests.{eq-eqb, ne-eqb}
+use lib.Dec.{eqb}
+use lib.IntN.{ℤ}
+use lib.Signed.{mag}
+use mir.Syntax.{w32}
+use mir.Val.{ofZ, toZ}
+use Rattle.laws.specs.Choice.{cond-yes, cond-no}
+use Rattle.laws.specs.Integer.{read32}
+use Rattle.model.specs.Catalogue.{Hypergraph}
+use Rattle.model.specs.Machine.{Call, callJ, callS, callM, callB, callW, callP, callA, Answer, saysM, saysNO}
+use Rattle.model.specs.Grammar.{asks, nothing, callOf}
+use Rattle.model.specs.Lent.{Two}
+use Rattle.operations.specs.Tables.{Tables}
+use Rattle.edit_calls.specs.Steps.{told}
+use Rattle.edit_calls.specs.Called.{Called}
+
+-- the letters J and S
+abbrev pub contracts : ℕ → Bool
+contracts letter = eqb letter 74 || eqb letter 83
+
+-- the letters M, B, W and P
+abbrev pub moves : ℕ → Bool
+moves letter = eqb letter 77 || (eqb letter 66 || (eqb letter 87 || eqb letter 80))
+
+-- J, and S for every other letter
+abbrev pub contractingCall : ℕ → ℕ → ℕ → Call
+contractingCall letter x y = cond (eqb letter 74) (callJ x y) callS
+
+-- M, B, W, and P for every other letter
+abbrev pub movingCall : ℕ → ℕ → ℕ → Call
+movingCall letter x y = cond (eqb letter 77) (callM x y) (cond (eqb letter 66) callB (cond (eqb letter 87) (callW x y) callP))
+
+-- all seven, and A for every other letter
+abbrev pub anyCall : ℕ → ℕ → ℕ → Call
+anyCall letter x y = cond (contracts letter) (contractingCall letter x y) (cond (moves letter) (movingCall letter x y) callA)
+
+-- a letter of a call is taken for that call
+pub any-is : (letter x y : ℕ) (c : Call) → callOf letter x y ≡ asks c → anyCall letter x y ≡ c
+unfolding callOf
+any-is letter x y c = go (eqb letter 74) (eqb letter 83) (eqb letter 77) (eqb letter 66) (eqb letter 87) (eqb letter 80) (eqb letter 65)
+  where
+    same : {a b : Call} → asks a ≡ asks b → a ≡ b
+    same e = cc
+
+    go : (j s m b w p a : Bool) → cond j (asks (callJ x y)) (cond s (asks callS) (cond m (asks (callM x y)) (cond b (asks callB) (cond w (asks (callW x y)) (cond p (asks callP) (cond a (asks callA) nothing)))))) ≡ asks c
+        → cond (j || s) (cond j (callJ x y) callS) (cond (m || (b || (w || p))) (cond m (callM x y) (cond b callB (cond w (callW x y) callP))) callA) ≡ c
+    go true s m b w p a e = same e
+    go false true m b w p a e = same e
+    go false false true b w p a e = same e
+    go false false false true w p a e = same e
+    go false false false false true p a e = same e
+    go false false false false false true a e = same e
+    go false false false false false false true e = same e
+    go false false false false false false false e = absurd (let z : _≡_ {A = ℕ} 0 1 = cc in omega arith)
+
+-- ---- the arms of the code's tests
+pub either-first : (x n : ℕ) (b : Bool) → x ≡ n → true ≡ (eqb x n || b)
+either-first x n b e = sym (ap (λ (t : Bool). t || b) (eq-eqb x n e))
+
+pub either-rest : (x n : ℕ) {b r : Bool} → (x ≡ n → ⊥) → r ≡ b → r ≡ (eqb x n || b)
+either-rest x n {b} z e = e ∙ sym (ap (λ (t : Bool). t || b) (ne-eqb x n z))
+
+pub told-some : (q : ℕ) (a : Answer) → (q ≡ 0 → ⊥) → saysNO q ≡ told q a
+told-some zero a z = absurd (z refl)
+told-some (suc q) a z = refl
+
+-- ---- which call it is
+module _ (letter x y : ℕ) where
+  pub is-J : letter ≡ 74 → contractingCall letter x y ≡ callJ x y
+  is-J e = cond-yes letter 74 _ _ e
+
+  pub is-S : (letter ≡ 74 → ⊥) → contractingCall letter x y ≡ callS
+  is-S j = cond-no letter 74 _ _ j
+
+  pub is-M : letter ≡ 77 → movingCall letter x y ≡ callM x y
+  is-M e = cond-yes letter 77 _ _ e
+
+  pub is-B : (letter ≡ 77 → ⊥) → letter ≡ 66 → movingCall letter x y ≡ callB
+  is-B m e = cond-no letter 77 _ _ m ∙ cond-yes letter 66 _ _ e
+
+  pub is-W : (letter ≡ 77 → ⊥) → (letter ≡ 66 → ⊥) → letter ≡ 87 → movingCall letter x y ≡ callW x y
+  is-W m b e = cond-no letter 77 _ _ m ∙ cond-no letter 66 _ _ b ∙ cond-yes letter 87 _ _ e
+
+  pub is-P : (letter ≡ 77 → ⊥) → (letter ≡ 66 → ⊥) → (letter ≡ 87 → ⊥) → movingCall letter x y ≡ callP
+  is-P m b w = cond-no letter 77 _ _ m ∙ cond-no letter 66 _ _ b ∙ cond-no letter 87 _ _ w
+
+  module _ {r : Bool} (e : r ≡ contracts letter) where
+    pub any-contracting : r ≡ true → anyCall letter x y ≡ contractingCall letter x y
+    any-contracting q = ap (λ (t : Bool). cond t (contractingCall letter x y) (cond (moves letter) (movingCall letter x y) callA)) (sym e ∙ q)
+
+    module _ (q : r ≡ false) {r′ : Bool} (e′ : r′ ≡ moves letter) where
+      other : anyCall letter x y ≡ cond r′ (movingCall letter x y) callA
+      other =
+          ap (λ (t : Bool). cond t (contractingCall letter x y) (cond (moves letter) (movingCall letter x y) callA)) (sym e ∙ q)
+          ∙ ap (λ (t : Bool). cond t (movingCall letter x y) callA) (sym e′)
+
+      pub any-moving : r′ ≡ true → anyCall letter x y ≡ movingCall letter x y
+      any-moving q′ = other ∙ ap (λ (t : Bool). cond t (movingCall letter x y) callA) q′
+
+      pub any-all : r′ ≡ false → anyCall letter x y ≡ callA
+      any-all q′ = other ∙ ap (λ (t : Bool). cond t (movingCall letter x y) callA) q′
+
+-- a step of the same call, with the same answer
+pub called-as : {h : Hypergraph} {T T′ : Tables} {S S′ J J′ : Two} {c c′ : Call} {a a′ : Answer} → c′ ≡ c → a′ ≡ a → Called h T T′ S S′ J J′ c a → Called h T T′ S S′ J J′ c′ a′
+called-as {h} {T} {T′} {S} {S′} {J} {J′} {c} {c′} {a} {a′} p q d = subst (λ (x : Call). Called h T T′ S S′ J J′ x a′) (sym p) (subst (λ (x : Answer). Called h T T′ S S′ J J′ c x) (sym q) d)
+
+-- a signed number that was read from a struct
+pub moved-as : {a : Answer} (q : ℕ) (g : ℤ) (total : ℕ) → mag g < 2 ^ 31 → a ≡ told q (saysM (toZ w32 (ofZ w32 g)) total) → a ≡ told q (saysM g total)
+moved-as q g total f e = e ∙ ap (λ (z : ℤ). told q (saysM z total)) (read32 g f)

@@ -1,0 +1,15 @@
+-- `higher`: the vertex is chosen where its bound is the higher one.
+use mathlib.Core.Logic.{inl, inr}
+use mathlib.Core.Path.{refl}
+use native.Mathlib.Omega.{arith}
+use Rattle.best_contraction.proofs.bounds.higher.Statement.{statement}
+use Rattle.best_contraction.proofs.bounds.higher.Tie as tie
+
+returns : tie.Need-returns
+returns c = inl (omega arith, refl, refl)
+
+returns-2 : tie.Need-returns-2
+returns-2 c = inr (omega arith, refl, refl)
+
+pub higher-spec : {M : Type 1} → statement M
+higher-spec = tie.close (tie.spec returns returns-2)

@@ -1,0 +1,74 @@
+-- `highest`: the first of the highest among the vertices seen.
+use Prim.Native.Nat.{ℕ, _≤_, _-_}
+use mathlib.Core.Path.{refl, subst, _≡_}
+use lib.ListN.{getD}
+use Rattle.best_contraction.specs.Bound.{Highest}
+use Rattle.best_contraction.specs.BoundLaw.{highest-one, highest-more}
+use native.Mathlib.Omega.{arith}
+use denote.Ref.{now}
+use borrow.Author.Needs.{needs}
+use Rattle.best_contraction.proofs.bounds.highest.Statement.{statement}
+use Rattle.best_contraction.proofs.bounds.highest.Tie as tie
+
+abbrev Inv-loop : tie.InvT-loop
+Inv-loop bounds n top₀ i₀ top i = (1 ≤ i) × (i ≤ n) × Highest bounds i (top .vertex) × (top .bound ≡ getD bounds (top .vertex) 0)
+
+abbrev μ-loop : tie.MeasureT-loop
+μ-loop bounds n top₀ i₀ top i = n - i
+
+element-copy-out-t7 : tie.Need-element-copy-out-t7 Inv-loop μ-loop
+element-copy-out-t7 c = omega (arith, c .pre .0)
+
+loop-holds : tie.Need-loop-holds Inv-loop μ-loop
+loop-holds c = (omega arith, c .before .pre .1, highest-one (now (c .before .args .bounds)), refl)
+
+add-higher : tie.Need-add-higher Inv-loop μ-loop
+add-higher c = omega (arith, c .before .before .before .pre)
+
+mul-higher : tie.Need-mul-higher Inv-loop μ-loop
+mul-higher c = omega arith
+
+element-copy-out-higher : tie.Need-element-copy-out-higher Inv-loop μ-loop
+element-copy-out-higher c = omega (arith, c .before .before .before .pre)
+
+add-higher-2 : tie.Need-add-higher-2 Inv-loop μ-loop
+add-higher-2 c = omega (arith, c .before .before .before .before .pre)
+
+higher-requires : tie.Need-higher-requires Inv-loop μ-loop
+higher-requires c κs = search needs
+
+add-i : tie.Need-add-i Inv-loop μ-loop
+add-i c = omega (arith, c .before .before .before .before .before .pre)
+
+loop-less : tie.Need-loop-less Inv-loop μ-loop
+loop-less c = omega arith
+
+loop-again : tie.Need-loop-again Inv-loop μ-loop
+loop-again c =
+    let l = c .before .before .before .loop in
+    let h = highest-more (now (c .before .before .before .before .before .args .bounds)) (l .i) _ _ _ _ _ (l .inv .0) (l .inv .2) (l .inv .3) refl (c .higher .ensures) in
+    (omega arith, omega arith, h .0, h .1)
+
+returns : tie.Need-returns Inv-loop μ-loop
+returns c =
+    let l = c .before .loop in
+    let e : l .i ≡ c .before .before .before .args .n = omega (arith, l .inv .1) in
+    subst (λ (k : ℕ). Highest (now (c .before .before .before .args .bounds)) k (l .top .vertex)) e (l .inv .2)
+
+pub highest-spec : {M : Type 1} → statement M
+highest-spec =
+    tie.close
+    (tie.spec
+    Inv-loop
+    μ-loop
+    element-copy-out-t7
+    loop-holds
+    add-higher
+    mul-higher
+    element-copy-out-higher
+    add-higher-2
+    higher-requires
+    add-i
+    loop-less
+    loop-again
+    returns)

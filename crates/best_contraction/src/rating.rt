@@ -1,0 +1,74 @@
+// Ratings of one vertex with all others, added up over its own nets. Vertices and blocks count from 1, nets from 0.
+use crate::numbers::wide;
+use incidence::next_net;
+ghost use mathlib.Core.Path.{_≡_};
+ghost use Prim.Native.Nat.{_*_, _≤_};
+ghost use Rattle.laws.specs.Occurrence.{occ};
+ghost use Rattle.best_contraction.specs.Rating.{termOf, rowOf, ownSum, OwnOk, Raised, StretchOk, RowOk, Blank};
+
+// What a net of weight `w` with `n` pins adds to the rating of two of them.
+pub fn term(w: u16, n: u16) -> u64
+    ensures { λ r. ⌜ (r ≡ termOf w n) × (r ≤ 536870912) ⌝ }
+{
+    if n < 2 {
+        return 0;
+    }
+    5040 * (w as u64) / (n as u64 - 1)
+}
+
+// Adds the term to each pin of a net.
+fn add_net(acc: &mut [u64; 1025], presentpins: &[u16], first: usize, n: usize, t: u64)
+    requires { ⌜ StretchOk (now acc) (now presentpins) first n 1152921504606846976 ⌝ }
+    requires { ⌜ t ≤ 536870912 ⌝ }
+    ensures { λ _. ⌜ Raised (now (acc .entry)) (now (acc .exit)) (λ z. t * occ (now (presentpins .entry)) first n z) ⌝ }
+{
+    let mut i = 0;
+    while i < n {
+        let y = wide(presentpins[first + i]);
+        acc[y] = acc[y] + t;
+        i += 1;
+    }
+}
+
+// Adds up the ratings of `u` with every vertex, whether the two may be contracted or not.
+pub fn accumulate(
+    acc: &mut [u64; 1025],
+    bits: &[u64],
+    presentpins: &[u16],
+    firsts: &[u16],
+    presentsizes: &[u16],
+    netWeights: &[u16],
+    u: usize,
+    m: usize,
+    n: usize,
+)
+    requires { ⌜ RowOk (now bits) (now presentpins) (now firsts) (now presentsizes) (now netWeights) m n ⌝ }
+    requires { ⌜ Blank (now acc) × (1 ≤ u) × (u ≤ n) ⌝ }
+    ensures { λ _. ⌜ Raised (now (acc .entry)) (now (acc .exit)) (rowOf (now (bits .entry)) (now (presentpins .entry)) (now (firsts .entry)) (now (presentsizes .entry)) (now (netWeights .entry)) u m) ⌝ }
+{
+    let mut e = next_net(bits, u - 1, 0, m);
+    while e < m {
+        add_net(
+            acc,
+            presentpins,
+            wide(firsts[e]),
+            wide(presentsizes[e]),
+            term(netWeights[e], presentsizes[e]),
+        );
+        e = next_net(bits, u - 1, e + 1, m);
+    }
+}
+
+// The sum of the terms of the nets of `u`: no rating of `u` passes it.
+pub fn own_sum(bits: &[u64], presentsizes: &[u16], netWeights: &[u16], u: usize, m: usize) -> u64
+    requires { ⌜ OwnOk (now bits) (now presentsizes) (now netWeights) u m ⌝ }
+    ensures { λ r. ⌜ r ≡ ownSum (now (bits .entry)) (now (presentsizes .entry)) (now (netWeights .entry)) u m ⌝ }
+{
+    let mut sum: u64 = 0;
+    let mut e = next_net(bits, u - 1, 0, m);
+    while e < m {
+        sum += term(netWeights[e], presentsizes[e]);
+        e = next_net(bits, u - 1, e + 1, m);
+    }
+    sum
+}

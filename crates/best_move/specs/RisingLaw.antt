@@ -1,0 +1,233 @@
+-- What a failed test of a vertex's gains says: none of its pairs is better than the best one so far. Rests on Rising and OpenLaw.
+-- Assumes nothing.
+use mathlib.Core.Path.{_≡_, refl, sym, ap, _∙_, subst}
+use mathlib.Core.Bool.{Bool, true, false, not, _&&_, _||_, true≢false}
+use mathlib.Core.List.{List}
+use mathlib.Core.Logic.{⊎-elim}
+use Prim.Native.Nat.{ℕ, zero, suc, _+_, _-_, _*_, _/_, _%_, _^_, _≤_, _<_}
+use native.Mathlib.Decide.{decLt, ℕ-discrete}
+use native.Mathlib.Omega.{arith}
+use lib.Dec.{leb, eqb}
+use lib.ListN.{length, getD, set, length-set}
+use lib.Seq.{getD-set-same, getD-set-other}
+use lib.IntN.{ℤ, pos, negsuc, _+ℤ_}
+use lib.Signed.{mag, ltZ, leZ}
+use mir.Syntax.{w32, w64}
+use mir.Val.{SFits, ofZ, toZ}
+use borrow.Author.Tests.{leb-true, leb-false, le-leb, eqb-true}
+use Rattle.laws.specs.Bit.{bit}
+use Rattle.laws.specs.Choice.{and-left, and-right, or-none}
+use Rattle.laws.specs.Integer.{up, dn, add-is, pos-is, abs-is, lt-test, lt-test-no, le-test-no, one-zero, read32}
+use Rattle.incidence.specs.On.{on, on-is}
+use Rattle.incidence.specs.Word.{NextBit}
+use Rattle.best_move.specs.declared.open.Lead.{Lead}
+use Rattle.model.specs.Search.{Best}
+use Rattle.best_move.specs.Open.{gainIn, mayGo, openIn, bestInRow, bestTo, Leads}
+use Rattle.best_move.specs.OpenLaw.{read64, Topped, lead-rests, candidate-more}
+use Rattle.best_move.specs.Peak.{lesser}
+use Rattle.best_move.specs.Rising.{RoomFor, Rooms, Least, NotBetter, Passed}
+
+-- ---- rooms
+
+pub rooms-none : (loads : List ℕ) (capacity : ℕ) (rooms : List ℕ) → length rooms ≡ 16 → Rooms loads capacity 0 rooms
+rooms-none loads capacity rooms h = record { len = h; fits = λ b l. absurd (omega arith) }
+
+pub rooms-more : (loads : List ℕ) (capacity b : ℕ) (rooms : List ℕ) (r : ℕ) → b < 16 → Rooms loads capacity b rooms → RoomFor (getD loads b 0) capacity r → Rooms loads capacity (b + 1) (set rooms b r)
+rooms-more loads capacity b rooms r l h f = record { len = length-set rooms b r ∙ h .len; fits = λ c u. go c u (ℕ-discrete c b) }
+  where
+    go : (c : ℕ) → c < b + 1 → Dec (c ≡ b) → RoomFor (getD loads c 0) capacity (getD (set rooms b r) c 0)
+    go c u (yes q) = rw (q, getD-set-same rooms b r 0 (omega (arith, h .len))) f
+    go c u (no q) = rw (getD-set-other rooms b c r 0 q) (h .fits c (omega arith))
+
+-- ---- the lowest gain that is better, by the parts of ℤ
+
+least-by : (top low : ℤ) → up low + dn top ≤ up top + dn low + 1 → Least top low
+least-by top low h gain f l = go (ltZ top gain) refl
+  where
+    go : (t : Bool) → ltZ top gain ≡ t → ltZ top gain ≡ false
+    go true e = absurd (omega (arith, lt-test top gain e, le-test-no low gain l))
+    go false e = e
+
+-- no gain of 32 bits is below the lowest of them
+pub least-all : (top : ℤ) → Least top (negsuc 2147483647)
+least-all top (pos a) f l = absurd (true≢false l)
+least-all top (negsuc a) f l = absurd (omega (arith, f, leb-false a 2147483647 l))
+
+pub least-most : (top : ℤ) → ltZ (pos 2147483646) top ≡ true → Least top (pos 2147483647)
+least-most top t = least-by top (pos 2147483647) (omega (arith, lt-test (pos 2147483646) top t, pos-is 2147483646, pos-is 2147483647))
+
+least-next : (top low : ℤ) → low ≡ top +ℤ pos 1 → Least top low
+least-next top low e = rw e (least-by top (top +ℤ pos 1) (omega (arith, add-is top (pos 1), pos-is 1)))
+
+lowest-is : (up (negsuc 2147483647) ≡ 0) × (dn (negsuc 2147483647) ≡ 2147483648)
+unfolding up dn
+lowest-is = (refl, refl)
+
+next-small : (top : ℤ) → ltZ top (negsuc 2147483647) ≡ false → ltZ (pos 2147483646) top ≡ false → mag (top +ℤ pos 1) < 2 ^ 31
+next-small top lo hi =
+    let a = lt-test-no top (negsuc 2147483647) lo in
+    let b = lt-test-no (pos 2147483646) top hi in
+    ⊎-elim (λ e. omega (arith, e, a, b, lowest-is, pos-is 2147483646, pos-is 1, add-is top (pos 1), abs-is (top +ℤ pos 1)))
+    (λ e. omega (arith, e, a, b, lowest-is, pos-is 2147483646, pos-is 1, add-is top (pos 1), abs-is (top +ℤ pos 1)))
+    (one-zero (top +ℤ pos 1))
+
+-- the same, with each number read back from its bits
+module _ (top : ℤ) (f : mag top < 2 ^ 63) (lo : ltZ (toZ w64 (ofZ w64 top)) (negsuc 2147483647) ≡ false) (hi : ltZ (pos 2147483646) (toZ w64 (ofZ w64 top)) ≡ false) where
+  small : mag (top +ℤ pos 1) < 2 ^ 31
+  small = next-small top (sym (ap (λ (z : ℤ). ltZ z (negsuc 2147483647)) (read64 top f)) ∙ lo) (sym (ap (ltZ (pos 2147483646)) (read64 top f)) ∙ hi)
+
+  sum-read : toZ w64 (ofZ w64 (toZ w64 (ofZ w64 top) +ℤ pos 1)) ≡ top +ℤ pos 1
+  sum-read = ap (λ (z : ℤ). toZ w64 (ofZ w64 (z +ℤ pos 1))) (read64 top f) ∙ read64 (top +ℤ pos 1) (omega (arith, small))
+
+  pub next-fits64 : SFits w64 (toZ w64 (ofZ w64 top) +ℤ pos 1)
+  next-fits64 = subst (λ (z : ℤ). SFits w64 (z +ℤ pos 1)) (sym (read64 top f)) (record { sfits = omega (arith, small) })
+
+  pub next-fits32 : SFits w32 (toZ w64 (ofZ w64 (toZ w64 (ofZ w64 top) +ℤ pos 1)))
+  next-fits32 = subst (SFits w32) (sym sum-read) (record { sfits = small })
+
+  pub next-least : Least top (toZ w32 (ofZ w32 (toZ w64 (ofZ w64 (toZ w64 (ofZ w64 top) +ℤ pos 1)))))
+  next-least = least-next top _ (ap (λ (z : ℤ). toZ w32 (ofZ w32 z)) sum-read ∙ read32 (top +ℤ pos 1) small)
+
+-- ---- one vertex
+
+-- the test of a block failed: the vertex may not go there, or gains no more than the best
+not-better-stays : (gains : List ℤ) (loads rooms : List ℕ) (capacity k row weight own b : ℕ) (top low : ℤ) → b < k → Rooms loads capacity k rooms → Least top low → NotBetter gains rooms row low weight own b
+    → mayGo (getD loads b 0) own weight capacity (b + 1) ≡ true → ltZ top (getD gains (row + b) (pos 0)) ≡ false
+not-better-stays gains loads rooms capacity k row weight own b top low l h least s may = least (getD gains (row + b) (pos 0)) (s .fits) (go (leZ low (getD gains (row + b) (pos 0))) refl)
+  where
+    other : not (eqb own (b + 1)) ≡ true
+    other = and-left (not (eqb own (b + 1))) (leb (getD loads b 0 + weight) capacity) may
+
+    room : leb weight (getD rooms b 0) ≡ true
+    room = le-leb weight (getD rooms b 0) (h .fits b l weight (s .light) (leb-true _ _ (and-right (not (eqb own (b + 1))) (leb (getD loads b 0 + weight) capacity) may)))
+
+    go : (t : Bool) → leZ low (getD gains (row + b) (pos 0)) ≡ t → leZ low (getD gains (row + b) (pos 0)) ≡ false
+    go true e = absurd (true≢false (sym (ap (λ (x : Bool). x && (leb weight (getD rooms b 0) && not (eqb own (b + 1)))) e ∙ ap (λ (x : Bool). x && not (eqb own (b + 1))) room ∙ other) ∙ s .shut))
+    go false e = e
+
+-- a test as the code makes it, with the two gains read back from their bits
+pub not-better-told : (gains : List ℤ) (rooms : List ℕ) (row : ℕ) (low : ℤ) (weight own b : ℕ) {r s : Bool} {l g : ℤ} → mag (getD gains (row + b) (pos 0)) < 2 ^ 31 → weight < 2 ^ 32 → l ≡ low → g ≡ getD gains (row + b) (pos 0)
+    → r ≡ (leZ l g && s) → s ≡ (leb weight (getD rooms b 0) && not (eqb own (b + 1))) → r ≡ false → NotBetter gains rooms row low weight own b
+not-better-told gains rooms row low weight own b f w el eg er es e = record { fits = f; light = w; shut = cc }
+
+-- the tests of four blocks as the code joins them
+pub not-better-four : (gains : List ℤ) (rooms : List ℕ) (row : ℕ) (low : ℤ) (weight own b : ℕ) {r s t p₀ p₁ p₂ p₃ : Bool} → (p₀ ≡ false → NotBetter gains rooms row low weight own b) → (p₁ ≡ false → NotBetter gains rooms row low weight own (b + 1))
+    → (p₂ ≡ false → NotBetter gains rooms row low weight own (b + 2)) → (p₃ ≡ false → NotBetter gains rooms row low weight own (b + 3)) → s ≡ (p₀ || p₁) → t ≡ (p₂ || p₃) → r ≡ (s || t) → r ≡ false
+    → (j : ℕ) → b ≤ j → j < b + 4 → NotBetter gains rooms row low weight own j
+not-better-four gains rooms row low weight own b {s = s} {t} {p₀} {p₁} {p₂} {p₃} h₀ h₁ h₂ h₃ es et er e j l u = go (j - b) (omega arith) (omega arith)
+  where
+    halves : (s ≡ false) × (t ≡ false)
+    halves = or-none s t (sym er ∙ e)
+
+    low-two : (p₀ ≡ false) × (p₁ ≡ false)
+    low-two = or-none p₀ p₁ (sym es ∙ halves .0)
+
+    high-two : (p₂ ≡ false) × (p₃ ≡ false)
+    high-two = or-none p₂ p₃ (sym et ∙ halves .1)
+
+    go : (d : ℕ) → d < 4 → j ≡ b + d → NotBetter gains rooms row low weight own j
+    go zero k q = let z : j ≡ b = omega arith in rw z (h₀ (low-two .0))
+    go (suc zero) k q = rw q (h₁ (low-two .1))
+    go (suc (suc zero)) k q = rw q (h₂ (high-two .0))
+    go (suc (suc (suc zero))) k q = rw q (h₃ (high-two .1))
+    go (suc (suc (suc (suc d)))) k q = absurd (omega arith)
+
+-- four blocks more
+pub not-better-more : (gains : List ℤ) (rooms : List ℕ) (row b weight own : ℕ) (low : ℤ) → ((j : ℕ) → j < b → NotBetter gains rooms row low weight own j) → ((j : ℕ) → b ≤ j → j < b + 4 → NotBetter gains rooms row low weight own j)
+    → (j : ℕ) → j < b + 4 → NotBetter gains rooms row low weight own j
+not-better-more gains rooms row b weight own low f g j l = go (decLt j b)
+  where
+    go : Dec (j < b) → NotBetter gains rooms row low weight own j
+    go (yes q) = f j q
+    go (no q) = g j (omega arith) l
+
+-- ---- the vertices of one part
+
+module _ (gains : List ℤ) (blocks weights rooms : List ℕ) (word first size k : ℕ) (low : ℤ) (small : size ≤ 64) (from : ℕ) where
+  pub passed-none : (r : ℕ) → NextBit word from r → Passed gains blocks weights rooms word first size k low from r
+  passed-none r h = record {
+    start = h .low;
+    high = h .high;
+    found = λ l. h .found (omega arith);
+    not-better = λ j l u s e. absurd (omega (arith, h .passed j l u));
+  }
+
+  pub passed-more : (j r : ℕ) → j < size → Passed gains blocks weights rooms word first size k low from j
+      → ((b : ℕ) → b < k → NotBetter gains rooms (16 * (first + j)) low (getD weights (first + j) 0) (getD blocks (first + j) 0) b) → NextBit word (j + 1) r → Passed gains blocks weights rooms word first size k low from r
+  passed-more j r l h s n = record {
+    start = omega (arith, h .start, n .low);
+    high = n .high;
+    found = λ u. n .found (omega arith);
+    not-better = λ i a b c e. go i a b c e (ℕ-discrete i j) (decLt i j);
+  }
+    where
+      go : (i : ℕ) → from ≤ i → i < r → i < size → bit word i ≡ 1 → Dec (i ≡ j) → Dec (i < j)
+          → (b : ℕ) → b < k → NotBetter gains rooms (16 * (first + i)) low (getD weights (first + i) 0) (getD blocks (first + i) 0) b
+      go i a b c e (yes q) d = rw q s
+      go i a b c e (no q) (yes d) = h .not-better i a d c e
+      go i a b c e (no q) (no d) = absurd (omega (arith, n .passed i (omega arith) b))
+
+-- bit j of word c is the candidate at place 64 * c + j
+part-bit : (candidates : List ℕ) (c j : ℕ) → j < 64 → on candidates 0 (64 * c + j) ≡ bit (getD candidates c 0) j
+part-bit candidates c j l =
+    let at-c : 16 * 0 + (64 * c + j) / 64 ≡ c = omega arith in
+    let at-j : (64 * c + j) % 64 ≡ j = omega arith in
+    on-is candidates 0 (64 * c + j) ∙ ap (λ (x : ℕ). bit (getD candidates x 0) ((64 * c + j) % 64)) at-c ∙ ap (bit (getD candidates c 0)) at-j
+
+module _ (candidates blocks weights loads rooms : List ℕ) (capacity : ℕ) (gains : List ℤ) (c size k : ℕ) where
+  -- the best pair of the vertices before place i
+  abbrev bestBefore : ℕ → Best
+  bestBefore i = bestTo (openIn candidates blocks weights loads capacity) (gainIn gains) k i
+
+  -- the part has been searched up to bit j, which is a candidate or past the part
+  pub record Among (lead₀ lead : Lead) (j : ℕ) : Type 0 where
+    pub high : j ≤ 64
+    pub found : j < size → on candidates 0 (64 * c + j) ≡ 1
+    pub leads : Leads lead₀ (bestBefore (64 * c)) → Leads lead (bestBefore (lesser (64 * c + j) (64 * c + size)))
+
+  module _ (small : size ≤ 64) (h : Rooms loads capacity k rooms) where
+    -- the candidates that were passed over have no better pair
+    passed-leads : (low : ℤ) (from r : ℕ) (lead : Lead) → from ≤ size → Least (lead .top) low → Passed gains blocks weights rooms (getD candidates c 0) (64 * c) size k low from r
+        → Leads lead (bestBefore (64 * c + from)) → Leads lead (bestBefore (lesser (64 * c + r) (64 * c + size)))
+    passed-leads low from r lead le least p g =
+        lead-rests (openIn candidates blocks weights loads capacity) (gainIn gains) k (64 * c + from) (lesser (64 * c + r) (64 * c + size)) lead (omega (arith, p .start)) topped g
+      where
+        topped : (v b : ℕ) → 64 * c + from < v → v ≤ lesser (64 * c + r) (64 * c + size) → 1 ≤ b → b ≤ k → openIn candidates blocks weights loads capacity v b ≡ true → Topped lead (gainIn gains v b)
+        topped v b lv uv lb ub o =
+            let j = v - 1 - 64 * c in
+            let e : 64 * c + j ≡ v - 1 = omega arith in
+            let d : b - 1 + 1 ≡ b = omega arith in
+            let may = and-right (eqb (on candidates 0 (v - 1)) 1) (mayGo (getD loads (b - 1) 0) (getD blocks (v - 1) 0) (getD weights (v - 1) 0) capacity b) o in
+            let candidate : on candidates 0 (v - 1) ≡ 1 = eqb-true _ _ (and-left (eqb (on candidates 0 (v - 1)) 1) (mayGo (getD loads (b - 1) 0) (getD blocks (v - 1) 0) (getD weights (v - 1) 0) capacity b) o) in
+            let set-bit : bit (getD candidates c 0) j ≡ 1 = sym (part-bit candidates c j (omega arith)) ∙ ap (on candidates 0) e ∙ candidate in
+            let not-better = subst (λ (x : ℕ). NotBetter gains rooms (16 * x) low (getD weights x 0) (getD blocks x 0) (b - 1)) e (p .not-better j (omega arith) (omega arith) (omega arith) set-bit (b - 1) (omega arith)) in (
+              λ z. g .below z (gainIn gains v b) (not-better .fits),
+              not-better-stays gains loads rooms capacity k (16 * (v - 1)) (getD weights (v - 1) 0) (getD blocks (v - 1) 0) (b - 1) (lead .top) low (omega arith) h least not-better
+                  (subst (λ (x : ℕ). mayGo (getD loads (b - 1) 0) (getD blocks (v - 1) 0) (getD weights (v - 1) 0) capacity x ≡ true) (sym d) may),
+            )
+
+    -- `top` and `low′` are the two gains read back from their bits
+    module _ (lead₀ lead : Lead) (r : ℕ) {top low low′ : ℤ} (et : top ≡ lead .top) (el : low′ ≡ low) (least : Least top low) where
+      among : (from : ℕ) → from ≤ size → Passed gains blocks weights rooms (getD candidates c 0) (64 * c) size k low′ from r → (Leads lead₀ (bestBefore (64 * c)) → Leads lead (bestBefore (64 * c + from))) → Among lead₀ lead r
+      among from le p g = record {
+        high = p .high;
+        found = λ l. part-bit candidates c r (omega arith) ∙ p .found l;
+        leads = λ q. passed-leads low′ from r lead le (rw (el, ← et) least) p (g q);
+      }
+
+      pub among-begins : lead₀ ≡ lead → Passed gains blocks weights rooms (getD candidates c 0) (64 * c) size k low′ 0 r → Among lead₀ lead r
+      among-begins e p = let z : 64 * c + 0 ≡ 64 * c = omega arith in among 0 (omega arith) p (λ q. rw (z, ← e) q)
+
+      pub among-more : (old : Lead) (j : ℕ) → j < size → Among lead₀ old j
+          → ((b : Best) → Leads old b → Leads lead (bestInRow (gainIn gains) (λ b. mayGo (getD loads (b - 1) 0) (getD blocks (64 * c + j) 0) (getD weights (64 * c + j) 0) capacity b) (64 * c + j + 1) k b))
+          → Passed gains blocks weights rooms (getD candidates c 0) (64 * c) size k low′ (j + 1) r → Among lead₀ lead r
+      among-more old j l a w p =
+          let e : lesser (64 * c + j) (64 * c + size) ≡ 64 * c + j = omega arith in
+          let d : 64 * c + j + 1 ≡ 64 * c + (j + 1) = omega arith in
+          among (j + 1) (omega arith) p (λ q. subst (λ (i : ℕ). Leads lead (bestBefore i)) d
+          (subst (Leads lead) (candidate-more candidates blocks weights loads capacity (gainIn gains) size k (64 * c + j) (a .found l)) (w _ (subst (λ (i : ℕ). Leads old (bestBefore i)) e (a .leads q)))))
+
+  pub among-ends : (lead₀ lead : Lead) (j : ℕ) → size ≤ j → Among lead₀ lead j → Leads lead₀ (bestBefore (64 * c)) → Leads lead (bestBefore (64 * c + size))
+  among-ends lead₀ lead j l a q =
+      let e : lesser (64 * c + j) (64 * c + size) ≡ 64 * c + size = omega arith in
+      subst (λ (i : ℕ). Leads lead (bestBefore i)) e (a .leads q)

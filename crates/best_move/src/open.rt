@@ -1,0 +1,284 @@
+// The best open pair: the search over the candidates, in increasing order, and over the blocks. Ties go to the lowest vertex, then to the
+// lowest block.
+use crate::numbers::both;
+use crate::numbers::least;
+use crate::numbers::wide;
+use crate::numbers::wide32;
+use crate::rising::least_better;
+use crate::rising::measure;
+use crate::rising::next_rising;
+ghost use mathlib.Core.Path.{_≡_};
+ghost use mathlib.Core.Bool.{cond};
+ghost use Prim.Native.Nat.{_+_, _-_, _*_, _≤_, _<_};
+ghost use lib.ListN.{length, getD};
+ghost use lib.Signed.{ltZ};
+ghost use Rattle.model.specs.Search.{Best, bestPair};
+ghost use Rattle.best_move.specs.Open.{gainIn, mayGo, openIn, considered, bestInRow, bestTo, vertexAt, blockAt, pairAt, Leads, Chosen, RowOk, VertexOk, SearchOk};
+ghost use Rattle.best_move.specs.Peak.{lesser, Peaked};
+ghost use Rattle.best_move.specs.Rising.{Rooms};
+
+// The open pair to take, or that no pair is open.
+pub enum Pick {
+    Move { vertex: u16, block: u16 },
+    Nothing,
+}
+
+// The best of the pairs seen: its place in the table of gains, counted from 1, and its gain. Where there is none, the place is 0 and the gain
+// below every gain that a table holds, so that no test for that is needed.
+struct Lead {
+    at: usize,
+    top: i64,
+}
+
+// One of two places, by a test.
+fn either_place(first: bool, a: usize, b: usize) -> usize
+    ensures { λ r. ⌜ r ≡ cond first a b ⌝ }
+{
+    if first { a } else { b }
+}
+
+// One of two gains, by a test.
+fn either_gain(first: bool, a: i64, b: i64) -> i64
+    ensures { λ r. ⌜ r ≡ cond first a b ⌝ }
+{
+    if first { a } else { b }
+}
+
+// Whether one gain is below another.
+fn less(a: i64, b: i64) -> bool
+    ensures { λ r. ⌜ r ≡ ltZ a b ⌝ }
+{
+    a < b
+}
+
+// The better of the pair at place `here`, if it may be taken, and the best of those before it. Both fields are chosen without a branch, since
+// a processor can't predict which pairs are better.
+fn weigh(gain: i32, may: bool, here: usize, lead: Lead) -> Lead
+    requires { ⌜ 1 ≤ here ⌝ }
+    ensures { λ r. ⌜ ((before : Best) → Leads lead before → Leads r (considered may (vertexAt here) (blockAt here) gain before)) ⌝ }
+{
+    let worth = gain as i64;
+    let top = lead.top;
+    let better = both(may, less(top, worth));
+    Lead {
+        at: either_place(better, here, lead.at),
+        top: either_gain(better, worth, top),
+    }
+}
+
+// Whether a vertex of block `own` may go to block `b`, of weight `load`. The vertex is not heavier than the capacity; the sum of the two
+// weights may pass 64 bits.
+fn may_go(load: u64, own: usize, weight: u64, capacity: u64, b: usize) -> bool
+    requires { ⌜ weight ≤ capacity ⌝ }
+    ensures { λ r. ⌜ r ≡ mayGo load own weight capacity b ⌝ }
+{
+    let space = capacity - weight;
+    both(own != b, load <= space)
+}
+
+// The best of `before` and the pairs of the vertex at place `i`, of block `own`, that may be taken.
+fn best_in_row(
+    gains: &[i32],
+    loads: &[u64; 16],
+    own: usize,
+    weight: u64,
+    capacity: u64,
+    i: usize,
+    k: usize,
+    before: Lead,
+) -> Lead
+    requires { ⌜ RowOk (length (now gains)) i k × (weight ≤ capacity) ⌝ }
+    ensures { λ r. ⌜ ((c : Best) → Leads before c → Leads r (bestInRow (gainIn (now (gains .entry))) (λ b. mayGo (getD (now (loads .entry)) (b - 1) 0) own weight capacity b) (i + 1) k c)) ⌝ }
+{
+    let row = 16 * i;
+    let mut lead = before;
+    let mut j: usize = 0;
+    while j < k {
+        let may = may_go(loads[j], own, weight, capacity, j + 1);
+        lead = weigh(gains[row + j], may, row + j + 1, lead);
+        j += 1;
+    }
+    lead
+}
+
+// The best of `before` and the open pairs of the candidate at place `i`. One that is heavier than the capacity has none.
+fn best_with(
+    gains: &[i32],
+    blocks: &[u16],
+    weights: &[u32],
+    loads: &[u64; 16],
+    i: usize,
+    k: usize,
+    capacity: u64,
+    before: Lead,
+) -> Lead
+    requires { ⌜ VertexOk (length (now gains)) (length (now blocks)) (length (now weights)) i k ⌝ }
+    ensures { λ r. ⌜ ((c : Best) → Leads before c → Leads r (bestInRow (gainIn (now (gains .entry))) (λ b. mayGo (getD (now (loads .entry)) (b - 1) 0) (getD (now (blocks .entry)) i 0) (getD (now (weights .entry)) i 0) capacity b) (i + 1) k c)) ⌝ }
+{
+    let weight = wide32(weights[i]);
+    if capacity < weight {
+        return before;
+    }
+    best_in_row(
+        gains,
+        loads,
+        wide(blocks[i]),
+        weight,
+        capacity,
+        i,
+        k,
+        before,
+    )
+}
+
+// The pair at a place of the table of gains, counted from 1; none at 0.
+fn pair_at(at: usize) -> Pick
+    requires { ⌜ at ≤ 16384 ⌝ }
+    ensures { λ r. ⌜ r ≡ pairAt at ⌝ }
+{
+    if at == 0 {
+        return Pick::Nothing;
+    }
+    let x = at - 1;
+    Pick::Move {
+        vertex: (x / 16 + 1) as u16,
+        block: (x % 16 + 1) as u16,
+    }
+}
+
+// The best of `before` and the open pairs of the candidates among the `size` vertices from place 64 * c on. Only those that may have a better
+// pair are weighed. `rooms` is what the blocks have left under the capacity.
+fn best_among(
+    gains: &[i32],
+    blocks: &[u16],
+    weights: &[u32],
+    loads: &[u64; 16],
+    rooms: &[u32; 16],
+    candidates: &[u64],
+    c: usize,
+    size: usize,
+    k: usize,
+    capacity: u64,
+    before: Lead,
+) -> Lead
+    requires { ⌜ SearchOk (length (now gains)) (length (now blocks)) (length (now weights)) (length (now candidates)) (64 * c + size) k × (size ≤ 64) × (c < 16) ⌝ }
+    requires { ⌜ Rooms (now loads) capacity k (now rooms) ⌝ }
+    ensures { λ r. ⌜ (Leads before (bestTo (openIn (now (candidates .entry)) (now (blocks .entry)) (now (weights .entry)) (now (loads .entry)) capacity) (gainIn (now (gains .entry))) k (64 * c)) → Leads r (bestTo (openIn (now (candidates .entry)) (now (blocks .entry)) (now (weights .entry)) (now (loads .entry)) capacity) (gainIn (now (gains .entry))) k (64 * c + size))) ⌝ }
+{
+    let first = 64 * c;
+    let word = candidates[c];
+    let mut best = before;
+    let mut j = next_rising(
+        gains,
+        blocks,
+        weights,
+        rooms,
+        word,
+        first,
+        0,
+        size,
+        k,
+        least_better(best.top),
+    );
+    while j < size {
+        best = best_with(gains, blocks, weights, loads, first + j, k, capacity, best);
+        j = next_rising(
+            gains,
+            blocks,
+            weights,
+            rooms,
+            word,
+            first,
+            j + 1,
+            size,
+            k,
+            least_better(best.top),
+        );
+    }
+    best
+}
+
+// The best of `before` and the open pairs of the candidates of part `c`. Where no gain of the part is above that of `before`, none is better,
+// and none is looked at.
+fn best_in_part(
+    gains: &[i32],
+    blocks: &[u16],
+    weights: &[u32],
+    loads: &[u64; 16],
+    rooms: &[u32; 16],
+    candidates: &[u64],
+    peaks: &[i32; 16],
+    c: usize,
+    n: usize,
+    k: usize,
+    capacity: u64,
+    before: Lead,
+) -> Lead
+    requires { ⌜ SearchOk (length (now gains)) (length (now blocks)) (length (now weights)) (length (now candidates)) n k ⌝ }
+    requires { ⌜ Peaked (now gains) (now peaks) n k × (64 * c < n) ⌝ }
+    requires { ⌜ Rooms (now loads) capacity k (now rooms) ⌝ }
+    ensures { λ r. ⌜ (Leads before (bestTo (openIn (now (candidates .entry)) (now (blocks .entry)) (now (weights .entry)) (now (loads .entry)) capacity) (gainIn (now (gains .entry))) k (64 * c)) → Leads r (bestTo (openIn (now (candidates .entry)) (now (blocks .entry)) (now (weights .entry)) (now (loads .entry)) capacity) (gainIn (now (gains .entry))) k (lesser (64 * c + 64) n))) ⌝ }
+{
+    let peak = peaks[c] as i64;
+    let top = before.top;
+    if less(top, peak) {
+        return best_among(
+            gains,
+            blocks,
+            weights,
+            loads,
+            rooms,
+            candidates,
+            c,
+            least(64, n - 64 * c),
+            k,
+            capacity,
+            before,
+        );
+    }
+    before
+}
+
+// The open pair of highest gain, then lowest vertex, then lowest block: vertices and blocks count from 1. `loads` are the blocks' weights,
+// `candidates` a row of bits in which vertex v is bit v - 1, `peaks` bounds on the gains of each part of 64 vertices.
+pub fn best_open(
+    gains: &[i32],
+    blocks: &[u16],
+    weights: &[u32],
+    loads: &[u64; 16],
+    candidates: &[u64],
+    peaks: &[i32; 16],
+    n: usize,
+    k: usize,
+    capacity: u64,
+) -> Pick
+    requires { ⌜ SearchOk (length (now gains)) (length (now blocks)) (length (now weights)) (length (now candidates)) n k ⌝ }
+    requires { ⌜ Peaked (now gains) (now peaks) n k ⌝ }
+    ensures { λ r. ⌜ Chosen (gainIn (now (gains .entry))) n k r (bestPair n k (openIn (now (candidates .entry)) (now (blocks .entry)) (now (weights .entry)) (now (loads .entry)) capacity) (gainIn (now (gains .entry)))) ⌝ }
+{
+    let mut best = Lead {
+        at: 0,
+        top: -4294967296,
+    };
+    let mut rooms = [0u32; 16];
+    measure(&mut rooms, loads, k, capacity);
+    let mut c: usize = 0;
+    while 64 * c < n {
+        best = best_in_part(
+            gains,
+            blocks,
+            weights,
+            loads,
+            &rooms,
+            candidates,
+            peaks,
+            c,
+            n,
+            k,
+            capacity,
+            best,
+        );
+        c += 1;
+    }
+    pair_at(best.at)
+}

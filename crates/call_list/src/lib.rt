@@ -1,0 +1,169 @@
+// A list of calls on a running sale: each call steps the tables, and its answer's line goes to the output.
+ghost use mathlib.Core.Path.{_≡_};
+ghost use lib.ListN.{length};
+ghost use Rattle.model.specs.Catalogue.{Limits, Hypergraph};
+ghost use Rattle.model.specs.Lent.{two};
+ghost use Rattle.operations.specs.Tables.{tables};
+ghost use Rattle.edit_calls.specs.Called.{CapacityIs};
+ghost use Rattle.search_calls.specs.Cycling.{AverageIs};
+ghost use Rattle.any_call.specs.Kinds.{anyCall};
+ghost use Rattle.call_list.specs.Course.{CanStep, Steps, Begins, CanRun, Done};
+use any_call::performing::perform;
+use operations::pairs::Journal;
+use operations::pairs::Stack;
+use report::answers::put_answer;
+
+// Where a list stands between two calls: the contraction stack, the journal, the metric, and where the output's text ends.
+pub struct Course {
+    pub stack: Stack,
+    pub journal: Journal,
+    pub total: u32,
+    pub at: usize,
+}
+
+// A number of a call as an index.
+fn index(x: u32) -> usize
+    ensures { λ r. ⌜ r ≡ x ⌝ }
+{
+    x as usize
+}
+
+// One call, and its line.
+fn step(
+    output: &mut [u8],
+    counts: &mut [u16],
+    visited: &mut [u16],
+    gains: &mut [i32],
+    presentpins: &mut [u16],
+    presentsizes: &mut [u16],
+    bits: &mut [u64],
+    blocks: &mut [u16],
+    weights: &mut [u32],
+    aboves: &mut [u16],
+    loads: &mut [u64; 16],
+    netweights: &[u16],
+    firsts: &[u16],
+    loadedsizes: &[u16],
+    n: usize,
+    m: usize,
+    k: usize,
+    average: u64,
+    capacity: u64,
+    course: Course,
+    letter: u32,
+    x: usize,
+    y: usize,
+) -> Course
+    requires { ⌜ CanStep (tables (now counts) (now visited) (now gains) (now presentpins) (now presentsizes) (now bits) (now blocks) (now weights) (now aboves) (now loads) (now netweights) (now firsts) (now loadedsizes) n m k (course .total)) (two (course .stack .into) (course .stack .gone) (course .stack .len)) (two (course .journal .vertices) (course .journal .blocks) (course .journal .len)) average capacity (length (now output)) (course .at) (anyCall letter x y) ⌝ }
+    ensures { λ r. ⌜ ((h : Hypergraph) → AverageIs average h → CapacityIs capacity h → Steps h (tables (now (counts .entry)) (now (visited .entry)) (now (gains .entry)) (now (presentpins .entry)) (now (presentsizes .entry)) (now (bits .entry)) (now (blocks .entry)) (now (weights .entry)) (now (aboves .entry)) (now (loads .entry)) (now (netweights .entry)) (now (firsts .entry)) (now (loadedsizes .entry)) n m k (course .total))
+        (tables (now (counts .exit)) (now (visited .exit)) (now (gains .exit)) (now (presentpins .exit)) (now (presentsizes .exit)) (now (bits .exit)) (now (blocks .exit)) (now (weights .exit)) (now (aboves .exit)) (now (loads .exit)) (now (netweights .exit)) (now (firsts .exit)) (now (loadedsizes .exit)) n m k (r .total)) (two (course .stack .into) (course .stack .gone) (course .stack .len)) (two (r .stack .into) (r .stack .gone) (r .stack .len)) (two (course .journal .vertices) (course .journal .blocks) (course .journal .len)) (two (r .journal .vertices) (r .journal .blocks) (r .journal .len)) (anyCall letter x y) (now (output .entry)) (now (output .exit)) (course .at) (r .at)) ⌝ }
+{
+    let stack = course.stack;
+    let journal = course.journal;
+    let t = perform(
+        counts,
+        visited,
+        gains,
+        presentpins,
+        presentsizes,
+        bits,
+        blocks,
+        weights,
+        aboves,
+        loads,
+        netweights,
+        firsts,
+        loadedsizes,
+        n,
+        m,
+        k,
+        average,
+        capacity,
+        course.total,
+        stack,
+        journal,
+        letter,
+        x,
+        y,
+    );
+    let joins = t.stack;
+    let moves = t.journal;
+    let says = t.answer;
+    let end = put_answer(output, course.at, says);
+    Course {
+        stack: joins,
+        journal: moves,
+        total: t.total,
+        at: end,
+    }
+}
+
+// The first `count` calls of the table, three numbers each: the letter's byte and two numbers. `total` is the draft's metric.
+pub fn run_calls(
+    output: &mut [u8],
+    counts: &mut [u16],
+    visited: &mut [u16],
+    gains: &mut [i32],
+    presentpins: &mut [u16],
+    presentsizes: &mut [u16],
+    bits: &mut [u64],
+    blocks: &mut [u16],
+    weights: &mut [u32],
+    aboves: &mut [u16],
+    loads: &mut [u64; 16],
+    netweights: &[u16],
+    firsts: &[u16],
+    loadedsizes: &[u16],
+    calls: &[u32],
+    count: usize,
+    n: usize,
+    m: usize,
+    k: usize,
+    average: u64,
+    capacity: u64,
+    total: u32,
+) -> Course
+    requires { ⌜ CanRun (tables (now counts) (now visited) (now gains) (now presentpins) (now presentsizes) (now bits) (now blocks) (now weights) (now aboves) (now loads) (now netweights) (now firsts) (now loadedsizes) n m k total) average capacity (now calls) count (length (now output)) ⌝ }
+    ensures { λ r. ⌜ ((limits : Limits) (h : Hypergraph) → Begins limits h (tables (now (counts .entry)) (now (visited .entry)) (now (gains .entry)) (now (presentpins .entry)) (now (presentsizes .entry)) (now (bits .entry)) (now (blocks .entry)) (now (weights .entry)) (now (aboves .entry)) (now (loads .entry)) (now (netweights .entry)) (now (firsts .entry)) (now (loadedsizes .entry)) n m k total) average capacity (now (calls .entry)) count (length (now (output .entry))) → Done h (now (calls .entry)) count (tables (now (counts .entry)) (now (visited .entry)) (now (gains .entry)) (now (presentpins .entry)) (now (presentsizes .entry)) (now (bits .entry)) (now (blocks .entry)) (now (weights .entry)) (now (aboves .entry)) (now (loads .entry)) (now (netweights .entry)) (now (firsts .entry)) (now (loadedsizes .entry)) n m k total)
+        (tables (now (counts .exit)) (now (visited .exit)) (now (gains .exit)) (now (presentpins .exit)) (now (presentsizes .exit)) (now (bits .exit)) (now (blocks .exit)) (now (weights .exit)) (now (aboves .exit)) (now (loads .exit)) (now (netweights .exit)) (now (firsts .exit)) (now (loadedsizes .exit)) n m k (r .total)) (two (r .stack .into) (r .stack .gone) (r .stack .len)) (two (r .journal .vertices) (r .journal .blocks) (r .journal .len)) (now (output .entry)) (now (output .exit)) (r .at)) ⌝ }
+{
+    let stack = Stack::new();
+    let journal = Journal::new();
+    let mut course = Course {
+        stack: stack,
+        journal: journal,
+        total: total,
+        at: 0,
+    };
+    let mut i = 0;
+    while i < count {
+        let at = 3 * i;
+        course = step(
+            output,
+            counts,
+            visited,
+            gains,
+            presentpins,
+            presentsizes,
+            bits,
+            blocks,
+            weights,
+            aboves,
+            loads,
+            netweights,
+            firsts,
+            loadedsizes,
+            n,
+            m,
+            k,
+            average,
+            capacity,
+            course,
+            calls[at],
+            index(calls[at + 1]),
+            index(calls[at + 2]),
+        );
+        i += 1;
+    }
+    course
+}

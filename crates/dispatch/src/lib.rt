@@ -1,4 +1,0 @@
-// One call of any kind on the tables of a running sale, answered as the report prints it.
-pub mod answering;
-pub mod kinds;
-pub mod performing;

@@ -1,0 +1,122 @@
+use native.Mathlib.Omega.{arith}
+use mathlib.Core.Path.{refl, sym, _∙_}
+use denote.Ref.{now}
+use borrow.Author.Needs.{needs}
+use Rattle.edit_calls.specs.Called.{roomy, pushed-as}
+use Rattle.edit_calls.specs.Contracting.{pair-of, refused-J, accepted-J}
+use Rattle.edit_calls.proofs.contracting.call_join.Statement.{statement}
+use Rattle.edit_calls.proofs.contracting.call_join.Tie as tie
+
+refuses-join-requires : tie.Need-refuses-join-requires
+refuses-join-requires c κs =
+    let start = c .before .before .before .before .before .before .before .before .before .before .before in
+    roomy (start .pre .ready) .blocks-fit
+
+same-length : tie.Need-same-length
+same-length c = search needs
+
+returns : tie.Need-returns
+returns c = λ loads loaded h. refused-J _ _ _ _ _ (c .before .refuses-join .ensures) (c .if1 .taken)
+
+short-requires : tie.Need-short-requires
+short-requires c κs = omega (arith, (pair-of (now (c .before .before .before .before .before .before .before .before .before .before .before .before .before .args .blocks)) (c .before .before .before .before .before .before .before .before .before .before .before .before .before .args .n) (c .before .before .before .before .before .before .before .before .before .before .before .before .before .args .u) (c .before .before .before .before .before .before .before .before .before .before .before .before .before .args .v) (sym (c .before .refuses-join .ensures) ∙ c .if1 .left)) .1 .u-in, roomy (c .before .before .before .before .before .before .before .before .before .before .before .before .before .pre .ready) .few-vertices)
+
+short-requires-2 : tie.Need-short-requires-2
+short-requires-2 c κs = omega (arith, (pair-of (now (c .before .before .before .before .before .before .before .before .before .before .before .before .before .before .args .blocks)) (c .before .before .before .before .before .before .before .before .before .before .before .before .before .before .args .n) (c .before .before .before .before .before .before .before .before .before .before .before .before .before .before .args .u) (c .before .before .before .before .before .before .before .before .before .before .before .before .before .before .args .v) (sym (c .before .before .refuses-join .ensures) ∙ c .before .if1 .left)) .1 .v-in, roomy (c .before .before .before .before .before .before .before .before .before .before .before .before .before .before .pre .ready) .few-vertices)
+
+push-requires : tie.Need-push-requires
+push-requires c κs =
+    let start = c .before .before .before .before .before .before .before .before .before .before .before .before .before .before .before in
+    (roomy (start .pre .ready) .stack-short, roomy (start .pre .ready) .stack-whole .xs-whole, roomy (start .pre .ready) .stack-whole .ys-whole)
+
+clear-requires : tie.Need-clear-requires
+clear-requires c κs = search needs
+
+sub-join : tie.Need-sub-join
+sub-join c = omega (arith, (pair-of (now (c .before .before .before .before .before .before .before .before .before .before .before .before .before .before .before .before .before .before .before .before .before .before .before .before .before .before .args .blocks)) (c .before .before .before .before .before .before .before .before .before .before .before .before .before .before .before .before .before .before .before .before .before .before .before .before .before .before .args .n) (c .before .before .before .before .before .before .before .before .before .before .before .before .before .before .before .before .before .before .before .before .before .before .before .before .before .before .args .u) (c .before .before .before .before .before .before .before .before .before .before .before .before .before .before .before .before .before .before .before .before .before .before .before .before .before .before .args .v) (sym (c .before .before .before .before .before .before .before .before .before .before .before .before .before .before .refuses-join .ensures) ∙ c .before .before .before .before .before .before .before .before .before .before .before .before .before .if1 .left)) .0)
+
+sub-join-2 : tie.Need-sub-join-2
+sub-join-2 c = omega (arith, (pair-of (now (c .before .before .before .before .before .before .before .before .before .before .before .before .before .before .before .before .before .before .before .before .before .before .before .before .before .before .args .blocks)) (c .before .before .before .before .before .before .before .before .before .before .before .before .before .before .before .before .before .before .before .before .before .before .before .before .before .before .args .n) (c .before .before .before .before .before .before .before .before .before .before .before .before .before .before .before .before .before .before .before .before .before .before .before .before .before .before .args .u) (c .before .before .before .before .before .before .before .before .before .before .before .before .before .before .before .before .before .before .before .before .before .before .before .before .before .before .args .v) (sym (c .before .before .before .before .before .before .before .before .before .before .before .before .before .before .refuses-join .ensures) ∙ c .before .before .before .before .before .before .before .before .before .before .before .before .before .if1 .left)) .0)
+
+join-requires : tie.Need-join-requires
+join-requires c κs =
+    let at-if1 = c .before .before .before .before .before .before .before .before .before .before .before .before .before in
+    let at-refuses-join = at-if1 .before in
+    let start = at-refuses-join .before .before .before .before .before .before .before .before .before .before .before .before in
+    record { loads = start .pre .loads; loaded = start .pre .loaded; h = start .pre .ready .h; cs = start .pre .ready .s .stack; block = start .pre .ready .s .block; sound = start .pre .ready .runs .sound; pair = (pair-of (now (start .args .blocks)) (start .args .n) (start .args .u) (start .args .v) (sym (at-refuses-join .refuses-join .ensures) ∙ at-if1 .if1 .left)) .1 }
+
+sub-after : tie.Need-sub-after
+sub-after c = omega (arith, (pair-of (now (c .before .before .before .before .before .before .before .before .before .before .before .before .before .before .before .before .before .before .before .before .before .before .before .before .before .before .before .before .before .before .before .before .before .before .before .before .before .before .before .before .before .before .before .before .args .blocks)) (c .before .before .before .before .before .before .before .before .before .before .before .before .before .before .before .before .before .before .before .before .before .before .before .before .before .before .before .before .before .before .before .before .before .before .before .before .before .before .before .before .before .before .before .before .args .n) (c .before .before .before .before .before .before .before .before .before .before .before .before .before .before .before .before .before .before .before .before .before .before .before .before .before .before .before .before .before .before .before .before .before .before .before .before .before .before .before .before .before .before .before .before .args .u) (c .before .before .before .before .before .before .before .before .before .before .before .before .before .before .before .before .before .before .before .before .before .before .before .before .before .before .before .before .before .before .before .before .before .before .before .before .before .before .before .before .before .before .before .before .args .v) (sym (c .before .before .before .before .before .before .before .before .before .before .before .before .before .before .before .before .before .before .before .before .before .before .before .before .before .before .before .before .before .before .before .before .refuses-join .ensures) ∙ c .before .before .before .before .before .before .before .before .before .before .before .before .before .before .before .before .before .before .before .before .before .before .before .before .before .before .before .before .before .before .before .if1 .left)) .0)
+
+mul-after : tie.Need-mul-after
+mul-after c = omega (arith, (pair-of (now (c .before .before .before .before .before .before .before .before .before .before .before .before .before .before .before .before .before .before .before .before .before .before .before .before .before .before .before .before .before .before .before .before .before .before .before .before .before .before .before .before .before .before .before .before .args .blocks)) (c .before .before .before .before .before .before .before .before .before .before .before .before .before .before .before .before .before .before .before .before .before .before .before .before .before .before .before .before .before .before .before .before .before .before .before .before .before .before .before .before .before .before .before .before .args .n) (c .before .before .before .before .before .before .before .before .before .before .before .before .before .before .before .before .before .before .before .before .before .before .before .before .before .before .before .before .before .before .before .before .before .before .before .before .before .before .before .before .before .before .before .before .args .u) (c .before .before .before .before .before .before .before .before .before .before .before .before .before .before .before .before .before .before .before .before .before .before .before .before .before .before .before .before .before .before .before .before .before .before .before .before .before .before .before .before .before .before .before .before .args .v) (sym (c .before .before .before .before .before .before .before .before .before .before .before .before .before .before .before .before .before .before .before .before .before .before .before .before .before .before .before .before .before .before .before .before .refuses-join .ensures) ∙ c .before .before .before .before .before .before .before .before .before .before .before .before .before .before .before .before .before .before .before .before .before .before .before .before .before .before .before .before .before .before .before .if1 .left)) .1 .u-in, roomy (c .before .before .before .before .before .before .before .before .before .before .before .before .before .before .before .before .before .before .before .before .before .before .before .before .before .before .before .before .before .before .before .before .before .before .before .before .before .before .before .before .before .before .before .before .pre .ready) .few-vertices)
+
+slice-read-after : tie.Need-slice-read-after
+slice-read-after c = omega (arith, (pair-of (now (c .before .before .before .before .before .before .before .before .before .before .before .before .before .before .before .before .before .before .before .before .before .before .before .before .before .before .before .before .before .before .before .before .before .before .before .before .before .before .before .before .before .before .before .before .before .args .blocks)) (c .before .before .before .before .before .before .before .before .before .before .before .before .before .before .before .before .before .before .before .before .before .before .before .before .before .before .before .before .before .before .before .before .before .before .before .before .before .before .before .before .before .before .before .before .before .args .n) (c .before .before .before .before .before .before .before .before .before .before .before .before .before .before .before .before .before .before .before .before .before .before .before .before .before .before .before .before .before .before .before .before .before .before .before .before .before .before .before .before .before .before .before .before .before .args .u) (c .before .before .before .before .before .before .before .before .before .before .before .before .before .before .before .before .before .before .before .before .before .before .before .before .before .before .before .before .before .before .before .before .before .before .before .before .before .before .before .before .before .before .before .before .before .args .v) (sym (c .before .before .before .before .before .before .before .before .before .before .before .before .before .before .before .before .before .before .before .before .before .before .before .before .before .before .before .before .before .before .before .before .before .refuses-join .ensures) ∙ c .before .before .before .before .before .before .before .before .before .before .before .before .before .before .before .before .before .before .before .before .before .before .before .before .before .before .before .before .before .before .before .before .if1 .left)) .1 .u-in, c .before .before .before .before .before .before .before .before .before .before .before .before .before .before .before .before .before .before .join .ensures (c .before .before .before .before .before .before .before .before .before .before .before .before .before .before .before .before .before .before .before .before .before .before .before .before .before .before .before .before .before .before .before .before .before .before .before .before .before .before .before .before .before .before .before .before .before .pre .loads) (c .before .before .before .before .before .before .before .before .before .before .before .before .before .before .before .before .before .before .before .before .before .before .before .before .before .before .before .before .before .before .before .before .before .before .before .before .before .before .before .before .before .before .before .before .before .pre .loaded) .sound (c .before .before .before .before .before .before .before .before .before .before .before .before .before .before .before .before .before .before .before .before .before .before .before .before .before .before .before .before .before .before .before .before .before .before .before .before .before .before .before .before .before .before .before .before .before .pre .ready .h) (c .before .before .before .before .before .before .before .before .before .before .before .before .before .before .before .before .before .before .before .before .before .before .before .before .before .before .before .before .before .before .before .before .before .before .before .before .before .before .before .before .before .before .before .before .before .pre .ready .s .stack) (c .before .before .before .before .before .before .before .before .before .before .before .before .before .before .before .before .before .before .before .before .before .before .before .before .before .before .before .before .before .before .before .before .before .before .before .before .before .before .before .before .before .before .before .before .before .pre .ready .s .block) (c .before .before .before .before .before .before .before .before .before .before .before .before .before .before .before .before .before .before .before .before .before .before .before .before .before .before .before .before .before .before .before .before .before .before .before .before .before .before .before .before .before .before .before .before .before .pre .ready .runs .sound) .weights-fit)
+
+same-length-2 : tie.Need-same-length-2
+same-length-2 c = search needs
+
+same-length-3 : tie.Need-same-length-3
+same-length-3 c = search needs
+
+same-length-4 : tie.Need-same-length-4
+same-length-4 c = search needs
+
+same-length-5 : tie.Need-same-length-5
+same-length-5 c = search needs
+
+same-length-6 : tie.Need-same-length-6
+same-length-6 c = search needs
+
+same-length-7 : tie.Need-same-length-7
+same-length-7 c = search needs
+
+same-length-8 : tie.Need-same-length-8
+same-length-8 c = search needs
+
+same-length-9 : tie.Need-same-length-9
+same-length-9 c = search needs
+
+same-length-10 : tie.Need-same-length-10
+same-length-10 c = search needs
+
+returns-2 : tie.Need-returns-2
+returns-2 c =
+    let at-join = c .before .before .before .before .before .before .before .before .before .before .before .before .before .before .before .before .before .before in
+    let at-clear = at-join .before .before .before .before .before .before .before .before .before .before in
+    let at-push = at-clear .before in
+    let at-short2 = at-push .before in
+    let at-short = at-short2 .before in
+    let at-if1 = at-short .before in
+    let at-refuses-join = at-if1 .before in
+    let start = at-refuses-join .before .before .before .before .before .before .before .before .before .before .before .before in
+    λ loads loaded h. accepted-J h _ _ _ _ _ _ (start .args .u) (start .args .v) (sym (at-refuses-join .refuses-join .ensures) ∙ at-if1 .if1 .left) refl (at-join .join .ensures loads loaded) (pushed-as (at-push .push .ensures) (at-short .short .ensures) (at-short2 .short2 .ensures)) (record { xs-same = at-clear .clear .ensures .0; ys-same = at-clear .clear .ensures .1; len-is = at-clear .clear .ensures .2 }) _ refl
+
+pub call-join-spec : {M : Type 1} → statement M
+call-join-spec =
+    tie.close
+    (tie.spec
+    refuses-join-requires
+    same-length
+    returns
+    short-requires
+    short-requires-2
+    push-requires
+    clear-requires
+    sub-join
+    sub-join-2
+    join-requires
+    sub-after
+    mul-after
+    slice-read-after
+    same-length-2
+    same-length-3
+    same-length-4
+    same-length-5
+    same-length-6
+    same-length-7
+    same-length-8
+    same-length-9
+    same-length-10
+    returns-2)

@@ -1,0 +1,121 @@
+use native.Mathlib.Omega.{arith}
+use mathlib.Core.Path.{refl, sym, _∙_}
+use denote.Ref.{now}
+use borrow.Author.Needs.{needs}
+use Rattle.laws.specs.Integer.{read32}
+use Rattle.operations.specs.Move.{gain-small}
+use Rattle.edit_calls.specs.Called.{roomy, pushed-as}
+use Rattle.edit_calls.specs.Moving.{open-of, goes-as, refused-M, accepted-M}
+use Rattle.edit_calls.proofs.moving.call_move.Statement.{statement}
+use Rattle.edit_calls.proofs.moving.call_move.Tie as tie
+
+refuses-move-requires : tie.Need-refuses-move-requires
+refuses-move-requires c κs =
+    let start = c .before .before .before .before .before .before .before .before .before .before .before in
+    (roomy (start .pre .ready) .blocks-fit, roomy (start .pre .ready) .weights-fit, roomy (start .pre .ready) .few-blocks, roomy (start .pre .ready) .loads-fit)
+
+same-length : tie.Need-same-length
+same-length c = search needs
+
+returns : tie.Need-returns
+returns c =
+    let start = c .before .before .before .before .before .before .before .before .before .before .before .before .before in
+    λ aboves loaded S h q. refused-M _ (start .args .capacity) _ _ _ _ _ q (c .before .refuses-move .ensures) (c .if1 .taken)
+
+sub-gain : tie.Need-sub-gain
+sub-gain c = omega (arith, (open-of (now (c .before .before .before .before .before .before .before .before .before .before .before .before .before .args .blocks)) (now (c .before .before .before .before .before .before .before .before .before .before .before .before .before .args .loads)) (now (c .before .before .before .before .before .before .before .before .before .before .before .before .before .args .weights)) (c .before .before .before .before .before .before .before .before .before .before .before .before .before .args .n) (c .before .before .before .before .before .before .before .before .before .before .before .before .before .args .k) (c .before .before .before .before .before .before .before .before .before .before .before .before .before .args .capacity) (c .before .before .before .before .before .before .before .before .before .before .before .before .before .args .u) (c .before .before .before .before .before .before .before .before .before .before .before .before .before .args .t) (sym (c .before .refuses-move .ensures) ∙ c .if1 .left)) .0)
+
+mul-gain : tie.Need-mul-gain
+mul-gain c = omega (arith, (open-of (now (c .before .before .before .before .before .before .before .before .before .before .before .before .before .args .blocks)) (now (c .before .before .before .before .before .before .before .before .before .before .before .before .before .args .loads)) (now (c .before .before .before .before .before .before .before .before .before .before .before .before .before .args .weights)) (c .before .before .before .before .before .before .before .before .before .before .before .before .before .args .n) (c .before .before .before .before .before .before .before .before .before .before .before .before .before .args .k) (c .before .before .before .before .before .before .before .before .before .before .before .before .before .args .capacity) (c .before .before .before .before .before .before .before .before .before .before .before .before .before .args .u) (c .before .before .before .before .before .before .before .before .before .before .before .before .before .args .t) (sym (c .before .refuses-move .ensures) ∙ c .if1 .left)) .1 .u-in, roomy (c .before .before .before .before .before .before .before .before .before .before .before .before .before .pre .ready) .few-vertices)
+
+sub-gain-2 : tie.Need-sub-gain-2
+sub-gain-2 c = omega (arith, (open-of (now (c .before .before .before .before .before .before .before .before .before .before .before .before .before .args .blocks)) (now (c .before .before .before .before .before .before .before .before .before .before .before .before .before .args .loads)) (now (c .before .before .before .before .before .before .before .before .before .before .before .before .before .args .weights)) (c .before .before .before .before .before .before .before .before .before .before .before .before .before .args .n) (c .before .before .before .before .before .before .before .before .before .before .before .before .before .args .k) (c .before .before .before .before .before .before .before .before .before .before .before .before .before .args .capacity) (c .before .before .before .before .before .before .before .before .before .before .before .before .before .args .u) (c .before .before .before .before .before .before .before .before .before .before .before .before .before .args .t) (sym (c .before .refuses-move .ensures) ∙ c .if1 .left)) .1 .t-in)
+
+add-gain : tie.Need-add-gain
+add-gain c = omega (arith, (open-of (now (c .before .before .before .before .before .before .before .before .before .before .before .before .before .args .blocks)) (now (c .before .before .before .before .before .before .before .before .before .before .before .before .before .args .loads)) (now (c .before .before .before .before .before .before .before .before .before .before .before .before .before .args .weights)) (c .before .before .before .before .before .before .before .before .before .before .before .before .before .args .n) (c .before .before .before .before .before .before .before .before .before .before .before .before .before .args .k) (c .before .before .before .before .before .before .before .before .before .before .before .before .before .args .capacity) (c .before .before .before .before .before .before .before .before .before .before .before .before .before .args .u) (c .before .before .before .before .before .before .before .before .before .before .before .before .before .args .t) (sym (c .before .refuses-move .ensures) ∙ c .if1 .left)) .1 .u-in, roomy (c .before .before .before .before .before .before .before .before .before .before .before .before .before .pre .ready) .few-vertices, (open-of (now (c .before .before .before .before .before .before .before .before .before .before .before .before .before .args .blocks)) (now (c .before .before .before .before .before .before .before .before .before .before .before .before .before .args .loads)) (now (c .before .before .before .before .before .before .before .before .before .before .before .before .before .args .weights)) (c .before .before .before .before .before .before .before .before .before .before .before .before .before .args .n) (c .before .before .before .before .before .before .before .before .before .before .before .before .before .args .k) (c .before .before .before .before .before .before .before .before .before .before .before .before .before .args .capacity) (c .before .before .before .before .before .before .before .before .before .before .before .before .before .args .u) (c .before .before .before .before .before .before .before .before .before .before .before .before .before .args .t) (sym (c .before .refuses-move .ensures) ∙ c .if1 .left)) .1 .t-in, roomy (c .before .before .before .before .before .before .before .before .before .before .before .before .before .pre .ready) .few-blocks)
+
+mul-gain-2 : tie.Need-mul-gain-2
+mul-gain-2 c = omega (arith, (open-of (now (c .before .before .before .before .before .before .before .before .before .before .before .before .before .args .blocks)) (now (c .before .before .before .before .before .before .before .before .before .before .before .before .before .args .loads)) (now (c .before .before .before .before .before .before .before .before .before .before .before .before .before .args .weights)) (c .before .before .before .before .before .before .before .before .before .before .before .before .before .args .n) (c .before .before .before .before .before .before .before .before .before .before .before .before .before .args .k) (c .before .before .before .before .before .before .before .before .before .before .before .before .before .args .capacity) (c .before .before .before .before .before .before .before .before .before .before .before .before .before .args .u) (c .before .before .before .before .before .before .before .before .before .before .before .before .before .args .t) (sym (c .before .refuses-move .ensures) ∙ c .if1 .left)) .1 .u-in, roomy (c .before .before .before .before .before .before .before .before .before .before .before .before .before .pre .ready) .few-vertices, (open-of (now (c .before .before .before .before .before .before .before .before .before .before .before .before .before .args .blocks)) (now (c .before .before .before .before .before .before .before .before .before .before .before .before .before .args .loads)) (now (c .before .before .before .before .before .before .before .before .before .before .before .before .before .args .weights)) (c .before .before .before .before .before .before .before .before .before .before .before .before .before .args .n) (c .before .before .before .before .before .before .before .before .before .before .before .before .before .args .k) (c .before .before .before .before .before .before .before .before .before .before .before .before .before .args .capacity) (c .before .before .before .before .before .before .before .before .before .before .before .before .before .args .u) (c .before .before .before .before .before .before .before .before .before .before .before .before .before .args .t) (sym (c .before .refuses-move .ensures) ∙ c .if1 .left)) .1 .t-in, roomy (c .before .before .before .before .before .before .before .before .before .before .before .before .before .pre .ready) .few-blocks)
+
+slice-copy-out-gain : tie.Need-slice-copy-out-gain
+slice-copy-out-gain c = omega (arith, (open-of (now (c .before .before .before .before .before .before .before .before .before .before .before .before .before .args .blocks)) (now (c .before .before .before .before .before .before .before .before .before .before .before .before .before .args .loads)) (now (c .before .before .before .before .before .before .before .before .before .before .before .before .before .args .weights)) (c .before .before .before .before .before .before .before .before .before .before .before .before .before .args .n) (c .before .before .before .before .before .before .before .before .before .before .before .before .before .args .k) (c .before .before .before .before .before .before .before .before .before .before .before .before .before .args .capacity) (c .before .before .before .before .before .before .before .before .before .before .before .before .before .args .u) (c .before .before .before .before .before .before .before .before .before .before .before .before .before .args .t) (sym (c .before .refuses-move .ensures) ∙ c .if1 .left)) .1 .u-in, roomy (c .before .before .before .before .before .before .before .before .before .before .before .before .before .pre .ready) .few-vertices, (open-of (now (c .before .before .before .before .before .before .before .before .before .before .before .before .before .args .blocks)) (now (c .before .before .before .before .before .before .before .before .before .before .before .before .before .args .loads)) (now (c .before .before .before .before .before .before .before .before .before .before .before .before .before .args .weights)) (c .before .before .before .before .before .before .before .before .before .before .before .before .before .args .n) (c .before .before .before .before .before .before .before .before .before .before .before .before .before .args .k) (c .before .before .before .before .before .before .before .before .before .before .before .before .before .args .capacity) (c .before .before .before .before .before .before .before .before .before .before .before .before .before .args .u) (c .before .before .before .before .before .before .before .before .before .before .before .before .before .args .t) (sym (c .before .refuses-move .ensures) ∙ c .if1 .left)) .1 .t-in, roomy (c .before .before .before .before .before .before .before .before .before .before .before .before .before .pre .ready) .few-blocks, roomy (c .before .before .before .before .before .before .before .before .before .before .before .before .before .pre .ready) .gains-fit)
+
+short-requires : tie.Need-short-requires
+short-requires c κs = omega (arith, (open-of (now (c .before .before .before .before .before .before .before .before .before .before .before .before .before .before .args .blocks)) (now (c .before .before .before .before .before .before .before .before .before .before .before .before .before .before .args .loads)) (now (c .before .before .before .before .before .before .before .before .before .before .before .before .before .before .args .weights)) (c .before .before .before .before .before .before .before .before .before .before .before .before .before .before .args .n) (c .before .before .before .before .before .before .before .before .before .before .before .before .before .before .args .k) (c .before .before .before .before .before .before .before .before .before .before .before .before .before .before .args .capacity) (c .before .before .before .before .before .before .before .before .before .before .before .before .before .before .args .u) (c .before .before .before .before .before .before .before .before .before .before .before .before .before .before .args .t) (sym (c .before .before .refuses-move .ensures) ∙ c .before .if1 .left)) .1 .u-in, roomy (c .before .before .before .before .before .before .before .before .before .before .before .before .before .before .pre .ready) .few-vertices)
+
+sub-push : tie.Need-sub-push
+sub-push c = omega (arith, (open-of (now (c .before .before .before .before .before .before .before .before .before .before .before .before .before .before .before .args .blocks)) (now (c .before .before .before .before .before .before .before .before .before .before .before .before .before .before .before .args .loads)) (now (c .before .before .before .before .before .before .before .before .before .before .before .before .before .before .before .args .weights)) (c .before .before .before .before .before .before .before .before .before .before .before .before .before .before .before .args .n) (c .before .before .before .before .before .before .before .before .before .before .before .before .before .before .before .args .k) (c .before .before .before .before .before .before .before .before .before .before .before .before .before .before .before .args .capacity) (c .before .before .before .before .before .before .before .before .before .before .before .before .before .before .before .args .u) (c .before .before .before .before .before .before .before .before .before .before .before .before .before .before .before .args .t) (sym (c .before .before .before .refuses-move .ensures) ∙ c .before .before .if1 .left)) .0)
+
+mul-push : tie.Need-mul-push
+mul-push c = omega (arith, (open-of (now (c .before .before .before .before .before .before .before .before .before .before .before .before .before .before .before .args .blocks)) (now (c .before .before .before .before .before .before .before .before .before .before .before .before .before .before .before .args .loads)) (now (c .before .before .before .before .before .before .before .before .before .before .before .before .before .before .before .args .weights)) (c .before .before .before .before .before .before .before .before .before .before .before .before .before .before .before .args .n) (c .before .before .before .before .before .before .before .before .before .before .before .before .before .before .before .args .k) (c .before .before .before .before .before .before .before .before .before .before .before .before .before .before .before .args .capacity) (c .before .before .before .before .before .before .before .before .before .before .before .before .before .before .before .args .u) (c .before .before .before .before .before .before .before .before .before .before .before .before .before .before .before .args .t) (sym (c .before .before .before .refuses-move .ensures) ∙ c .before .before .if1 .left)) .1 .u-in, roomy (c .before .before .before .before .before .before .before .before .before .before .before .before .before .before .before .pre .ready) .few-vertices)
+
+slice-read-push : tie.Need-slice-read-push
+slice-read-push c = omega (arith, (open-of (now (c .before .before .before .before .before .before .before .before .before .before .before .before .before .before .before .before .args .blocks)) (now (c .before .before .before .before .before .before .before .before .before .before .before .before .before .before .before .before .args .loads)) (now (c .before .before .before .before .before .before .before .before .before .before .before .before .before .before .before .before .args .weights)) (c .before .before .before .before .before .before .before .before .before .before .before .before .before .before .before .before .args .n) (c .before .before .before .before .before .before .before .before .before .before .before .before .before .before .before .before .args .k) (c .before .before .before .before .before .before .before .before .before .before .before .before .before .before .before .before .args .capacity) (c .before .before .before .before .before .before .before .before .before .before .before .before .before .before .before .before .args .u) (c .before .before .before .before .before .before .before .before .before .before .before .before .before .before .before .before .args .t) (sym (c .before .before .before .before .refuses-move .ensures) ∙ c .before .before .before .if1 .left)) .1 .u-in, roomy (c .before .before .before .before .before .before .before .before .before .before .before .before .before .before .before .before .pre .ready) .blocks-fit)
+
+push-requires : tie.Need-push-requires
+push-requires c κs =
+    let start = c .before .before .before .before .before .before .before .before .before .before .before .before .before .before .before .before in
+    (roomy (start .pre .ready) .journal-short, roomy (start .pre .ready) .journal-whole .xs-whole, roomy (start .pre .ready) .journal-whole .ys-whole)
+
+sub-go : tie.Need-sub-go
+sub-go c = omega (arith, (open-of (now (c .before .before .before .before .before .before .before .before .before .before .before .before .before .before .before .before .before .before .before .before .before .before .args .blocks)) (now (c .before .before .before .before .before .before .before .before .before .before .before .before .before .before .before .before .before .before .before .before .before .before .args .loads)) (now (c .before .before .before .before .before .before .before .before .before .before .before .before .before .before .before .before .before .before .before .before .before .before .args .weights)) (c .before .before .before .before .before .before .before .before .before .before .before .before .before .before .before .before .before .before .before .before .before .before .args .n) (c .before .before .before .before .before .before .before .before .before .before .before .before .before .before .before .before .before .before .before .before .before .before .args .k) (c .before .before .before .before .before .before .before .before .before .before .before .before .before .before .before .before .before .before .before .before .before .before .args .capacity) (c .before .before .before .before .before .before .before .before .before .before .before .before .before .before .before .before .before .before .before .before .before .before .args .u) (c .before .before .before .before .before .before .before .before .before .before .before .before .before .before .before .before .before .before .before .before .before .before .args .t) (sym (c .before .before .before .before .before .before .before .before .before .before .refuses-move .ensures) ∙ c .before .before .before .before .before .before .before .before .before .if1 .left)) .0)
+
+short-requires-2 : tie.Need-short-requires-2
+short-requires-2 c κs = omega (arith, (open-of (now (c .before .before .before .before .before .before .before .before .before .before .before .before .before .before .before .before .before .before .before .before .before .before .args .blocks)) (now (c .before .before .before .before .before .before .before .before .before .before .before .before .before .before .before .before .before .before .before .before .before .before .args .loads)) (now (c .before .before .before .before .before .before .before .before .before .before .before .before .before .before .before .before .before .before .before .before .before .before .args .weights)) (c .before .before .before .before .before .before .before .before .before .before .before .before .before .before .before .before .before .before .before .before .before .before .args .n) (c .before .before .before .before .before .before .before .before .before .before .before .before .before .before .before .before .before .before .before .before .before .before .args .k) (c .before .before .before .before .before .before .before .before .before .before .before .before .before .before .before .before .before .before .before .before .before .before .args .capacity) (c .before .before .before .before .before .before .before .before .before .before .before .before .before .before .before .before .before .before .before .before .before .before .args .u) (c .before .before .before .before .before .before .before .before .before .before .before .before .before .before .before .before .before .before .before .before .before .before .args .t) (sym (c .before .before .before .before .before .before .before .before .before .before .refuses-move .ensures) ∙ c .before .before .before .before .before .before .before .before .before .if1 .left)) .1 .t-in, roomy (c .before .before .before .before .before .before .before .before .before .before .before .before .before .before .before .before .before .before .before .before .before .before .pre .ready) .few-blocks)
+
+go-requires : tie.Need-go-requires
+go-requires c κs =
+    let at-if1 = c .before .before .before .before .before .before .before .before .before .before in
+    let at-refuses-move = at-if1 .before in
+    let start = at-refuses-move .before .before .before .before .before .before .before .before .before .before .before .before in
+    record { aboves = start .pre .aboves; loaded = start .pre .loaded; goes = goes-as (start .pre .ready) ((open-of (now (start .args .blocks)) (now (start .args .loads)) (now (start .args .weights)) (start .args .n) (start .args .k) (start .args .capacity) (start .args .u) (start .args .t) (sym (at-refuses-move .refuses-move .ensures) ∙ at-if1 .if1 .left)) .1) (c .short2 .ensures) }
+
+same-length-2 : tie.Need-same-length-2
+same-length-2 c = search needs
+
+same-length-3 : tie.Need-same-length-3
+same-length-3 c = search needs
+
+same-length-4 : tie.Need-same-length-4
+same-length-4 c = search needs
+
+same-length-5 : tie.Need-same-length-5
+same-length-5 c = search needs
+
+returns-2 : tie.Need-returns-2
+returns-2 c =
+    let at-go = c .before .before .before .before .before .before .before in
+    let at-short2 = at-go .before in
+    let at-push = at-short2 .before .before .before .before .before .before in
+    let at-short = at-push .before .before in
+    let at-if1 = at-short .before .before in
+    let at-refuses-move = at-if1 .before in
+    let start = at-refuses-move .before .before .before .before .before .before .before .before .before .before .before .before in
+    λ aboves loaded S h q. accepted-M h _ _ _ _ _ (start .args .capacity) (start .args .u) (start .args .t) (at-short2 .short2 .result) _ q (sym (at-refuses-move .refuses-move .ensures) ∙ at-if1 .if1 .left) (at-short2 .short2 .ensures) (at-go .go .ensures aboves loaded) (roomy (start .pre .ready) .journal-short) refl (pushed-as (at-push .push .ensures) (at-short .short .ensures) refl) _ (read32 _ (gain-small (start .pre .ready .runs .sound) ((open-of (now (start .args .blocks)) (now (start .args .loads)) (now (start .args .weights)) (start .args .n) (start .args .k) (start .args .capacity) (start .args .u) (start .args .t) (sym (at-refuses-move .refuses-move .ensures) ∙ at-if1 .if1 .left)) .1)))
+
+pub call-move-spec : {M : Type 1} → statement M
+call-move-spec =
+    tie.close
+    (tie.spec
+    refuses-move-requires
+    same-length
+    returns
+    sub-gain
+    mul-gain
+    sub-gain-2
+    add-gain
+    mul-gain-2
+    slice-copy-out-gain
+    short-requires
+    sub-push
+    mul-push
+    slice-read-push
+    push-requires
+    sub-go
+    short-requires-2
+    go-requires
+    same-length-2
+    same-length-3
+    same-length-4
+    same-length-5
+    returns-2)

@@ -1,0 +1,51 @@
+use native.Mathlib.Omega.{arith}
+use denote.Ref.{now}
+use borrow.Author.Needs.{needs}
+use Rattle.edit_calls.specs.Refusal.{room-no, room-some}
+use Rattle.edit_calls.proofs.refusals.has_room.Statement.{statement}
+use Rattle.edit_calls.proofs.refusals.has_room.Tie as tie
+use Prim.Native.Nat.{_-_}
+use lib.ListN.{getD}
+
+sub-w : tie.Need-sub-w
+sub-w c = search needs
+
+mul-w : tie.Need-mul-w
+mul-w c = search needs
+
+shared-slice-read-w : tie.Need-shared-slice-read-w
+shared-slice-read-w c = search needs
+
+cast-w : tie.Need-cast-w
+cast-w c = omega (arith, c .shared-slice-known .given (c .before .args .u - 1))
+
+returns : tie.Need-returns
+returns c = room-no (getD (now (c .before .before .args .loads)) (c .before .before .args .t - 1) 0) (getD (now (c .before .before .args .weights)) (c .before .before .args .u - 1) 0) (c .before .before .args .capacity) (c .if1 .taken)
+
+sub-result : tie.Need-sub-result
+sub-result c = search needs
+
+mul-result : tie.Need-mul-result
+mul-result c = search needs
+
+element-copy-out-result : tie.Need-element-copy-out-result
+element-copy-out-result c = search needs
+
+returns-2 : tie.Need-returns-2
+returns-2 c =
+    let start = c .before .before .before in
+    room-some (getD (now (start .args .loads)) (start .args .t - 1) 0) (getD (now (start .args .weights)) (start .args .u - 1) 0) (start .args .capacity) (c .before .if1 .left)
+
+pub has-room-spec : {M : Type 1} → statement M
+has-room-spec =
+    tie.close
+    (tie.spec
+    sub-w
+    mul-w
+    shared-slice-read-w
+    cast-w
+    returns
+    sub-result
+    mul-result
+    element-copy-out-result
+    returns-2)

@@ -1,0 +1,161 @@
+// The calls M and B: refused with the number of the refusal, or done, with the numbers of the answer.
+ghost use Prim.Native.Nat.{ℕ};
+ghost use mathlib.Core.List.{List};
+ghost use Rattle.model.specs.Catalogue.{Hypergraph};
+ghost use Rattle.model.specs.Machine.{callM, callB, saysM, saysB};
+ghost use Rattle.model.specs.Lent.{Two, two};
+ghost use Rattle.operations.specs.Tables.{tables};
+ghost use Rattle.edit_calls.specs.Steps.{told};
+ghost use Rattle.edit_calls.specs.Called.{ReadyM, CapacityIs, Called};
+use crate::refusals::refuses_move;
+use crate::widths::index;
+use crate::widths::short;
+use crate::widths::wide;
+use operations::moves::back;
+use operations::moves::go;
+use operations::pairs::Journal;
+
+// What a call leaves of the journal, its refusal or 0, and the numbers of its answer, 0 where it is refused; the metric is in any case the one after it.
+pub struct MoveTurn {
+    pub journal: Journal,
+    pub no: u32,
+    pub gain: i32,
+    pub total: u32,
+}
+
+pub struct BackTurn {
+    pub journal: Journal,
+    pub no: u32,
+    pub vertex: u32,
+    pub block: u32,
+    pub total: u32,
+}
+
+// M,u,t.
+pub fn call_move(
+    counts: &mut [u16],
+    visited: &mut [u16],
+    gains: &mut [i32],
+    blocks: &mut [u16],
+    loads: &mut [u64; 16],
+    presentpins: &[u16],
+    presentsizes: &[u16],
+    bits: &[u64],
+    weights: &[u32],
+    netweights: &[u16],
+    firsts: &[u16],
+    n: usize,
+    m: usize,
+    k: usize,
+    capacity: u64,
+    total: u32,
+    journal: Journal,
+    u: usize,
+    t: usize,
+) -> MoveTurn
+    requires { ⌜ ReadyM (λ aboves loadedsizes. tables (now counts) (now visited) (now gains) (now presentpins) (now presentsizes) (now bits) (now blocks) (now weights) aboves (now loads) (now netweights) (now firsts) loadedsizes n m k total) (two (journal .vertices) (journal .blocks) (journal .len)) ⌝ }
+    ensures { λ r. ⌜ ((aboves loadedsizes : List ℕ) (S : Two) (h : Hypergraph) → CapacityIs capacity h → Called h (tables (now (counts .entry)) (now (visited .entry)) (now (gains .entry)) (now (presentpins .entry)) (now (presentsizes .entry)) (now (bits .entry)) (now (blocks .entry)) (now (weights .entry)) aboves (now (loads .entry)) (now (netweights .entry)) (now (firsts .entry)) loadedsizes n m k total)
+        (tables (now (counts .exit)) (now (visited .exit)) (now (gains .exit)) (now (presentpins .exit)) (now (presentsizes .exit)) (now (bits .exit)) (now (blocks .exit)) (now (weights .exit)) aboves (now (loads .exit)) (now (netweights .exit)) (now (firsts .exit)) loadedsizes n m k (r .total)) S S (two (journal .vertices) (journal .blocks) (journal .len)) (two (r .journal .vertices) (r .journal .blocks) (r .journal .len)) (callM u t) (told (r .no) (saysM (r .gain) (r .total)))) ⌝ }
+{
+    let no = refuses_move(blocks, loads, weights, n, k, capacity, u, t);
+    if no != 0 {
+        return MoveTurn {
+            journal: journal,
+            no: no,
+            gain: 0,
+            total: total,
+        };
+    }
+    let gain = gains[16 * (u - 1) + (t - 1)];
+    let next = journal.push(short(u), blocks[u - 1]);
+    let after = go(
+        counts,
+        visited,
+        gains,
+        blocks,
+        loads,
+        presentpins,
+        presentsizes,
+        bits,
+        weights,
+        netweights,
+        firsts,
+        n,
+        m,
+        k,
+        total,
+        u - 1,
+        short(t),
+    );
+    MoveTurn {
+        journal: next,
+        no: 0,
+        gain: gain,
+        total: after,
+    }
+}
+
+// B.
+pub fn call_back(
+    counts: &mut [u16],
+    visited: &mut [u16],
+    gains: &mut [i32],
+    blocks: &mut [u16],
+    loads: &mut [u64; 16],
+    presentpins: &[u16],
+    presentsizes: &[u16],
+    bits: &[u64],
+    weights: &[u32],
+    netweights: &[u16],
+    firsts: &[u16],
+    n: usize,
+    m: usize,
+    k: usize,
+    total: u32,
+    journal: Journal,
+) -> BackTurn
+    requires { ⌜ ReadyM (λ aboves loadedsizes. tables (now counts) (now visited) (now gains) (now presentpins) (now presentsizes) (now bits) (now blocks) (now weights) aboves (now loads) (now netweights) (now firsts) loadedsizes n m k total) (two (journal .vertices) (journal .blocks) (journal .len)) ⌝ }
+    ensures { λ r. ⌜ ((aboves loadedsizes : List ℕ) (S : Two) (h : Hypergraph) → Called h (tables (now (counts .entry)) (now (visited .entry)) (now (gains .entry)) (now (presentpins .entry)) (now (presentsizes .entry)) (now (bits .entry)) (now (blocks .entry)) (now (weights .entry)) aboves (now (loads .entry)) (now (netweights .entry)) (now (firsts .entry)) loadedsizes n m k total)
+        (tables (now (counts .exit)) (now (visited .exit)) (now (gains .exit)) (now (presentpins .exit)) (now (presentsizes .exit)) (now (bits .exit)) (now (blocks .exit)) (now (weights .exit)) aboves (now (loads .exit)) (now (netweights .exit)) (now (firsts .exit)) loadedsizes n m k (r .total)) S S (two (journal .vertices) (journal .blocks) (journal .len)) (two (r .journal .vertices) (r .journal .blocks) (r .journal .len)) callB (told (r .no) (saysB (r .vertex) (r .block) (r .total)))) ⌝ }
+{
+    let at = journal.len;
+    if at == 0 {
+        return BackTurn {
+            journal: journal,
+            no: 15,
+            vertex: 0,
+            block: 0,
+            total: total,
+        };
+    }
+    let v = journal.vertices[at - 1];
+    let b = journal.blocks[at - 1];
+    let x = index(v);
+    let next = journal.pop();
+    let after = back(
+        counts,
+        visited,
+        gains,
+        blocks,
+        loads,
+        presentpins,
+        presentsizes,
+        bits,
+        weights,
+        netweights,
+        firsts,
+        n,
+        m,
+        k,
+        total,
+        x - 1,
+        b,
+    );
+    BackTurn {
+        journal: next,
+        no: 0,
+        vertex: wide(v),
+        block: wide(b),
+        total: after,
+    }
+}

@@ -1,0 +1,99 @@
+use native.Mathlib.Omega.{arith}
+use mathlib.Core.Path.{refl, ap}
+use denote.Ref.{now}
+use borrow.Author.Needs.{needs}
+use Prim.Native.Nat.{ℕ, _-_}
+use Rattle.search_moves.specs.Tabled.{search-ok}
+use Rattle.polish.specs.Polished.{pass-in, pass-goes, pass-none, pass-move}
+use Rattle.polish.proofs.polishing.pass.Statement.{statement}
+use Rattle.polish.proofs.polishing.pass.Tie as tie
+
+next-rise-requires : tie.Need-next-rise-requires
+next-rise-requires c κs =
+    let start = c .before .before .before .before .before .before .before .before .before .before .before .before .before .before .pre in
+    let at = start .0 .at in
+    (search-ok (at .sound) (now (c .before .before .before .before .before .before .before .before .before .before .before .before .before .before .args .marks)) (omega (arith, at .marks-fit)), start .1)
+
+enum-told : tie.Need-enum-told
+enum-told c = search needs
+
+enum-known-vertex : tie.Need-enum-known-vertex
+enum-known-vertex c = search needs
+
+index-requires : tie.Need-index-requires
+index-requires c κs = search needs
+
+sub-x : tie.Need-sub-x
+sub-x c = omega (arith, pass-in (c .before .before .before .before .before .before .before .before .before .before .before .before .before .before .before .before .before .before .before .pre .0) (c .before .before .before .before .before .before .before .before .before .before .before .before .before .before .before .before .before .before .before .args .capacity) _ _ (c .before .before .before .before .next-rise .ensures) (c .before .before .vertex .given .1), c .index .ensures)
+
+shift-requires : tie.Need-shift-requires
+shift-requires c κs =
+    let at-index = c .before .before .before .before .before .before in
+    let at-vertex = at-index .before .before in
+    let at-next-rise = at-vertex .before .before in
+    let start-2 = at-next-rise .before .before .before .before .before .before .before .before .before .before .before .before .before .before .before in
+    let start = start-2 .pre in
+    let is = at-index .index in
+    (pass-goes (start .0) (start-2 .args .capacity) _ _ (at-next-rise .next-rise .ensures) (at-vertex .vertex .given .1) (is .result - 1) (ap (λ (z : ℕ). z - 1) (is .ensures)), start .1)
+
+sub-t44 : tie.Need-sub-t44
+sub-t44 c = omega (arith, c .before .before .before .before .before .before .before .before .before .before .before .before .before .before .before .before .before .before .before .before .before .before .before .before .before .before .before .before .before .before .before .before .before .before .pre .0 .some)
+
+add-t45 : tie.Need-add-t45
+add-t45 c = omega (arith, c .before .before .before .before .before .before .before .before .before .before .before .before .before .before .before .before .before .before .before .before .before .before .before .before .before .before .before .before .before .before .before .before .before .before .before .pre .0 .some, c .before .before .before .before .before .before .before .before .before .before .before .before .before .before .before .before .before .before .before .before .before .before .before .before .before .before .before .before .before .before .before .before .before .before .before .pre .0 .small)
+
+same-length : tie.Need-same-length
+same-length c = search needs
+
+same-length-2 : tie.Need-same-length-2
+same-length-2 c = search needs
+
+returns : tie.Need-returns
+returns c =
+    let start-2 = c .before .before .before .before .before .before .before .before .before .before .before .before .before .before .before .before .before in
+    let start = start-2 .pre in
+    (λ aboves loaded. pass-none _ _ _ _ _ (start .0 .some) (c .before .before .next-rise .ensures) (c .enum-told .given .1), start .1)
+
+same-length-3 : tie.Need-same-length-3
+same-length-3 c = search needs
+
+same-length-4 : tie.Need-same-length-4
+same-length-4 c = search needs
+
+same-length-5 : tie.Need-same-length-5
+same-length-5 c = search needs
+
+same-length-6 : tie.Need-same-length-6
+same-length-6 c = search needs
+
+returns-2 : tie.Need-returns-2
+returns-2 c =
+    let start = c .before .before .before .before .before .before .before .before .before .before .before .before .before .before .before .before .before .before .before .before .before .before .before .before .before .before .before .before .before .before .before .before .before .before .before .pre in
+    let is = c .before .before .before .before .before .before .before .before .before .before .before .before .before .before .before .before .index in
+    let found = c .before .before .before .before .before .before .before .before .before .before .before .before .before .before .before .before .before .before .before .before .next-rise .ensures in
+    let pair = c .before .before .before .before .before .before .before .before .before .before .before .before .before .before .before .before .before .before .vertex .given .1 in
+    let moved = c .before .before .before .before .before .before .before .before .before .shift .ensures in (
+      λ aboves loaded. pass-move _ _ _ _ (is .result - 1) _ _ (start .0 .some) refl found pair (omega (arith, pass-in (start .0) (c .before .before .before .before .before .before .before .before .before .before .before .before .before .before .before .before .before .before .before .before .before .before .before .before .before .before .before .before .before .before .before .before .before .before .before .args .capacity) _ _ found pair, is .ensures)) (moved .0 aboves loaded),
+      moved .1,
+    )
+
+pub pass-spec : {M : Type 1} → statement M
+pass-spec =
+    tie.close
+    (tie.spec
+    next-rise-requires
+    enum-told
+    enum-known-vertex
+    index-requires
+    sub-x
+    shift-requires
+    sub-t44
+    add-t45
+    same-length
+    same-length-2
+    returns
+    same-length-3
+    same-length-4
+    same-length-5
+    same-length-6
+    returns-2)

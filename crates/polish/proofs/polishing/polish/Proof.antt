@@ -1,0 +1,95 @@
+use native.Mathlib.Omega.{arith}
+use mathlib.Core.Path.{_≡_, refl}
+use Prim.Native.Nat.{ℕ, _≤_, _+_}
+use mathlib.Core.List.{List}
+use lib.IntN.{ℤ, pos}
+use lib.ListN.{length, length-replicate}
+use Rattle.best_move.specs.Peak.{Peaked}
+use Rattle.search_moves.specs.Lent.{lent}
+use Rattle.polish.specs.Polished.{Passing, passing-none, pass-asks, passing-more, polishes-all}
+use Rattle.polish.proofs.polishing.polish.Statement.{statement}
+use Rattle.polish.proofs.polishing.polish.Tie as tie
+
+abbrev Inv-loop : tie.InvT-loop
+Inv-loop counts₀ visited₀ gains₀ blocks₀ loads₀ pins sizes bits weights netweights firsts n m k capacity total marks peaks₀ p₀ counts visited gains blocks loads peaks p =
+    (p .moves + p .left ≤ total)
+    × ((aboves loaded : List ℕ) → Passing (lent counts₀ visited₀ gains₀ blocks₀ loads₀ pins sizes bits weights netweights firsts n m k total aboves loaded) marks capacity (lent counts visited gains blocks loads pins sizes bits weights netweights firsts n m k (p .total) aboves loaded) (p .left) (p .moves))
+    × Peaked gains peaks n k
+    × (length counts ≡ length counts₀) × (length visited ≡ length visited₀) × (length gains ≡ length gains₀) × (length blocks ≡ length blocks₀)
+
+abbrev μ-loop : tie.MeasureT-loop
+μ-loop counts₀ visited₀ gains₀ blocks₀ loads₀ pins sizes bits weights netweights firsts n m k capacity total marks peaks₀ p₀ counts visited gains blocks loads peaks p = p .left
+
+mark-board-requires : tie.Need-mark-board-requires Inv-loop μ-loop
+mark-board-requires c κs =
+    let start = c .before .before .before .before .before .before .before .before .before .before .before in
+    let follows = start .pre .sound .follows in
+    (length-replicate {A = ℕ} 48 0, follows .room .few-vertices, follows .world .lists .blocks-fit)
+
+survey-requires : tie.Need-survey-requires Inv-loop μ-loop
+survey-requires c κs =
+    let start = c .before .before .before .before .before .before .before .before .before .before .before .before .before .before in
+    let frame = start .pre .sound .follows .world .frame in
+    (length-replicate {A = ℤ} 16 (pos 0), frame .few-vertices, frame .few, frame .gains-fit)
+
+loop-holds : tie.Need-loop-holds Inv-loop μ-loop
+loop-holds c = (omega arith, λ aboves loaded. passing-none _ _ (c .before .before .before .mark-board .ensures), c .survey .ensures, refl, refl, refl, refl)
+
+pass-requires : tie.Need-pass-requires Inv-loop μ-loop
+pass-requires c κs =
+    let l = c .before .before .before .before .before .before .before .before .before .loop in
+    (pass-asks (c .before .before .before .before .before .before .before .before .before .before .before .before .before .before .before .before .before .before .before .before .before .before .before .before .before .pre) (l .inv .1) (c .before .before .before .before .before .before .before .if1 .taken) (omega (arith, l .inv .0, c .before .before .before .before .before .before .before .before .before .before .before .before .before .before .before .before .before .before .before .before .before .before .before .before .before .fits .total)), l .inv .2)
+
+loop-less : tie.Need-loop-less Inv-loop μ-loop
+loop-less c =
+    let at-pass = c .before .before .before .before .before .before .before in
+    let start = at-pass .before .before .before .before .before .before .before .before .before .before .before .before .before .before .before .before .before .before .before .before .before .before .before .before .before .before in
+    let ok = start .pre in at-pass .pass .ensures .0 (ok .aboves) (ok .loaded) .less
+
+loop-again : tie.Need-loop-again Inv-loop μ-loop
+loop-again c =
+    let ok = c .before .before .before .before .before .before .before .before .before .before .before .before .before .before .before .before .before .before .before .before .before .before .before .before .before .before .before .before .before .before .before .before .before .pre in
+    let l = c .before .before .before .before .before .before .before .before .before .before .before .before .before .before .before .before .before .loop in
+    let passed = c .before .before .before .before .before .before .before .pass .ensures in
+    let lengths = c .before .before .before .before .before .before .before .pass .kept in (
+      omega (arith, l .inv .0, passed .0 (ok .aboves) (ok .loaded) .small),
+      λ aboves loaded. passing-more refl refl refl refl refl (l .inv .1 aboves loaded) (passed .0 aboves loaded),
+      passed .1,
+      omega (arith, l .inv, lengths),
+      omega (arith, l .inv, lengths),
+      omega (arith, l .inv, lengths),
+      omega (arith, l .inv, lengths),
+    )
+
+same-length : tie.Need-same-length Inv-loop μ-loop
+same-length c = omega (arith, c .before .before .loop .inv)
+
+same-length-2 : tie.Need-same-length-2 Inv-loop μ-loop
+same-length-2 c = omega (arith, c .before .before .loop .inv)
+
+same-length-3 : tie.Need-same-length-3 Inv-loop μ-loop
+same-length-3 c = omega (arith, c .before .before .loop .inv)
+
+same-length-4 : tie.Need-same-length-4 Inv-loop μ-loop
+same-length-4 c = omega (arith, c .before .before .loop .inv)
+
+returns : tie.Need-returns Inv-loop μ-loop
+returns c = λ aboves loaded. polishes-all (c .before .before .loop .inv .1 aboves loaded) (c .if1 .left)
+
+pub polish-spec : {M : Type 1} → statement M
+polish-spec =
+    tie.close
+    (tie.spec
+    Inv-loop
+    μ-loop
+    mark-board-requires
+    survey-requires
+    loop-holds
+    pass-requires
+    loop-less
+    loop-again
+    same-length
+    same-length-2
+    same-length-3
+    same-length-4
+    returns)

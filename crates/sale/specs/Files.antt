@@ -1,0 +1,89 @@
+-- A file in memory that is long enough, in model's terms: the report after an accepted file's calls, or the line of a refused file. Rests on
+-- Sale, Reported and model's Memory. Assumes nothing.
+use Prim.Native.Nat.{ℕ, _*_, _≤_}
+use native.Mathlib.Omega.{arith}
+use mathlib.Core.Path.{_≡_, refl, sym, ap, _∙_, subst}
+use mathlib.Core.List.{List, [], _∷_}
+use lib.ListN.{length}
+use lib.IntN.{ℤ}
+use Rattle.model.specs.Catalogue.{Limits, vertices}
+use Rattle.model.specs.Grammar.{Reading, unread, reading, stopped, parse}
+use Rattle.model.specs.Report.{digits, row}
+use Rattle.model.specs.Engine.{outcome, engine}
+use Rattle.model.specs.Memory.{Tables as Lent, Memory, Worked}
+use Rattle.model.specs.Lent.{callsOf, Lists, lent, memory}
+use Rattle.guarantees.specs.Ranges.{accepted-book}
+use Rattle.guarantees.specs.Refusals.{refused-in, engine-fits}
+use Rattle.loader.specs.declared.Sizes.{Sizes}
+use Rattle.loader.specs.declared.Loaded.{Loaded}
+use Rattle.loader.specs.declared.Loaded.the-variants.{Accepted, Refused}
+use Rattle.loader.specs.Tables.{LongLists, graph, seen, Loads}
+use Rattle.report.specs.Wrote.{Wrote}
+use Rattle.sale.specs.Sale.{Catalogued, Listed}
+use Rattle.sale.specs.Reported.{written-all, Reported}
+
+-- ---- the lots of a file
+-- how many lots an accepted file has; none where it is turned down
+abbrev pub lotsIn : Reading → ℕ
+lotsIn (reading k) = vertices (k .graph)
+lotsIn (stopped q n) = 0
+lotsIn unread = 0
+
+-- ---- lengths
+pub record Long (limits : Limits) (out : List ℕ) (t : Lists) (counts : List ℕ) (gains : List ℤ) (visited : List ℕ) : Type 0 where
+  pub narrow : limits .blockLimit ≤ 16
+  pub short : limits .vertexLimit ≤ 1024
+  pub spacious : 60000 ≤ length out
+  pub lists-long : LongLists (limits .vertexLimit) t
+  pub counts-long : 16384 ≤ length counts
+  pub gains-long : 16 * limits .vertexLimit ≤ length gains
+  pub visited-long : 1024 ≤ length visited
+
+module _ {limits : Limits} {file out : List ℕ} {old new : Lists} {nw calls counts : List ℕ} {gains : List ℤ} {visited : List ℕ} (g : Long limits out old counts gains visited) where
+  -- ---- the two answers of the loader
+  module _ {r : Loaded} (l : Loads limits file r old new nw calls) where
+    module _ {z : Sizes} (e : r ≡ Accepted z) where
+      here : Loads limits file (Accepted z) old new nw calls
+      here = subst (λ (x : Loaded). Loads limits file x old new nw calls) e l
+
+      pub catalogued : Catalogued limits file z old new nw counts gains visited
+      catalogued = record {
+        narrow = g .narrow;
+        short = g .short;
+        long = g .lists-long;
+        counts-long = g .counts-long;
+        gains-long = g .gains-long;
+        visited-long = g .visited-long;
+        fileCalls = calls;
+        loads = here;
+      }
+
+      pub listed : 1536 ≤ length calls → Listed calls (z .calls) out
+      listed q = let a = here .accepts z refl in record { count-le = a .calls-le; known = a .known; calls-fit = omega (arith, a .calls-le); spacious = g .spacious }
+
+      pub worked : {new′ : Lent} {out′ : List ℕ} {bytes : ℕ} → Reported (graph z new nw) (callsOf (z .calls) calls) (lent old counts gains visited) new′ out out′ bytes
+          → Worked (parse limits file) (memory out (lent old counts gains visited)) (memory out′ new′) 0 bytes
+      unfolding outcome
+      worked {new′} {out′} {bytes} p = subst (λ (x : Reading). Worked x (memory out (lent old counts gains visited)) (memory out′ new′) 0 bytes) (here .says) (record { code-is = refl; output = p .output; tables = p .tables })
+
+      pub lots-read : z .vertices ≡ lotsIn (parse limits file)
+      lots-read = sym (accepted-book limits file _ (sym (here .says)) .vertices-are) ∙ ap lotsIn (here .says)
+
+    module _ {q n : ℕ} (e : r ≡ Refused q n) where
+      stops : stopped q n ≡ parse limits file
+      stops = ap (λ (x : Loaded). seen x new nw calls) (sym e) ∙ l .says
+
+      pub small : (q ≤ 7) × (n ≤ 60001)
+      small = let b = refused-in limits file q n (sym stops) in (b .1, b .2)
+
+      pub no-lots : 0 ≡ lotsIn (parse limits file)
+      no-lots = ap lotsIn stops
+
+      pub line-fits : length (row "NO" (digits q ∷ digits n ∷ [])) ≤ 60000
+      unfolding engine outcome
+      line-fits = omega (arith, engine-fits limits (g .short) (g .narrow) file, ap (λ (x : Reading). length (outcome x .report)) stops)
+
+      pub turned-down : {new′ : Lent} {out′ : List ℕ} {code bytes : ℕ} → code ≡ q → Wrote out out′ 0 (row "NO" (digits q ∷ digits n ∷ [])) bytes
+          → Worked (parse limits file) (memory out (lent old counts gains visited)) (memory out′ new′) code bytes
+      unfolding outcome
+      turned-down {new′} {out′} {code} {bytes} d w = subst (λ (x : Reading). Worked x (memory out (lent old counts gains visited)) (memory out′ new′) code bytes) stops (record { code-is = d; output = written-all w; tables = tt })

@@ -1,0 +1,82 @@
+// How a file ends: the line of its refusal, or the answers to its calls with the closing report behind them.
+ghost use Prim.Native.Nat.{ℕ, _≤_};
+ghost use mathlib.Core.List.{List, [], _∷_};
+ghost use lib.ListN.{length};
+ghost use Rattle.model.specs.Catalogue.{Limits};
+ghost use Rattle.model.specs.Report.{digits, row};
+ghost use Rattle.model.specs.Lent.{callsOf, Lists, lists, lent};
+ghost use Rattle.report.specs.Wrote.{Wrote};
+ghost use Rattle.loader.specs.Tables.{graph};
+ghost use Rattle.sale.specs.Sale.{Catalogued, Listed, CanSell};
+ghost use Rattle.sale.specs.Reported.{Reported};
+use crate::sell;
+use loader::Sizes;
+use report::answers::put_refusal;
+use report::closing::put_closing;
+
+// Writes the line of a refused file; says where it ends.
+pub fn refuse(output: &mut [u8], q: u8, line: usize) -> usize
+    requires { ⌜ (line ≤ 60001) × (length (row "NO" (digits q ∷ digits line ∷ [])) ≤ length (now output)) ⌝ }
+    ensures { λ r. ⌜ Wrote (now (output .entry)) (now (output .exit)) 0 (row "NO" (digits q ∷ digits line ∷ [])) r ⌝ }
+{
+    put_refusal(output, 0, q as u32, line as u32)
+}
+
+// Runs the file's calls and writes their answers and the closing report; says where the text ends.
+pub fn report_sale(
+    output: &mut [u8],
+    weights: &mut [u32],
+    blocks: &mut [u16],
+    aboves: &mut [u16],
+    presentpins: &mut [u16],
+    presentsizes: &mut [u16],
+    counts: &mut [u16],
+    gains: &mut [i32],
+    visited: &mut [u16],
+    firsts: &[u16],
+    loadedsizes: &[u16],
+    netweights: &[u16],
+    calls: &[u32],
+    z: Sizes,
+) -> usize
+    requires { ⌜ CanSell (λ loadedpins. lists (now weights) (now blocks) (now aboves) loadedpins (now presentpins) (now firsts) (now loadedsizes) (now presentsizes)) z (now netweights) (now counts) (now gains) (now visited) (now calls) (z .calls) (now output) ⌝ }
+    ensures { λ r. ⌜ ((limits : Limits) (file loadedpins : List ℕ) (old : Lists) → Catalogued limits file z old (lists (now (weights .entry)) (now (blocks .entry)) (now (aboves .entry)) loadedpins (now (presentpins .entry)) (now (firsts .entry)) (now (loadedsizes .entry)) (now (presentsizes .entry))) (now (netweights .entry)) (now (counts .entry)) (now (gains .entry)) (now (visited .entry)) → Listed (now (calls .entry)) (z .calls) (now (output .entry))
+        → Reported (graph z (lists (now (weights .entry)) (now (blocks .entry)) (now (aboves .entry)) loadedpins (now (presentpins .entry)) (now (firsts .entry)) (now (loadedsizes .entry)) (now (presentsizes .entry))) (now (netweights .entry))) (callsOf (z .calls) (now (calls .entry))) (lent old (now (counts .entry)) (now (gains .entry)) (now (visited .entry))) (lent (lists (now (weights .exit)) (now (blocks .exit)) (now (aboves .exit)) loadedpins (now (presentpins .exit)) (now (firsts .exit)) (now (loadedsizes .exit)) (now (presentsizes .exit))) (now (counts .exit)) (now (gains .exit)) (now (visited .exit))) (now (output .entry)) (now (output .exit)) r) ⌝ }
+{
+    let n = z.vertices as usize;
+    let m = z.nets as usize;
+    let count = z.calls;
+    let s = sell(
+        output,
+        weights,
+        blocks,
+        aboves,
+        presentpins,
+        presentsizes,
+        counts,
+        gains,
+        visited,
+        firsts,
+        loadedsizes,
+        netweights,
+        calls,
+        count,
+        z,
+    );
+    let stack = s.stack;
+    let gone = stack.gone;
+    let depth = stack.len;
+    put_closing(
+        output,
+        s.at,
+        blocks,
+        aboves,
+        visited,
+        &gone,
+        n,
+        m,
+        depth,
+        s.draft,
+        s.total,
+    )
+}

@@ -1,0 +1,97 @@
+-- `call_walk`: the refusal, or a walk, whose numbers are small.
+use native.Mathlib.Omega.{arith}
+use mathlib.Core.Path.{sym, _∙_}
+use denote.Ref.{now}
+use borrow.Author.Needs.{needs}
+use Rattle.edit_calls.specs.Called.{roomy}
+use Rattle.search_calls.specs.Searching.{both-of, walk-asks, walk-few, refused-W, accepted-W}
+use Rattle.search_calls.proofs.searching.call_walk.Statement.{statement}
+use Rattle.search_calls.proofs.searching.call_walk.Tie as tie
+
+refuses-walk-requires : tie.Need-refuses-walk-requires
+refuses-walk-requires c κs =
+    let start = c .before .before .before .before .before .before .before .before .before .before in
+    roomy (start .pre .ready) .blocks-fit
+
+same-length : tie.Need-same-length
+same-length c = search needs
+
+returns : tie.Need-returns
+returns c = λ aboves loaded S h q. refused-W _ _ _ _ _ _ _ (c .before .refuses-walk .ensures) (c .if1 .taken)
+
+clear-requires : tie.Need-clear-requires
+clear-requires c κs = search needs
+
+sub-walk : tie.Need-sub-walk
+sub-walk c = omega (arith, (both-of (now (c .before .before .before .before .before .before .before .before .before .before .before .before .before .before .before .before .before .before .args .blocks)) (c .before .before .before .before .before .before .before .before .before .before .before .before .before .before .before .before .before .before .args .n) (c .before .before .before .before .before .before .before .before .before .before .before .before .before .before .before .before .before .before .args .u) (c .before .before .before .before .before .before .before .before .before .before .before .before .before .before .before .before .before .before .args .v) (sym (c .before .before .before .before .before .before .before .refuses-walk .ensures) ∙ c .before .before .before .before .before .before .if1 .left)) .u-from)
+
+sub-walk-2 : tie.Need-sub-walk-2
+sub-walk-2 c = omega (arith, (both-of (now (c .before .before .before .before .before .before .before .before .before .before .before .before .before .before .before .before .before .before .args .blocks)) (c .before .before .before .before .before .before .before .before .before .before .before .before .before .before .before .before .before .before .args .n) (c .before .before .before .before .before .before .before .before .before .before .before .before .before .before .before .before .before .before .args .u) (c .before .before .before .before .before .before .before .before .before .before .before .before .before .before .before .before .before .before .args .v) (sym (c .before .before .before .before .before .before .before .refuses-walk .ensures) ∙ c .before .before .before .before .before .before .if1 .left)) .v-from)
+
+walk-requires : tie.Need-walk-requires
+walk-requires c κs =
+    let at-if1 = c .before .before .before .before .before .before in
+    let at-refuses-walk = at-if1 .before in
+    let start = at-refuses-walk .before .before .before .before .before .before .before .before .before .before .before in
+    walk-asks (start .args .u) (start .args .v) (start .pre) (sym (at-refuses-walk .refuses-walk .ensures) ∙ at-if1 .if1 .left)
+
+short-requires : tie.Need-short-requires
+short-requires c κs =
+    let at-walk = c .before .before .before .before .before .before .before in
+    let start = at-walk .before .before .before .before .before .before .before .before .before .before .before .before .before .before .before .before .before .before .before in
+    walk-few (start .pre) (at-walk .walk .ensures) .0
+
+wide-requires : tie.Need-wide-requires
+wide-requires c κs = search needs
+
+short-requires-2 : tie.Need-short-requires-2
+short-requires-2 c κs =
+    let at-walk = c .before .before .before .before .before .before .before .before .before in
+    let start = at-walk .before .before .before .before .before .before .before .before .before .before .before .before .before .before .before .before .before .before .before in
+    walk-few (start .pre) (at-walk .walk .ensures) .1
+
+wide-requires-2 : tie.Need-wide-requires-2
+wide-requires-2 c κs = search needs
+
+same-length-2 : tie.Need-same-length-2
+same-length-2 c = search needs
+
+same-length-3 : tie.Need-same-length-3
+same-length-3 c = search needs
+
+same-length-4 : tie.Need-same-length-4
+same-length-4 c = search needs
+
+same-length-5 : tie.Need-same-length-5
+same-length-5 c = search needs
+
+returns-2 : tie.Need-returns-2
+returns-2 c =
+    let at-short = c .before .before .before in
+    let at-walk = at-short .before .before .before .before .before .before .before .before in
+    let at-clear = at-walk .before .before .before .before .before .before in
+    let at-if1 = at-clear .before in
+    let at-refuses-walk = at-if1 .before in
+    let start = at-refuses-walk .before .before .before .before .before .before .before .before .before .before .before in
+    λ aboves loaded S h q. accepted-W h _ _ _ _ _ _ (start .args .u) (start .args .v) q (sym (at-refuses-walk .refuses-walk .ensures) ∙ at-if1 .if1 .left) (at-walk .walk .ensures aboves loaded) (record { xs-same = at-clear .clear .ensures .0; ys-same = at-clear .clear .ensures .1; len-is = at-clear .clear .ensures .2 }) _ _ (c .before .before .wide .ensures ∙ at-short .short .ensures) (c .wide2 .ensures ∙ c .before .short2 .ensures)
+
+pub call-walk-spec : {M : Type 1} → statement M
+call-walk-spec =
+    tie.close
+    (tie.spec
+    refuses-walk-requires
+    same-length
+    returns
+    clear-requires
+    sub-walk
+    sub-walk-2
+    walk-requires
+    short-requires
+    wide-requires
+    short-requires-2
+    wide-requires-2
+    same-length-2
+    same-length-3
+    same-length-4
+    same-length-5
+    returns-2)

@@ -1,0 +1,93 @@
+// The candidates of a search as three rows of bits: row 0 has the vertices that may be chosen, row 1 those that have moved in this search,
+// row 2 the nets whose pins have been marked in it. Such pins stay candidates until they move, so that a net is marked only once: with
+// large nets most of a walk's time would go into marking. Vertices and nets count from 0.
+use crate::numbers::index;
+use incidence::is_pin;
+use incidence::next_net;
+use incidence::put;
+use incidence::take;
+ghost use mathlib.Core.Path.{_≡_};
+ghost use Prim.Native.Nat.{_+_, _-_, _<_};
+ghost use lib.Dec.{eqb};
+ghost use lib.ListN.{length, getD};
+ghost use Rattle.connectivity.specs.Listed.{has};
+ghost use Rattle.search_moves.specs.Marks.{Marked, SameNets, PinsOk, Covered, near, NetsOk, Spread};
+
+// Makes `x` a candidate, unless it has moved.
+pub fn mark_vertex(marks: &mut [u64; 48], x: usize)
+    requires { ⌜ (length (now marks) ≡ 48) × (x < 1024) ⌝ }
+    ensures { λ _. ⌜ Marked (now (marks .entry)) (now (marks .exit)) (λ y. eqb y x) × SameNets (now (marks .entry)) (now (marks .exit)) ⌝ }
+{
+    if is_pin(marks, 1, x) {
+        return;
+    }
+    put(marks, 0, x);
+}
+
+// Makes the pins of one net candidates.
+fn mark_pins(marks: &mut [u64; 48], presentpins: &[u16], first: usize, size: usize)
+    requires { ⌜ (length (now marks) ≡ 48) × PinsOk (now presentpins) first size ⌝ }
+    ensures { λ _. ⌜ Marked (now (marks .entry)) (now (marks .exit)) (has (now (presentpins .entry)) first size) × SameNets (now (marks .entry)) (now (marks .exit)) ⌝ }
+{
+    let mut j: usize = 0;
+    while j < size {
+        mark_vertex(marks, index(presentpins[first + j]) - 1);
+        j += 1;
+    }
+}
+
+// Makes the pins of net `e` candidates, unless that has been done before in this search.
+fn mark_net(
+    marks: &mut [u64; 48],
+    presentpins: &[u16],
+    firsts: &[u16],
+    presentsizes: &[u16],
+    e: usize,
+)
+    requires { ⌜ (length (now marks) ≡ 48) × (e < 1024) × (e < length (now firsts)) × (e < length (now presentsizes)) × PinsOk (now presentpins) (getD (now firsts) e 0) (getD (now presentsizes) e 0) × Covered (now marks) (now presentpins) (now firsts) (now presentsizes) ⌝ }
+    ensures { λ _. ⌜ Marked (now (marks .entry)) (now (marks .exit)) (has (now (presentpins .entry)) (getD (now (firsts .entry)) e 0) (getD (now (presentsizes .entry)) e 0)) × Covered (now (marks .exit)) (now (presentpins .entry)) (now (firsts .entry)) (now (presentsizes .entry)) ⌝ }
+{
+    if is_pin(marks, 2, e) {
+        return;
+    }
+    mark_pins(marks, presentpins, index(firsts[e]), index(presentsizes[e]));
+    put(marks, 2, e);
+}
+
+// Makes the pins of the nets of `u` candidates.
+fn mark_nets(
+    marks: &mut [u64; 48],
+    bits: &[u64],
+    presentpins: &[u16],
+    firsts: &[u16],
+    presentsizes: &[u16],
+    m: usize,
+    u: usize,
+)
+    requires { ⌜ (length (now marks) ≡ 48) × NetsOk (now bits) (now presentpins) (now firsts) (now presentsizes) m u × Covered (now marks) (now presentpins) (now firsts) (now presentsizes) ⌝ }
+    ensures { λ _. ⌜ Marked (now (marks .entry)) (now (marks .exit)) (near (now (bits .entry)) (now (presentpins .entry)) (now (firsts .entry)) (now (presentsizes .entry)) u m) × Covered (now (marks .exit)) (now (presentpins .entry)) (now (firsts .entry)) (now (presentsizes .entry)) ⌝ }
+{
+    let mut e = next_net(bits, u, 0, m);
+    while e < m {
+        mark_net(marks, presentpins, firsts, presentsizes, e);
+        e = next_net(bits, u, e + 1, m);
+    }
+}
+
+// After `u` has moved: it is no candidate any more, and those that share a net with it become candidates.
+pub fn spread(
+    marks: &mut [u64; 48],
+    bits: &[u64],
+    presentpins: &[u16],
+    firsts: &[u16],
+    presentsizes: &[u16],
+    m: usize,
+    u: usize,
+)
+    requires { ⌜ (length (now marks) ≡ 48) × (u < 1024) × NetsOk (now bits) (now presentpins) (now firsts) (now presentsizes) m u × Covered (now marks) (now presentpins) (now firsts) (now presentsizes) ⌝ }
+    ensures { λ _. ⌜ Spread (now (marks .entry)) (now (marks .exit)) u (near (now (bits .entry)) (now (presentpins .entry)) (now (firsts .entry)) (now (presentsizes .entry)) u m) × Covered (now (marks .exit)) (now (presentpins .entry)) (now (firsts .entry)) (now (presentsizes .entry)) ⌝ }
+{
+    take(marks, 0, u);
+    put(marks, 1, u);
+    mark_nets(marks, bits, presentpins, firsts, presentsizes, m, u);
+}

@@ -1,0 +1,130 @@
+use native.Mathlib.Omega.{arith}
+use mathlib.Core.Path.{_≡_, refl, _∙_}
+use Prim.Native.Nat.{ℕ, _≤_, _-_}
+use mathlib.Core.List.{List}
+use lib.IntN.{ℤ, pos}
+use lib.ListN.{length, length-replicate}
+use Rattle.best_move.specs.Peak.{Peaked}
+use Rattle.search_moves.specs.Lent.{lent}
+use Rattle.walk.specs.Steps.{locals, Going}
+use Rattle.walk.specs.Whole.{going-none, turn-asks, going-more, end-asks, walks-all}
+use Rattle.walk.proofs.walks.walk.Statement.{statement}
+use Rattle.walk.proofs.walks.walk.Tie as tie
+
+abbrev Inv-loop : tie.InvT-loop
+Inv-loop counts₀ visited₀ gains₀ blocks₀ loads₀ pins sizes bits weights netweights firsts n m k capacity total u v marks₀ peaks₀ movers₀ origins₀ s₀ counts visited gains blocks loads marks peaks movers origins s =
+    (s .turn ≤ n) × (s .tried ≤ s .turn)
+    × ((aboves loaded : List ℕ) → Going (lent counts₀ visited₀ gains₀ blocks₀ loads₀ pins sizes bits weights netweights firsts n m k total aboves loaded) capacity u v (s .turn) (lent counts visited gains blocks loads pins sizes bits weights netweights firsts n m k (s .total) aboves loaded) (locals marks movers origins (s .tried) (s .kept) (s .low)))
+    × Peaked gains peaks n k
+    × (length counts ≡ length counts₀) × (length visited ≡ length visited₀) × (length gains ≡ length gains₀) × (length blocks ≡ length blocks₀)
+
+abbrev μ-loop : tie.MeasureT-loop
+μ-loop counts₀ visited₀ gains₀ blocks₀ loads₀ pins sizes bits weights netweights firsts n m k capacity total u v marks₀ peaks₀ movers₀ origins₀ s₀ counts visited gains blocks loads marks peaks movers origins s = n - s .turn
+
+mark-vertex-requires : tie.Need-mark-vertex-requires Inv-loop μ-loop
+mark-vertex-requires c κs =
+    let ok = c .before .before .before .before .before .before .before .before .before .before .pre in
+    (length-replicate {A = ℕ} 48 0, omega (arith, ok .u-in, ok .sound .follows .room .few-vertices))
+
+mark-vertex-requires-2 : tie.Need-mark-vertex-requires-2 Inv-loop μ-loop
+mark-vertex-requires-2 c κs =
+    let ok = c .before .before .before .before .before .before .before .before .before .before .before .before .pre in
+    (c .before .mark-vertex .ensures .0 .len ∙ length-replicate {A = ℕ} 48 0, omega (arith, ok .v-in, ok .sound .follows .room .few-vertices))
+
+survey-requires : tie.Need-survey-requires Inv-loop μ-loop
+survey-requires c κs =
+    let start = c .before .before .before .before .before .before .before .before .before .before .before .before .before .before .before in
+    let frame = start .pre .sound .follows .world .frame in
+    (length-replicate {A = ℤ} 16 (pos 0), frame .few-vertices, frame .few, frame .gains-fit)
+
+loop-holds : tie.Need-loop-holds Inv-loop μ-loop
+loop-holds c =
+    let a = c .before .before .before .before .before .before .before .before .before .before .before .before .before .before .before .before .args in
+    let ok = c .before .before .before .before .before .before .before .before .before .before .before .before .before .before .before .before .pre in
+    let one = c .before .before .before .before .before .mark-vertex .ensures in
+    let two = c .before .before .before .mark-vertex2 .ensures in
+    let fit = length-replicate {A = ℕ} 1024 0 in (
+      omega arith,
+      omega arith,
+      λ aboves loaded. going-none (a .u) (a .v) (one .0) (two .0) (one .1) (two .1) _ _ (ok .u-in) (ok .u-on) (ok .v-in) (ok .v-on) fit fit refl,
+      c .survey .ensures,
+      refl,
+      refl,
+      refl,
+      refl,
+    )
+
+advance-requires : tie.Need-advance-requires Inv-loop μ-loop
+advance-requires c κs =
+    let at-if1 = c .before .before .before .before .before .before .before .before .before in
+    let at-loop = at-if1 .before .before in
+    let start = at-loop .before .before .before .before .before .before .before .before .before .before .before .before .before .before .before .before .before in
+    let l = at-loop .loop in
+    (turn-asks (start .pre) (l .inv .2) (at-if1 .if1 .taken) (l .inv .1), l .inv .3)
+
+loop-less : tie.Need-loop-less Inv-loop μ-loop
+loop-less c =
+    let ok = c .before .before .before .before .before .before .before .before .before .before .before .before .before .before .before .before .before .before .before .before .before .before .before .before .before .before .before .before .before .before .before .before .before .before .before .before .pre in
+    omega (arith, c .before .before .before .before .before .before .before .advance .ensures .0 (ok .aboves) (ok .loaded) .on, c .before .before .before .before .before .before .before .before .before .before .before .before .before .before .before .before .before .if1)
+
+loop-again : tie.Need-loop-again Inv-loop μ-loop
+loop-again c =
+    let ok = c .before .before .before .before .before .before .before .before .before .before .before .before .before .before .before .before .before .before .before .before .before .before .before .before .before .before .before .before .before .before .before .before .before .before .before .before .pre in
+    let l = c .before .before .before .before .before .before .before .before .before .before .before .before .before .before .before .before .before .before .before .loop in
+    let turned = c .before .before .before .before .before .before .before .advance .ensures in
+    let lengths = c .before .before .before .before .before .before .before .advance .kept in
+    let e = turned .0 (ok .aboves) (ok .loaded) in (
+      e .to,
+      e .tried-to,
+      λ aboves loaded. going-more refl refl refl refl refl (l .inv .2 aboves loaded) (turned .0 aboves loaded),
+      turned .1,
+      omega (arith, l .inv, lengths),
+      omega (arith, l .inv, lengths),
+      omega (arith, l .inv, lengths),
+      omega (arith, l .inv, lengths),
+    )
+
+rewind-requires : tie.Need-rewind-requires Inv-loop μ-loop
+rewind-requires c κs =
+    let at-loop = c .before .before .before .before .before .before .before .before .before in
+    let start = at-loop .before .before .before .before .before .before .before .before .before .before .before .before .before .before .before .before .before in
+    let l = at-loop .loop in end-asks (start .pre) (l .inv .2) (l .inv .0) (l .inv .1)
+
+same-length : tie.Need-same-length Inv-loop μ-loop
+same-length c = omega (arith, c .before .before .before .before .before .before .before .before .before .before .before .before .before .before .before .before .before .loop .inv, c .before .before .before .before .before .before .before .rewind .kept)
+
+same-length-2 : tie.Need-same-length-2 Inv-loop μ-loop
+same-length-2 c = omega (arith, c .before .before .before .before .before .before .before .before .before .before .before .before .before .before .before .before .before .loop .inv, c .before .before .before .before .before .before .before .rewind .kept)
+
+same-length-3 : tie.Need-same-length-3 Inv-loop μ-loop
+same-length-3 c = omega (arith, c .before .before .before .before .before .before .before .before .before .before .before .before .before .before .before .before .before .loop .inv, c .before .before .before .before .before .before .before .rewind .kept)
+
+same-length-4 : tie.Need-same-length-4 Inv-loop μ-loop
+same-length-4 c = omega (arith, c .before .before .before .before .before .before .before .before .before .before .before .before .before .before .before .before .before .loop .inv, c .before .before .before .before .before .before .before .rewind .kept)
+
+returns : tie.Need-returns Inv-loop μ-loop
+returns c =
+    let at-rewind = c .before .before .before .before .before .before .before in
+    let at-if1 = at-rewind .before .before .before .before .before .before .before .before in
+    let at-loop = at-if1 .before .before in
+    λ aboves loaded. walks-all refl refl refl refl refl (at-loop .loop .inv .2 aboves loaded) (at-if1 .if1 .left) (at-rewind .rewind .ensures aboves loaded)
+
+pub walk-spec : {M : Type 1} → statement M
+walk-spec =
+    tie.close
+    (tie.spec
+    Inv-loop
+    μ-loop
+    mark-vertex-requires
+    mark-vertex-requires-2
+    survey-requires
+    loop-holds
+    advance-requires
+    loop-less
+    loop-again
+    rewind-requires
+    same-length
+    same-length-2
+    same-length-3
+    same-length-4
+    returns)

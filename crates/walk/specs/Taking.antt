@@ -1,0 +1,143 @@
+-- One move of a walk: the tables moved, the candidates spread, the journal pushed and the kept prefix updated are model's walkMove.
+-- Rests on Steps. Assumes nothing.
+use Prim.Native.Nat.{ℕ, suc, _+_, _-_, _<_, _≤_}
+use native.Mathlib.Decide.{ℕ-discrete}
+use native.Mathlib.Omega.{arith}
+use mathlib.Core.Path.{_≡_, refl, sym, ap, ap₂, _∙_, subst}
+use mathlib.Core.Bool.{Bool, true, false, not, _&&_, _||_, cond, and-true, and-false, true≢false}
+use mathlib.Core.List.{List, _∷_}
+use borrow.Author.Tests.{eq-eqb, ne-eqb, lt-ltb, le-ltb}
+use lib.Dec.{eqb, ltb}
+use lib.ListN.{length, getD, length-set}
+use Rattle.laws.specs.Fold.{any}
+use Rattle.laws.specs.Place.{place}
+use Rattle.model.specs.Catalogue.{Hypergraph}
+use Rattle.model.specs.Measure.{Contraction, above, onBoard, metric, adjacent}
+use Rattle.model.specs.Machine.{Move}
+use Rattle.model.specs.Search.{Walk, walkMove}
+use Rattle.model.specs.Lent.{journalOf}
+use Rattle.guarantees.specs.Walks.{moved}
+use Rattle.operations.specs.Pairs.{Pushed, pairs-push}
+use Rattle.operations.specs.Tables.{Tables, Sound}
+use Rattle.operations.specs.Move.{Open, CanGo, Went, on-board, own-block, in-range}
+use Rattle.search_moves.specs.Marks.{candidateBit, movedBit, Covered, near, NetsOk, Spread}
+use Rattle.search_moves.specs.Tabled.{near-is, near-on, nets-ok}
+use Rattle.walk.specs.Back.{backs-more}
+use Rattle.walk.specs.Steps.{Locals, locals, At, TakeOk}
+
+-- the prefix to keep: the new one, or the one before
+pub lower-new : (now low x y : ℕ) → now < low → x ≡ cond (ltb now low) x y
+lower-new now low x y l = ap (λ (t : Bool). cond t x y) (sym (lt-ltb now low l))
+
+pub lower-old : (now low x y : ℕ) → low ≤ now → y ≡ cond (ltb now low) x y
+lower-old now low x y l = ap (λ (t : Bool). cond t x y) (sym (le-ltb now low l))
+
+-- a candidate after a move, in truth values: it was one or shares a net with the moved vertex, has not moved, and is on the board
+spread-bool : (cand mv bd adj eq : Bool) → (adj ≡ true → bd ≡ true)
+    → (((cand && not mv && bd) && not eq) || (adj && not (eq || mv))) ≡ ((cand || adj) && not (eq || mv) && bd)
+spread-bool cand mv bd adj true f =
+    ap₂ (λ (a b : Bool). a || b) (and-false (cand && not mv && bd)) (and-false adj) ∙ sym (ap (λ (t : Bool). t && bd) (and-false (cand || adj)))
+spread-bool cand true bd adj false f =
+    ap₂ (λ (a b : Bool). a || b) (and-true (cand && false && bd) ∙ ap (λ (t : Bool). t && bd) (and-false cand)) (and-false adj) ∙ sym (ap (λ (t : Bool). t && bd) (and-false (cand || adj)))
+spread-bool true false true adj false f = refl
+spread-bool true false false true false f = absurd (true≢false (sym (f refl)))
+spread-bool true false false false false f = refl
+spread-bool false false true true false f = refl
+spread-bool false false false true false f = absurd (true≢false (sym (f refl)))
+spread-bool false false bd false false f = refl
+
+eqb-next : (x y v : ℕ) → x + 1 ≡ v → eqb x y ≡ eqb v (y + 1)
+eqb-next x y v e = go (ℕ-discrete x y)
+  where
+    go : Dec (x ≡ y) → eqb x y ≡ eqb v (y + 1)
+    go (yes q) = eq-eqb x y q ∙ sym (eq-eqb v (y + 1) (omega arith))
+    go (no q) = ne-eqb x y q ∙ sym (ne-eqb v (y + 1) (λ r. q (omega arith)))
+
+-- ---- what the calls of `take` ask, where x is v counted from 0
+module _ {T : List ℕ → List ℕ → Tables} {L : Locals} {turn v b : ℕ} (o : TakeOk T L turn v b) (x : ℕ) (e : x ≡ v - 1) where
+  pub take-open : Open (T (o .aboves) (o .loaded) .blocks) (T (o .aboves) (o .loaded) .n) (T (o .aboves) (o .loaded) .k) x b
+  take-open = rw e (o .open-pair)
+
+  pub take-goes : CanGo T x b
+  take-goes = record { aboves = o .aboves; loaded = o .loaded; goes = record { h = o .h; cs = o .cs; block = o .walk .block; sound = o .at .sound; open-pair = take-open } }
+
+  pub take-nets : NetsOk (T (o .aboves) (o .loaded) .bits) (T (o .aboves) (o .loaded) .pins) (T (o .aboves) (o .loaded) .firsts) (T (o .aboves) (o .loaded) .sizes) (T (o .aboves) (o .loaded) .m) x
+  take-nets = nets-ok (o .at .sound) x (take-open .u-in)
+
+-- ---- the move
+module _ {h : Hypergraph} {cs : List Contraction} {w : Walk} {T T′ : Tables} {marks vs bs marks′ vs′ bs′ : List ℕ} {tried kept low tried′ kept′ low′ v b : ℕ} (x : ℕ)
+    (A : At h cs w T (locals marks vs bs tried kept low))
+    (o : Open (T .blocks) (T .n) (T .k) x b)
+    (e : x + 1 ≡ v)
+    (few : tried < 1024)
+    (qn : T′ .n ≡ T .n)
+    (g : Went T T′ x b)
+    (sp : Spread marks marks′ x (near (T .bits) (T .pins) (T .firsts) (T .sizes) x (T .m)))
+    (cov : Covered marks′ (T′ .pins) (T′ .firsts) (T′ .sizes))
+    (p : Pushed vs bs tried v (getD (T .blocks) x 0) vs′ bs′ tried′)
+    (ek : kept′ ≡ cond (ltb (T′ .total) low) tried′ kept)
+    (el : low′ ≡ cond (ltb (T′ .total) low) (T′ .total) low) where
+  on : above cs v ≡ 0
+  on = ap (above cs) (sym e) ∙ on-board (A .sound) x (o .u-in) (o .on)
+
+  on-x : above cs (x + 1) ≡ 0
+  on-x = on-board (A .sound) x (o .u-in) (o .on)
+
+  own : getD (T .blocks) x 0 ≡ w .block v
+  own = own-block (A .sound) x (o .u-in) ∙ ap (w .block) e
+
+  sound : Sound h cs (place (w .block) v b) T′
+  sound = subst (λ (y : ℕ). Sound h cs (place (w .block) y b) T′) e (g .sound h cs (w .block) (A .sound))
+
+  small : T .n ≤ 1024
+  small = A .sound .follows .room .few-vertices
+
+  spent : (y : ℕ) → y < T .n → movedBit marks′ y ≡ (eqb v (y + 1) || moved h cs w (y + 1))
+  spent y l = sp .moved y (omega (arith, small)) ∙ ap₂ (λ (s t : Bool). s || t) (eqb-next x y v e) (A .spent y l)
+
+  beside : (y : ℕ) → near (T .bits) (T .pins) (T .firsts) (T .sizes) x (T .m) y ≡ adjacent h cs v (y + 1)
+  beside y = near-is (A .sound) x y (o .u-in) on-x ∙ ap (λ (z : ℕ). adjacent h cs z (y + 1)) e
+
+  chosen : (y : ℕ) → y < T .n → candidateBit marks′ y ≡ ((w .candidate (y + 1) || adjacent h cs v (y + 1)) && not (eqb v (y + 1) || moved h cs w (y + 1)) && onBoard cs (y + 1))
+  chosen y l =
+      sp .marks y (omega (arith, small))
+      ∙ ap₂ (λ (s t : Bool). s || t)
+      (ap₂ (λ (s t : Bool). s && not t) (A .chosen y l) (eqb-next x y v e))
+      (ap₂ (λ (s t : Bool). s && not t) (beside y) (ap₂ (λ (s t : Bool). s || t) (eqb-next x y v e) (A .spent y l)))
+      ∙ spread-bool (w .candidate (y + 1)) (moved h cs w (y + 1)) (onBoard cs (y + 1)) (adjacent h cs v (y + 1)) (eqb v (y + 1)) (λ q. eq-eqb (above cs (y + 1)) 0 (near-on (A .sound) v (y + 1) q))
+
+  journaled : record { vertex = v; from = w .block v } ∷ w .journal ≡ journalOf vs′ bs′ tried′
+  journaled =
+      ap₂ (λ (z : ℕ) (ms : List Move). record { vertex = v; from = z } ∷ ms) (sym own) (A .journal-is)
+      ∙ sym (pairs-push (λ v b. record { vertex = v; from = b }) (omega (arith, A .vertices-fit)) (omega (arith, A .blocks-fit)) p)
+
+  tries : tried′ ≡ suc (w .tried)
+  tries = omega (arith, p .len-is, A .tried-is)
+
+  lower : {a a′ c c′ d d′ f f′ : ℕ} → a ≡ a′ → c ≡ c′ → d ≡ d′ → f ≡ f′ → cond (ltb a c) d f ≡ cond (ltb a′ c′) d′ f′
+  lower q r s t = rw (q, r, s, t)
+
+  least : (t : Bool) → kept ≤ tried → cond t tried′ kept ≤ tried′
+  least true l = omega arith
+  least false l = omega (arith, p .len-is)
+
+  pub take-law : At h cs (walkMove h cs w v b (metric h cs (place (w .block) v b))) T′ (locals marks′ vs′ bs′ tried′ kept′ low′)
+  unfolding walkMove any
+  take-law = record {
+    sound = sound;
+    chosen = λ y l. chosen y (omega arith);
+    spent = λ y l. spent y (omega arith);
+    covered = cov;
+    journal-is = journaled;
+    tried-is = tries;
+    kept-is = ek ∙ lower (sound .total-is) (A .low-is) tries (A .kept-is);
+    low-is = el ∙ lower (sound .total-is) (A .low-is) (sound .total-is) (A .low-is);
+    kept-to = omega (arith, ek, least (ltb (T′ .total) low) (A .kept-to));
+    backs = backs-more h cs (w .block) (w .journal) v b (omega (arith, o .u-in, A .sound .follows .says .all-vertices)) on
+        (let r = in-range (A .sound) x (o .u-in) on-x in
+        subst (λ (z : ℕ). (1 ≤ w .block z) × (w .block z ≤ h .blocks)) e (r .0, omega (arith, r .1, A .sound .follows .says .all-blocks)))
+        (λ q. o .away (own ∙ q)) (A .backs);
+    marks-fit = sp .len ∙ A .marks-fit;
+    vertices-fit = ap length (p .xs-are) ∙ length-set vs tried v ∙ A .vertices-fit;
+    blocks-fit = ap length (p .ys-are) ∙ length-set bs tried (getD (T .blocks) x 0) ∙ A .blocks-fit;
+  }

@@ -1,0 +1,370 @@
+// W, a walk from two vertices (localized FM search): the best open pair is moved, also where its gain is negative, until none is open or 25
+// moves have been made since the first prefix of lowest metric; then the moves after that prefix are reversed.
+use best_move::open::Pick;
+use best_move::open::best_open;
+use best_move::peaks::survey;
+use operations::moves::back;
+use search_moves::marks::mark_vertex;
+use search_moves::marks::spread;
+use search_moves::numbers::index;
+use search_moves::peaks::shift;
+ghost use mathlib.Core.Path.{_≡_};
+ghost use mathlib.Core.Bool.{cond};
+ghost use mathlib.Core.List.{List};
+ghost use Prim.Native.Nat.{ℕ, _+_, _-_, _<_, _≤_};
+ghost use lib.Dec.{ltb};
+ghost use lib.ListN.{length};
+ghost use Rattle.best_move.specs.Open.{SearchOk, Chosen, gainIn};
+ghost use Rattle.best_move.specs.Peak.{Peaked};
+ghost use Rattle.walk.specs.Back.{RewindOk, Rewinds};
+ghost use Rattle.search_moves.specs.Lent.{lent};
+ghost use Rattle.walk.specs.Steps.{locals, nextOf, TakeOk, Took, TurnOk, Turned, WalkOk, Walks};
+
+// What W answers: how many moves were made, the length of the kept prefix, and the metric after it.
+pub struct Walked {
+    pub tried: usize,
+    pub kept: usize,
+    pub total: u32,
+}
+
+// A walk on its way. `tried` counts the moves made; `turn` does too, and is the number of vertices once the walk has ended.
+struct Steps {
+    turn: usize,
+    tried: usize,
+    kept: usize,
+    low: u32,
+    total: u32,
+}
+
+// The prefix that is kept: its length and its metric.
+struct Prefix {
+    kept: usize,
+    low: u32,
+}
+
+// The prefix to keep after one more move: a later one is kept if its metric is lower.
+fn lower(tried: usize, kept: usize, low: u32, total: u32) -> Prefix
+    ensures { λ r. ⌜ (r .kept ≡ cond (ltb total low) tried kept) × (r .low ≡ cond (ltb total low) total low) ⌝ }
+{
+    if total < low {
+        return Prefix {
+            kept: tried,
+            low: total,
+        };
+    }
+    Prefix {
+        kept: kept,
+        low: low,
+    }
+}
+
+// The next move: none once 25 have been made since the kept prefix.
+fn next_move(
+    gains: &[i32],
+    blocks: &[u16],
+    weights: &[u32],
+    loads: &[u64; 16],
+    marks: &[u64; 48],
+    peaks: &[i32; 16],
+    n: usize,
+    k: usize,
+    capacity: u64,
+    tried: usize,
+    kept: usize,
+) -> Pick
+    requires { ⌜ (kept ≤ tried) × (tried ≤ 1024) × SearchOk (length (now gains)) (length (now blocks)) (length (now weights)) (length (now marks)) n k ⌝ }
+    requires { ⌜ Peaked (now gains) (now peaks) n k ⌝ }
+    ensures { λ r. ⌜ Chosen (gainIn (now (gains .entry))) n k r (nextOf (now (gains .entry)) (now (blocks .entry)) (now (weights .entry)) (now (loads .entry)) (now (marks .entry)) n k capacity tried kept) ⌝ }
+{
+    if kept + 25 <= tried {
+        return Pick::Nothing;
+    }
+    best_open(gains, blocks, weights, loads, marks, peaks, n, k, capacity)
+}
+
+// One more move, put on the journal: `movers[i]` left the block `origins[i]`. The journal is lent, since to copy it with each move takes time.
+fn make_move(
+    counts: &mut [u16],
+    visited: &mut [u16],
+    gains: &mut [i32],
+    blocks: &mut [u16],
+    loads: &mut [u64; 16],
+    marks: &mut [u64; 48],
+    peaks: &mut [i32; 16],
+    movers: &mut [u16; 1024],
+    origins: &mut [u16; 1024],
+    presentpins: &[u16],
+    presentsizes: &[u16],
+    bits: &[u64],
+    weights: &[u32],
+    netweights: &[u16],
+    firsts: &[u16],
+    n: usize,
+    m: usize,
+    k: usize,
+    v: u16,
+    b: u16,
+    s: Steps,
+) -> Steps
+    requires { ⌜ TakeOk (lent (now counts) (now visited) (now gains) (now blocks) (now loads) (now presentpins) (now presentsizes) (now bits) (now weights) (now netweights) (now firsts) n m k (s .total)) (locals (now marks) (now movers) (now origins) (s .tried) (s .kept) (s .low)) (s .turn) v b ⌝ }
+    requires { ⌜ Peaked (now gains) (now peaks) n k ⌝ }
+    ensures { λ r. ⌜ ((aboves loadedsizes : List ℕ) → Took (lent (now (counts .entry)) (now (visited .entry)) (now (gains .entry)) (now (blocks .entry)) (now (loads .entry)) (now (presentpins .entry)) (now (presentsizes .entry)) (now (bits .entry)) (now (weights .entry)) (now (netweights .entry)) (now (firsts .entry)) n m k (s .total) aboves loadedsizes) (locals (now (marks .entry)) (now (movers .entry)) (now (origins .entry)) (s .tried) (s .kept) (s .low)) (s .turn) v b
+        (lent (now (counts .exit)) (now (visited .exit)) (now (gains .exit)) (now (blocks .exit)) (now (loads .exit)) (now (presentpins .exit)) (now (presentsizes .exit)) (now (bits .exit)) (now (weights .exit)) (now (netweights .exit)) (now (firsts .exit)) n m k (r .total) aboves loadedsizes) (locals (now (marks .exit)) (now (movers .exit)) (now (origins .exit)) (r .tried) (r .kept) (r .low)) (r .turn)) ⌝ }
+    ensures { λ _. ⌜ Peaked (now (gains .exit)) (now (peaks .exit)) n k ⌝ }
+{
+    let x = index(v) - 1;
+    let at = s.tried;
+    let made = at + 1;
+    movers[at] = v;
+    origins[at] = blocks[x];
+    let total = shift(
+        counts,
+        visited,
+        gains,
+        blocks,
+        loads,
+        peaks,
+        presentpins,
+        presentsizes,
+        bits,
+        weights,
+        netweights,
+        firsts,
+        n,
+        m,
+        k,
+        s.total,
+        x,
+        b,
+    );
+    spread(marks, bits, presentpins, firsts, presentsizes, m, x);
+    let p = lower(made, s.kept, s.low, total);
+    Steps {
+        turn: s.turn + 1,
+        tried: made,
+        kept: p.kept,
+        low: p.low,
+        total: total,
+    }
+}
+
+// A turn of the walk: the next move, or the walk's end.
+fn advance(
+    counts: &mut [u16],
+    visited: &mut [u16],
+    gains: &mut [i32],
+    blocks: &mut [u16],
+    loads: &mut [u64; 16],
+    marks: &mut [u64; 48],
+    peaks: &mut [i32; 16],
+    movers: &mut [u16; 1024],
+    origins: &mut [u16; 1024],
+    presentpins: &[u16],
+    presentsizes: &[u16],
+    bits: &[u64],
+    weights: &[u32],
+    netweights: &[u16],
+    firsts: &[u16],
+    n: usize,
+    m: usize,
+    k: usize,
+    capacity: u64,
+    s: Steps,
+) -> Steps
+    requires { ⌜ TurnOk (lent (now counts) (now visited) (now gains) (now blocks) (now loads) (now presentpins) (now presentsizes) (now bits) (now weights) (now netweights) (now firsts) n m k (s .total)) (locals (now marks) (now movers) (now origins) (s .tried) (s .kept) (s .low)) capacity (s .turn) ⌝ }
+    requires { ⌜ Peaked (now gains) (now peaks) n k ⌝ }
+    ensures { λ r. ⌜ ((aboves loadedsizes : List ℕ) → Turned (lent (now (counts .entry)) (now (visited .entry)) (now (gains .entry)) (now (blocks .entry)) (now (loads .entry)) (now (presentpins .entry)) (now (presentsizes .entry)) (now (bits .entry)) (now (weights .entry)) (now (netweights .entry)) (now (firsts .entry)) n m k (s .total) aboves loadedsizes) (locals (now (marks .entry)) (now (movers .entry)) (now (origins .entry)) (s .tried) (s .kept) (s .low)) capacity (s .turn)
+        (lent (now (counts .exit)) (now (visited .exit)) (now (gains .exit)) (now (blocks .exit)) (now (loads .exit)) (now (presentpins .exit)) (now (presentsizes .exit)) (now (bits .exit)) (now (weights .exit)) (now (netweights .exit)) (now (firsts .exit)) n m k (r .total) aboves loadedsizes) (locals (now (marks .exit)) (now (movers .exit)) (now (origins .exit)) (r .tried) (r .kept) (r .low)) (r .turn)) ⌝ }
+    ensures { λ _. ⌜ Peaked (now (gains .exit)) (now (peaks .exit)) n k ⌝ }
+{
+    match next_move(
+        gains,
+        blocks,
+        weights,
+        loads,
+        marks,
+        peaks,
+        n,
+        k,
+        capacity,
+        s.tried,
+        s.kept,
+    ) {
+        Pick::Nothing => Steps {
+            turn: n,
+            tried: s.tried,
+            kept: s.kept,
+            low: s.low,
+            total: s.total,
+        },
+        Pick::Move { vertex, block } => make_move(
+            counts,
+            visited,
+            gains,
+            blocks,
+            loads,
+            marks,
+            peaks,
+            movers,
+            origins,
+            presentpins,
+            presentsizes,
+            bits,
+            weights,
+            netweights,
+            firsts,
+            n,
+            m,
+            k,
+            vertex,
+            block,
+            s,
+        ),
+    }
+}
+
+// Reverses the moves after the first `kept`, the last one first, and returns the metric.
+fn rewind(
+    counts: &mut [u16],
+    visited: &mut [u16],
+    gains: &mut [i32],
+    blocks: &mut [u16],
+    loads: &mut [u64; 16],
+    presentpins: &[u16],
+    presentsizes: &[u16],
+    bits: &[u64],
+    weights: &[u32],
+    netweights: &[u16],
+    firsts: &[u16],
+    movers: &[u16; 1024],
+    origins: &[u16; 1024],
+    n: usize,
+    m: usize,
+    k: usize,
+    total: u32,
+    tried: usize,
+    kept: usize,
+) -> u32
+    requires { ⌜ RewindOk (lent (now counts) (now visited) (now gains) (now blocks) (now loads) (now presentpins) (now presentsizes) (now bits) (now weights) (now netweights) (now firsts) n m k total) (now movers) (now origins) tried kept ⌝ }
+    ensures { λ r. ⌜ ((aboves loadedsizes : List ℕ) → Rewinds (lent (now (counts .entry)) (now (visited .entry)) (now (gains .entry)) (now (blocks .entry)) (now (loads .entry)) (now (presentpins .entry)) (now (presentsizes .entry)) (now (bits .entry)) (now (weights .entry)) (now (netweights .entry)) (now (firsts .entry)) n m k total aboves loadedsizes) (now (movers .entry)) (now (origins .entry)) tried kept
+        (lent (now (counts .exit)) (now (visited .exit)) (now (gains .exit)) (now (blocks .exit)) (now (loads .exit)) (now (presentpins .exit)) (now (presentsizes .exit)) (now (bits .exit)) (now (weights .exit)) (now (netweights .exit)) (now (firsts .exit)) n m k r aboves loadedsizes)) ⌝ }
+{
+    let mut t = total;
+    let mut j = tried;
+    while kept < j {
+        j -= 1;
+        let x = index(movers[j]) - 1;
+        t = back(
+            counts,
+            visited,
+            gains,
+            blocks,
+            loads,
+            presentpins,
+            presentsizes,
+            bits,
+            weights,
+            netweights,
+            firsts,
+            n,
+            m,
+            k,
+            t,
+            x,
+            origins[j],
+        );
+    }
+    t
+}
+
+// W,u,v. Vertices count from 0.
+pub fn walk(
+    counts: &mut [u16],
+    visited: &mut [u16],
+    gains: &mut [i32],
+    blocks: &mut [u16],
+    loads: &mut [u64; 16],
+    presentpins: &[u16],
+    presentsizes: &[u16],
+    bits: &[u64],
+    weights: &[u32],
+    netweights: &[u16],
+    firsts: &[u16],
+    n: usize,
+    m: usize,
+    k: usize,
+    capacity: u64,
+    total: u32,
+    u: usize,
+    v: usize,
+) -> Walked
+    requires { ⌜ WalkOk (lent (now counts) (now visited) (now gains) (now blocks) (now loads) (now presentpins) (now presentsizes) (now bits) (now weights) (now netweights) (now firsts) n m k total) capacity u v ⌝ }
+    ensures { λ r. ⌜ ((aboves loadedsizes : List ℕ) → Walks (lent (now (counts .entry)) (now (visited .entry)) (now (gains .entry)) (now (blocks .entry)) (now (loads .entry)) (now (presentpins .entry)) (now (presentsizes .entry)) (now (bits .entry)) (now (weights .entry)) (now (netweights .entry)) (now (firsts .entry)) n m k total aboves loadedsizes) capacity u v
+        (lent (now (counts .exit)) (now (visited .exit)) (now (gains .exit)) (now (blocks .exit)) (now (loads .exit)) (now (presentpins .exit)) (now (presentsizes .exit)) (now (bits .exit)) (now (weights .exit)) (now (netweights .exit)) (now (firsts .exit)) n m k (r .total) aboves loadedsizes) (r .tried) (r .kept)) ⌝ }
+{
+    let mut marks = [0u64; 48];
+    mark_vertex(&mut marks, u);
+    mark_vertex(&mut marks, v);
+    let mut peaks = [0i32; 16];
+    survey(&mut peaks, gains, n, k);
+    let mut movers = [0u16; 1024];
+    let mut origins = [0u16; 1024];
+    let mut s = Steps {
+        turn: 0,
+        tried: 0,
+        kept: 0,
+        low: total,
+        total: total,
+    };
+    while s.turn < n {
+        s = advance(
+            counts,
+            visited,
+            gains,
+            blocks,
+            loads,
+            &mut marks,
+            &mut peaks,
+            &mut movers,
+            &mut origins,
+            presentpins,
+            presentsizes,
+            bits,
+            weights,
+            netweights,
+            firsts,
+            n,
+            m,
+            k,
+            capacity,
+            s,
+        );
+    }
+    let tried = s.tried;
+    let t = rewind(
+        counts,
+        visited,
+        gains,
+        blocks,
+        loads,
+        presentpins,
+        presentsizes,
+        bits,
+        weights,
+        netweights,
+        firsts,
+        &movers,
+        &origins,
+        n,
+        m,
+        k,
+        s.total,
+        tried,
+        s.kept,
+    );
+    Walked {
+        tried: tried,
+        kept: s.kept,
+        total: t,
+    }
+}
