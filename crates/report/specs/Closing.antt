@@ -14,7 +14,7 @@ use Rattle.model.specs.Report.{lotRows, buyRows, closing}
 use Rattle.guarantees.specs.Climbs.{Sound as SoundStack}
 use Rattle.guarantees.specs.Splits.{AllInside}
 use Rattle.levels.specs.Running.{netAt}
-use Rattle.operations.specs.Pairs.{stackOf}
+use Rattle.model.specs.Lent.{stackOf}
 use Rattle.operations.specs.Tables.{tables, Sound}
 
 -- the first n entries are the vertices above: 0 on the board, else one of the vertices 1..n

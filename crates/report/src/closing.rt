@@ -12,7 +12,7 @@ ghost use Rattle.model.specs.Catalogue.{Hypergraph};
 ghost use Rattle.model.specs.Measure.{Contraction, climb, representative as standsFor};
 ghost use Rattle.model.specs.Machine.{State};
 ghost use Rattle.model.specs.Report.{digits, row, lotRows, buyRows, closing};
-ghost use Rattle.operations.specs.Pairs.{stackOf};
+ghost use Rattle.model.specs.Lent.{stackOf};
 ghost use Rattle.report.specs.Wrote.{Wrote};
 ghost use Rattle.report.specs.Place.{joinPlace};
 ghost use Rattle.report.specs.Closing.{Aboves, Climbable, Vertices, VertexIn, VerticesFit, Nets, NetsFit, Ended, ClosingFits};
