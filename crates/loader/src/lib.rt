@@ -16,7 +16,7 @@ pub struct Sizes {
     pub nets: u32,
     pub blocks: u32,
     pub imbalance: u32,
-    pub loadedpins: usize,
+    pub pins: usize,
     pub calls: usize,
     pub average: u32,
     pub capacity: u32,
@@ -78,11 +78,11 @@ fn measure(
     nets: u32,
     blocks: u32,
     imbalance: u32,
-    loadedpins: usize,
+    pins: usize,
     calls: usize,
 ) -> Sizes
     requires { ⌜ (vertices ≤ 1024) × (vertices ≤ length (now weights)) × (1 ≤ blocks) × (blocks ≤ 16) × (imbalance ≤ 1000) × (averageOf blocks (take vertices (now weights)) ≤ 67107871) ⌝ }
-    ensures { λ r. ⌜ r ≡ sizesOf vertices nets blocks imbalance loadedpins calls (averageOf blocks (take vertices (now (weights .entry)))) ((1000 + imbalance) * averageOf blocks (take vertices (now (weights .entry))) / 1000) ⌝ }
+    ensures { λ r. ⌜ r ≡ sizesOf vertices nets blocks imbalance pins calls (averageOf blocks (take vertices (now (weights .entry)))) ((1000 + imbalance) * averageOf blocks (take vertices (now (weights .entry))) / 1000) ⌝ }
 {
     let average = reader::average_weight(weights, vertices as usize, blocks);
     let capacity = reader::capacity(average, imbalance);
@@ -91,7 +91,7 @@ fn measure(
         nets: nets,
         blocks: blocks,
         imbalance: imbalance,
-        loadedpins: loadedpins,
+        pins: pins,
         calls: calls,
         average: average as u32,
         capacity: capacity as u32,

@@ -31,8 +31,8 @@ returns c =
     let start = c .before .before .before in
     let a = start .args in
     let e = c .before .average-weight .ensures .0 in
-    ap (λ (x : ℕ). sizesOf (a .vertices) (a .nets) (a .blocks) (a .imbalance) (a .loadedpins) (a .calls) x (c .capacity .result)) e
-    ∙ ap (sizesOf (a .vertices) (a .nets) (a .blocks) (a .imbalance) (a .loadedpins) (a .calls) (averageOf (a .blocks) (take (a .vertices) (now (a .weights))))) (c .capacity .ensures ∙ ap (λ (x : ℕ). (1000 + a .imbalance) * x / 1000) e)
+    ap (λ (x : ℕ). sizesOf (a .vertices) (a .nets) (a .blocks) (a .imbalance) (a .pins) (a .calls) x (c .capacity .result)) e
+    ∙ ap (sizesOf (a .vertices) (a .nets) (a .blocks) (a .imbalance) (a .pins) (a .calls) (averageOf (a .blocks) (take (a .vertices) (now (a .weights))))) (c .capacity .ensures ∙ ap (λ (x : ℕ). (1000 + a .imbalance) * x / 1000) e)
 
 pub measure-spec : {M : Type 1} → statement M
 measure-spec =
