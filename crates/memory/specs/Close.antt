@@ -7,7 +7,7 @@ use mathlib.Core.List.{List, [], _∷_, _++_}
 use lib.IntN.{ℤ}
 use lib.ListN.{length, length-append}
 use Rattle.model.specs.Catalogue.{Limits, Hypergraph, drafted}
-use Rattle.model.specs.Measure.{metric}
+use Rattle.model.specs.Measure.{Contraction, metric}
 use Rattle.model.specs.Machine.{Call, State, fresh}
 use Rattle.model.specs.Search.{call}
 use Rattle.model.specs.Report.{answerRow, closing}
@@ -50,7 +50,7 @@ module _ {counts visited pins sizes bits blocks weights aboves loads netWeights 
     sound = r .sound;
     into = S .xs;
     stack-is = sym (r .stack-is);
-    stack-fits = let f = r .sound .follows in omega (arith, pairs-length _ (S .xs) (S .ys) (S .len), ap length (r .stack-is), stack-le h (s .stack) (f .says .sound) (r .sound .inside), f .says .all-vertices, f .world .frame .few-vertices);
+    stack-fits = let f = r .sound .follows in omega (arith, pairs-length {A = Contraction} (λ u v. record { into = u; gone = v }) (S .xs) (S .ys) (S .len), ap length (r .stack-is), stack-le h (s .stack) (f .says .sound) (r .sound .inside), f .says .all-vertices, f .world .frame .few-vertices);
     draft-is = q;
   }
 
