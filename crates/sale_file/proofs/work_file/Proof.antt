@@ -31,7 +31,7 @@ enum-known-z : tie.Need-enum-known-z
 enum-known-z c = search needs
 
 slice-aggregate-report-sale : tie.Need-slice-aggregate-report-sale
-slice-aggregate-report-sale c = omega (arith, c .before .before .before .before .before .before .before .before .before .before .before .before .before .before .before .before .before .before .before .before .before .before .before .before .before .before .before .before .before .before .before .before .load .ensures .accepts _ (c .before .before .before .before .before .before .before .before .before .before .before .before .before .z .given .1) .netweights)
+slice-aggregate-report-sale c = omega (arith, c .before .before .before .before .before .before .before .before .before .before .before .before .before .before .before .before .before .before .before .before .before .before .before .before .before .before .before .before .before .before .before .before .load .ensures .accepts _ (c .before .before .before .before .before .before .before .before .before .before .before .before .before .z .given .1) .costs)
 
 slice-aggregate-report-sale-2 : tie.Need-slice-aggregate-report-sale-2
 slice-aggregate-report-sale-2 c = search needs

@@ -34,7 +34,7 @@ enum-known-z : tie.Need-enum-known-z
 enum-known-z c = search needs
 
 slice-aggregate-sell : tie.Need-slice-aggregate-sell
-slice-aggregate-sell c = omega (arith, c .before .before .before .before .before .before .before .before .before .before .before .before .before .before .before .before .before .before .before .before .before .before .before .before .before .before .before .before .before .before .before .before .load .ensures .accepts _ (c .before .before .before .before .before .before .before .before .before .before .before .before .before .z .given .1) .netweights)
+slice-aggregate-sell c = omega (arith, c .before .before .before .before .before .before .before .before .before .before .before .before .before .before .before .before .before .before .before .before .before .before .before .before .before .before .before .before .before .before .before .before .load .ensures .accepts _ (c .before .before .before .before .before .before .before .before .before .before .before .before .before .z .given .1) .costs)
 
 sell-requires : tie.Need-sell-requires
 sell-requires c κs =
