@@ -6,8 +6,8 @@ use mathlib.Core.List.{List}
 use lib.ListN.{length, replicate, length-replicate}
 use Rattle.model.specs.Catalogue.{mainLimits}
 use Rattle.model.specs.Memory.{longMemory}
-use Rattle.records.specs.Lent.{inTables, no-room, serves-records}
-use Rattle.model.specs.Lent.{others}
+use Rattle.records.specs.Lent.{no-room, serves-records}
+use Rattle.model.specs.Lent.{others, inTables}
 use Rattle.records.specs.Entry.{lots-few}
 use Rattle.records.proofs.answering.core.Statement.{statement}
 use Rattle.records.proofs.answering.core.Tie as tie
