@@ -1,17 +1,19 @@
 -- What one pin's change does to the counts and the masks, and that only a matrix' values count. Rests on Row.
-use Prim.Native.Nat.{ℕ, zero, suc, _+_, _*_, _-_, _^_, _<_, _≤_}
+use Prim.Native.Nat.{ℕ, zero, suc, _+_, _*_, _-_, _/_, _%_, _^_, _<_, _≤_}
 use mathlib.Core.Path.{_≡_, refl, sym, ap, _∙_, subst}
 use mathlib.Core.List.{List}
 use native.Mathlib.Omega.{arith}
 use native.Mathlib.Decide.{ℕ-discrete}
-use borrow.Author.Tests.{eq-eqb, ne-eqb}
+use native.Mathlib.Nat.{zero-mul}
+use borrow.Author.Tests.{eq-eqb, ne-eqb, lt-ltb, le-ltb}
 use lib.Dec.{eqb, ltb}
 use lib.ListN.{length, getD, set, length-set}
 use lib.Seq.{getD-set-same, getD-set-other}
 use lib.IntN.{ℤ, natAbs}
 use Rattle.laws.specs.Choice.{one}
 use Rattle.laws.specs.IntegerSum.{sumZ-ext, sumZ-abs}
-use Rattle.laws.specs.Bit.{bit, Masked, MaskedAt, masked-at}
+use lib.Bits.{bitOr, bitAnd, bitXor, or-zero-r, and-zero-r, xor-zero-r}
+use Rattle.laws.specs.Bit.{bit, Masked, MaskedAt, masked-at, one-shl, set-law, clear-law}
 use Rattle.laws.specs.Place.{place, place-at, place-off, place-ext}
 use Rattle.connectivity.specs.Raised.{at}
 use Rattle.connectivity.specs.Matrix.{rowCount, shareOf, rowShare, setPin, Tally, Stands}
@@ -164,19 +166,36 @@ step-set e b v r cs vs h hc hv k = record {
   };
 }
 
--- the same where the mask already shows the new count
-pub step-count : (e b v : ℕ) (cs vs : List ℕ) → 1 ≤ b → 16 * e + (b - 1) < length cs → getD vs e 0 < 2 ^ 16 → bit (getD vs e 0) (b - 1) ≡ one (ltb 0 v) →
-    Step e b v cs (set cs (16 * e + (b - 1)) v) vs vs
-step-count e b v cs vs h hc small shown = record {
-  counts-len = length-set cs (16 * e + (b - 1)) v;
-  masks-len = refl;
-  none = λ z. absurd (omega arith);
-  some = λ z. record {
-    here = getD-set-same cs (16 * e + (b - 1)) v 0 hc;
-    others = λ i ne. getD-set-other cs (16 * e + (b - 1)) i v 0 ne;
-    mask = record { changed = record { small = small; here = shown; elsewhere = λ j ne. refl }; others = λ i ne. refl };
-  };
-}
+pub none-is : (n : ℕ) → n < 65536 → (65536 - n) / 65536 ≡ one (eqb n 0)
+none-is zero h = omega (arith, ap one (eq-eqb 0 0 refl))
+none-is (suc n) h = omega (arith, ap one (ne-eqb (suc n) 0 (λ q. omega arith)))
+
+-- a bit set or cleared by a shift of `x`, which is 1 where the count is 0 and else 0: then the mask shows the count as it is
+none-shifted : (s x : ℕ) → x ≡ 0 → (x * 2 ^ s) % 2 ^ 16 ≡ 0
+none-shifted s x e = ap (λ (z : ℕ). (z * 2 ^ s) % 2 ^ 16) e ∙ omega (arith, zero-mul (2 ^ s))
+
+module _ (m s n x : ℕ) (hm : m < 2 ^ 16) (hs : s < 16) (shows : 1 ≤ n → bit m s ≡ 1) (ex : x ≡ one (eqb n 0)) where
+  pub set-first : Masked m s 1 (bitOr m ((x * 2 ^ s) % 2 ^ 16))
+  set-first = by (ℕ-discrete n 0)
+    where
+      by : Dec (n ≡ 0) → Masked m s 1 (bitOr m ((x * 2 ^ s) % 2 ^ 16))
+      by (yes q) =
+          let e : x ≡ 1 = ex ∙ ap one (eq-eqb n 0 q) in
+          rw (e, one-shl 16 s hs) (set-law m s hm hs)
+      by (no q) =
+          let e : x ≡ 0 = ex ∙ ap one (ne-eqb n 0 q) in
+          rw (none-shifted s x e, or-zero-r m) (record { small = hm; here = shows (omega arith); elsewhere = λ j ne. refl })
+
+  pub clear-last : Masked m s (one (ltb 0 n)) (bitXor m (bitAnd m ((x * 2 ^ s) % 2 ^ 16)))
+  clear-last = by (ℕ-discrete n 0)
+    where
+      by : Dec (n ≡ 0) → Masked m s (one (ltb 0 n)) (bitXor m (bitAnd m ((x * 2 ^ s) % 2 ^ 16)))
+      by (yes q) =
+          let e : x ≡ 1 = ex ∙ ap one (eq-eqb n 0 q) in
+          rw (e, one-shl 16 s hs, le-ltb 0 n (omega arith)) (clear-law m s hm hs)
+      by (no q) =
+          let e : x ≡ 0 = ex ∙ ap one (ne-eqb n 0 q) in
+          rw (none-shifted s x e, and-zero-r m, xor-zero-r m, lt-ltb 0 n (omega arith)) (record { small = hm; here = shows (omega arith); elsewhere = λ j ne. refl })
 
 -- only the values of a matrix count
 pub stands-ext : {Q Q′ : ℕ → ℕ → ℕ} {n m k : ℕ} {weights cs vs : List ℕ} {g : List ℤ} → ((e y : ℕ) → e < m → y < n → Q e y ≡ Q′ e y) →

@@ -1,23 +1,37 @@
 // A net's pin counts, and its connectivity set as a 16-bit mask kept in step with them.
 ghost use Prim.Native.Nat.{_+_, _*_, _-_, _<_, _≤_};
+ghost use mathlib.Core.Path.{_≡_};
+ghost use lib.Dec.{eqb, ltb};
 ghost use lib.ListN.{length, getD};
-ghost use Rattle.laws.specs.Bit.{Masked};
+ghost use Rattle.laws.specs.Choice.{one};
+ghost use Rattle.laws.specs.Bit.{bit, Masked};
 ghost use Rattle.connectivity.specs.Law.{Step, MaskShows};
 
-// The mask with block `s` in it.
-fn set_bit(m: u16, s: usize) -> u16
-    requires { ⌜ s < 16 ⌝ }
-    ensures { λ r. ⌜ Masked m s 1 r ⌝ }
+// 1 where the count is 0, else 0. By arithmetic, since a processor can't predict which counts are 0.
+fn one_if_none(n: u16) -> u16
+    ensures { λ r. ⌜ r ≡ one (eqb n 0) ⌝ }
 {
-    m | (1 << s)
+    let count = n as u32;
+    let none = (65536 - count) / 65536;
+    none as u16
 }
 
-// The mask without it.
-fn clear_bit(m: u16, s: usize) -> u16
+// The mask with the block `s` in it where that had no pin, and else as it is.
+fn set_first(m: u16, s: usize, had: u16) -> u16
     requires { ⌜ s < 16 ⌝ }
-    ensures { λ r. ⌜ Masked m s 0 r ⌝ }
+    requires { ⌜ (1 ≤ had → bit m s ≡ 1) ⌝ }
+    ensures { λ r. ⌜ Masked m s 1 r ⌝ }
 {
-    m ^ (m & (1 << s))
+    m | (one_if_none(had) << s)
+}
+
+// The mask without the block `s` where that has no pin left, and else as it is.
+fn clear_last(m: u16, s: usize, left: u16) -> u16
+    requires { ⌜ s < 16 ⌝ }
+    requires { ⌜ (1 ≤ left → bit m s ≡ 1) ⌝ }
+    ensures { λ r. ⌜ Masked m s (one (ltb 0 left)) r ⌝ }
+{
+    m ^ (m & (one_if_none(left) << s))
 }
 
 // The net `e` has one pin less in the block `a`. Its mask changes only where that was the last one.
@@ -36,9 +50,7 @@ pub fn depart(counts: &mut [u16], visited: &mut [u16], e: usize, a: usize)
     let at = 16 * e + s;
     let left = counts[at] - 1;
     counts[at] = left;
-    if left == 0 {
-        visited[e] = clear_bit(visited[e], s);
-    }
+    visited[e] = clear_last(visited[e], s, left);
 }
 
 // And one more in the block `b`. Its mask changes only where that is the first one.
@@ -57,7 +69,5 @@ pub fn arrive(counts: &mut [u16], visited: &mut [u16], e: usize, b: usize)
     let at = 16 * e + s;
     let had = counts[at];
     counts[at] = had + 1;
-    if had == 0 {
-        visited[e] = set_bit(visited[e], s);
-    }
+    visited[e] = set_first(visited[e], s, had);
 }

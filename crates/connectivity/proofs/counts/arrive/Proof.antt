@@ -1,13 +1,13 @@
--- `arrive`: one count rises, and its bit is set.
+-- `arrive`: one count rises, and its bit is set where there was none.
 use Prim.Native.Nat.{_+_, _*_, _-_}
 use lib.ListN.{getD}
 use borrow.Author.Tests.{lt-ltb}
 use native.Mathlib.Omega.{arith}
 use denote.Ref.{now}
-use mathlib.Core.Path.{sym, ap, _∙_}
-use Rattle.laws.specs.Choice.{one}
+use mathlib.Core.Path.{ap, _∙_}
 use borrow.Author.Needs.{needs}
-use Rattle.connectivity.specs.Law.{step-set, step-count}
+use Rattle.laws.specs.Choice.{one}
+use Rattle.connectivity.specs.Law.{step-set}
 use Rattle.connectivity.proofs.counts.arrive.Statement.{statement}
 use Rattle.connectivity.proofs.counts.arrive.Tie as tie
 
@@ -24,15 +24,13 @@ add-at : tie.Need-add-at
 add-at c = search needs
 
 mul-had : tie.Need-mul-had
-mul-had c = omega arith
+mul-had c = search needs
 
 slice-read-had : tie.Need-slice-read-had
-slice-read-had c = omega arith
+slice-read-had c = search needs
 
 add-counts : tie.Need-add-counts
-add-counts c =
-    let start = c .before .before .before .before in
-    let S = start in omega (arith, S .pre .1 .1 .1 .0 (omega arith))
+add-counts c = let S = c .before .before .before .before in omega (arith, S .pre .1 .1 .1 .0 (omega arith))
 
 mul-counts : tie.Need-mul-counts
 mul-counts c = search needs
@@ -40,14 +38,16 @@ mul-counts c = search needs
 slice-write-counts : tie.Need-slice-write-counts
 slice-write-counts c = search needs
 
-mul-set-bit : tie.Need-mul-set-bit
-mul-set-bit c = search needs
+mul-set-first : tie.Need-mul-set-first
+mul-set-first c = search needs
 
-slice-read-set-bit : tie.Need-slice-read-set-bit
-slice-read-set-bit c = search needs
+slice-read-set-first : tie.Need-slice-read-set-first
+slice-read-set-first c = search needs
 
-set-bit-requires : tie.Need-set-bit-requires
-set-bit-requires c κs = search needs
+set-first-requires : tie.Need-set-first-requires
+set-first-requires c κs =
+    let S = c .before .before .before .before .before in
+    (omega arith, λ l. S .pre .1 .1 .1 .1 (omega arith) ∙ ap one (lt-ltb 0 (getD (now (S .args .counts)) (16 * S .args .e + (S .args .b - 1)) 0) (omega (arith, l))))
 
 mul-visited : tie.Need-mul-visited
 mul-visited c = search needs
@@ -63,21 +63,10 @@ same-length-2 c = search needs
 
 returns-2 : tie.Need-returns-2
 returns-2 c =
-    let S = c .before .before .before .before .before .before .before in
+    let S = c .before .before .before .before .before .before in
     let v = getD (now (S .args .counts)) (16 * S .args .e + (S .args .b - 1)) 0 + 1 in
-    step-set (S .args .e) (S .args .b) v (c .set-bit .result) (now (S .args .counts)) (now (S .args .visited)) (omega arith) (omega arith) (omega arith)
-    (rw (lt-ltb 0 v (omega arith)) (c .set-bit .ensures))
-
-same-length-3 : tie.Need-same-length-3
-same-length-3 c = search needs
-
-returns-3 : tie.Need-returns-3
-returns-3 c =
-    let at-slice-known2 = c .before .before .before in
-    let S = c .before .before .before .before .before in
-    let v = getD (now (S .args .counts)) (16 * S .args .e + (S .args .b - 1)) 0 + 1 in
-    step-count (S .args .e) (S .args .b) v (now (S .args .counts)) (now (S .args .visited)) (omega arith) (omega arith) (at-slice-known2 .slice-known2 .given (S .args .e) .fits)
-    (S .pre .1 .1 .1 .1 (omega arith) ∙ ap one (lt-ltb 0 (getD (now (S .args .counts)) (16 * S .args .e + (S .args .b - 1)) 0) (omega (arith, c .if2 .left)) ∙ sym (lt-ltb 0 v (omega (arith, c .if2 .left)))))
+    step-set (S .args .e) (S .args .b) v (c .set-first .result) (now (S .args .counts)) (now (S .args .visited)) (omega arith) (omega arith) (omega arith)
+    (rw (lt-ltb 0 v (omega arith)) (c .set-first .ensures))
 
 pub arrive-spec : {M : Type 1} → statement M
 arrive-spec =
@@ -92,13 +81,11 @@ arrive-spec =
     add-counts
     mul-counts
     slice-write-counts
-    mul-set-bit
-    slice-read-set-bit
-    set-bit-requires
+    mul-set-first
+    slice-read-set-first
+    set-first-requires
     mul-visited
     slice-write-visited
     same-length
     same-length-2
-    returns-2
-    same-length-3
-    returns-3)
+    returns-2)

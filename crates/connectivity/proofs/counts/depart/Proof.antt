@@ -1,13 +1,13 @@
--- `depart`: one count falls, and its bit is made to fit.
+-- `depart`: one count falls, and its bit is cleared where none is left.
 use Prim.Native.Nat.{_+_, _*_, _-_}
 use lib.ListN.{getD}
-use borrow.Author.Tests.{lt-ltb, le-ltb}
+use borrow.Author.Tests.{lt-ltb}
 use native.Mathlib.Omega.{arith}
 use denote.Ref.{now}
-use mathlib.Core.Path.{sym, ap, _∙_}
-use Rattle.laws.specs.Choice.{one}
+use mathlib.Core.Path.{ap, _∙_}
 use borrow.Author.Needs.{needs}
-use Rattle.connectivity.specs.Law.{step-set, step-count}
+use Rattle.laws.specs.Choice.{one}
+use Rattle.connectivity.specs.Law.{step-set}
 use Rattle.connectivity.proofs.counts.depart.Statement.{statement}
 use Rattle.connectivity.proofs.counts.depart.Tie as tie
 
@@ -24,15 +24,13 @@ add-at : tie.Need-add-at
 add-at c = search needs
 
 mul-left : tie.Need-mul-left
-mul-left c = omega arith
+mul-left c = search needs
 
 slice-read-left : tie.Need-slice-read-left
-slice-read-left c = omega arith
+slice-read-left c = search needs
 
 sub-left : tie.Need-sub-left
-sub-left c =
-    let start = c .before .before .before .before in
-    let S = start in omega (arith, S .pre .1 .1 .1 .0 (omega arith))
+sub-left c = let S = c .before .before .before .before in omega (arith, S .pre .1 .1 .1 .0 (omega arith))
 
 mul-counts : tie.Need-mul-counts
 mul-counts c = search needs
@@ -40,14 +38,16 @@ mul-counts c = search needs
 slice-write-counts : tie.Need-slice-write-counts
 slice-write-counts c = search needs
 
-mul-clear-bit : tie.Need-mul-clear-bit
-mul-clear-bit c = search needs
+mul-clear-last : tie.Need-mul-clear-last
+mul-clear-last c = search needs
 
-slice-read-clear-bit : tie.Need-slice-read-clear-bit
-slice-read-clear-bit c = search needs
+slice-read-clear-last : tie.Need-slice-read-clear-last
+slice-read-clear-last c = search needs
 
-clear-bit-requires : tie.Need-clear-bit-requires
-clear-bit-requires c κs = search needs
+clear-last-requires : tie.Need-clear-last-requires
+clear-last-requires c κs =
+    let S = c .before .before .before .before .before in
+    (omega arith, λ l. S .pre .1 .1 .1 .1 (omega arith) ∙ ap one (lt-ltb 0 (getD (now (S .args .counts)) (16 * S .args .e + (S .args .a - 1)) 0) (omega (arith, S .pre .1 .1 .1 .0 (omega arith)))))
 
 mul-visited : tie.Need-mul-visited
 mul-visited c = search needs
@@ -63,21 +63,10 @@ same-length-2 c = search needs
 
 returns-2 : tie.Need-returns-2
 returns-2 c =
-    let S = c .before .before .before .before .before .before .before in
+    let S = c .before .before .before .before .before .before in
     let v = getD (now (S .args .counts)) (16 * S .args .e + (S .args .a - 1)) 0 - 1 in
-    step-set (S .args .e) (S .args .a) v (c .clear-bit .result) (now (S .args .counts)) (now (S .args .visited)) (omega arith) (omega arith) (omega arith)
-    (rw (le-ltb 0 v (omega (arith, c .before .before .if2 .taken))) (c .clear-bit .ensures))
-
-same-length-3 : tie.Need-same-length-3
-same-length-3 c = search needs
-
-returns-3 : tie.Need-returns-3
-returns-3 c =
-    let at-slice-known2 = c .before .before .before in
-    let S = c .before .before .before .before .before in
-    let v = getD (now (S .args .counts)) (16 * S .args .e + (S .args .a - 1)) 0 - 1 in
-    step-count (S .args .e) (S .args .a) v (now (S .args .counts)) (now (S .args .visited)) (omega arith) (omega arith) (at-slice-known2 .slice-known2 .given (S .args .e) .fits)
-    (S .pre .1 .1 .1 .1 (omega arith) ∙ ap one (lt-ltb 0 (getD (now (S .args .counts)) (16 * S .args .e + (S .args .a - 1)) 0) (omega (arith, c .if2 .left)) ∙ sym (lt-ltb 0 v (omega (arith, c .if2 .left)))))
+    step-set (S .args .e) (S .args .a) v (c .clear-last .result) (now (S .args .counts)) (now (S .args .visited)) (omega arith) (omega arith) (omega arith)
+    (c .clear-last .ensures)
 
 pub depart-spec : {M : Type 1} → statement M
 depart-spec =
@@ -92,13 +81,11 @@ depart-spec =
     sub-left
     mul-counts
     slice-write-counts
-    mul-clear-bit
-    slice-read-clear-bit
-    clear-bit-requires
+    mul-clear-last
+    slice-read-clear-last
+    clear-last-requires
     mul-visited
     slice-write-visited
     same-length
     same-length-2
-    returns-2
-    same-length-3
-    returns-3)
+    returns-2)
