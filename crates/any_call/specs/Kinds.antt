@@ -106,8 +106,8 @@ module _ (letter x y : ℕ) where
       any-all q′ = other ∙ ap (λ (t : Bool). cond t (movingCall letter x y) callA) q′
 
 -- a step of the same call, with the same answer
-pub called-as : {h : Hypergraph} {T T′ : Tables} {S S′ J J′ : Two} {c c′ : Call} {a a′ : Answer} → c′ ≡ c → a′ ≡ a → Called h T T′ S S′ J J′ c a → Called h T T′ S S′ J J′ c′ a′
-called-as {h} {T} {T′} {S} {S′} {J} {J′} {c} {c′} {a} {a′} p q d = subst (λ (x : Call). Called h T T′ S S′ J J′ x a′) (sym p) (subst (λ (x : Answer). Called h T T′ S S′ J J′ c x) (sym q) d)
+pub called-as : {h : Hypergraph} {ceiling : ℕ → ℕ} {T T′ : Tables} {S S′ J J′ : Two} {c c′ : Call} {a a′ : Answer} → c′ ≡ c → a′ ≡ a → Called h ceiling T T′ S S′ J J′ c a → Called h ceiling T T′ S S′ J J′ c′ a′
+called-as {h} {ceiling} {T} {T′} {S} {S′} {J} {J′} {c} {c′} {a} {a′} p q d = subst (λ (x : Call). Called h ceiling T T′ S S′ J J′ x a′) (sym p) (subst (λ (x : Answer). Called h ceiling T T′ S S′ J J′ c x) (sym q) d)
 
 -- a signed number that was read from a struct
 pub moved-as : {a : Answer} (q : ℕ) (g : ℤ) (total : ℕ) → mag g < 2 ^ 31 → a ≡ told q (saysM (toZ w32 (ofZ w32 g)) total) → a ≡ told q (saysM g total)

@@ -3,10 +3,10 @@ ghost use Prim.Native.Nat.{ℕ};
 ghost use mathlib.Core.List.{List};
 ghost use Rattle.model.specs.Catalogue.{Hypergraph};
 ghost use Rattle.model.specs.Lent.{Two, two};
+ghost use Rattle.guarantees.specs.Caps.{CeilingIs};
 ghost use Rattle.operations.specs.Tables.{tables};
 ghost use Rattle.search_moves.specs.Lent.{lent};
-ghost use Rattle.edit_calls.specs.Called.{ReadyS, CapacityIs, Called};
-ghost use Rattle.search_calls.specs.Searching.{ReadyW};
+ghost use Rattle.edit_calls.specs.Called.{ReadyS, ReadyM, Called};
 ghost use Rattle.search_calls.specs.Cycling.{AverageIs, ReadyA};
 ghost use Rattle.report.specs.Meaning.{answerOf};
 ghost use Rattle.any_call.specs.Kinds.{contractingCall, movingCall, anyCall};
@@ -58,18 +58,18 @@ fn moving(
     weights: &[u32],
     netweights: &[u16],
     firsts: &[u16],
+    ceilings: &[u64; 16],
     n: usize,
     m: usize,
     k: usize,
-    capacity: u64,
     total: u32,
     journal: Journal,
     letter: u32,
     x: usize,
     y: usize,
 ) -> MovingTurn
-    requires { ⌜ ReadyW (lent (now counts) (now visited) (now gains) (now blocks) (now loads) (now presentpins) (now presentsizes) (now bits) (now weights) (now netweights) (now firsts) n m k total) (two (journal .vertices) (journal .blocks) (journal .len)) capacity ⌝ }
-    ensures { λ r. ⌜ ((aboves loadedsizes : List ℕ) (S : Two) (h : Hypergraph) → CapacityIs capacity h → Called h (lent (now (counts .entry)) (now (visited .entry)) (now (gains .entry)) (now (blocks .entry)) (now (loads .entry)) (now (presentpins .entry)) (now (presentsizes .entry)) (now (bits .entry)) (now (weights .entry)) (now (netweights .entry)) (now (firsts .entry)) n m k total aboves loadedsizes)
+    requires { ⌜ ReadyM (lent (now counts) (now visited) (now gains) (now blocks) (now loads) (now presentpins) (now presentsizes) (now bits) (now weights) (now netweights) (now firsts) n m k total) (two (journal .vertices) (journal .blocks) (journal .len)) ⌝ }
+    ensures { λ r. ⌜ ((aboves loadedsizes : List ℕ) (S : Two) (h : Hypergraph) (ceiling : ℕ → ℕ) → CeilingIs (now (ceilings .entry)) h ceiling → Called h ceiling (lent (now (counts .entry)) (now (visited .entry)) (now (gains .entry)) (now (blocks .entry)) (now (loads .entry)) (now (presentpins .entry)) (now (presentsizes .entry)) (now (bits .entry)) (now (weights .entry)) (now (netweights .entry)) (now (firsts .entry)) n m k total aboves loadedsizes)
         (lent (now (counts .exit)) (now (visited .exit)) (now (gains .exit)) (now (blocks .exit)) (now (loads .exit)) (now (presentpins .exit)) (now (presentsizes .exit)) (now (bits .exit)) (now (weights .exit)) (now (netweights .exit)) (now (firsts .exit)) n m k (r .total) aboves loadedsizes) S S (two (journal .vertices) (journal .blocks) (journal .len)) (two (r .journal .vertices) (r .journal .blocks) (r .journal .len)) (movingCall letter x y) (answerOf (r .answer))) ⌝ }
 {
     if letter == 77 {
@@ -85,10 +85,10 @@ fn moving(
             weights,
             netweights,
             firsts,
+            ceilings,
             n,
             m,
             k,
-            capacity,
             total,
             journal,
             x,
@@ -153,10 +153,10 @@ fn moving(
             weights,
             netweights,
             firsts,
+            ceilings,
             n,
             m,
             k,
-            capacity,
             total,
             journal,
             x,
@@ -188,10 +188,10 @@ fn moving(
         weights,
         netweights,
         firsts,
+        ceilings,
         n,
         m,
         k,
-        capacity,
         total,
         journal,
     );
@@ -231,7 +231,7 @@ fn contracting(
     y: usize,
 ) -> ContractingTurn
     requires { ⌜ ReadyS (λ loads. tables (now counts) (now visited) (now gains) (now presentpins) (now presentsizes) (now bits) (now blocks) (now weights) (now aboves) loads (now netweights) (now firsts) (now loadedsizes) n m k total) (two (stack .into) (stack .gone) (stack .len)) (two (journal .vertices) (journal .blocks) (journal .len)) ⌝ }
-    ensures { λ r. ⌜ ((loads : List ℕ) (h : Hypergraph) → Called h (tables (now (counts .entry)) (now (visited .entry)) (now (gains .entry)) (now (presentpins .entry)) (now (presentsizes .entry)) (now (bits .entry)) (now (blocks .entry)) (now (weights .entry)) (now (aboves .entry)) loads (now (netweights .entry)) (now (firsts .entry)) (now (loadedsizes .entry)) n m k total)
+    ensures { λ r. ⌜ ((loads : List ℕ) (h : Hypergraph) (ceiling : ℕ → ℕ) → Called h ceiling (tables (now (counts .entry)) (now (visited .entry)) (now (gains .entry)) (now (presentpins .entry)) (now (presentsizes .entry)) (now (bits .entry)) (now (blocks .entry)) (now (weights .entry)) (now (aboves .entry)) loads (now (netweights .entry)) (now (firsts .entry)) (now (loadedsizes .entry)) n m k total)
         (tables (now (counts .exit)) (now (visited .exit)) (now (gains .exit)) (now (presentpins .exit)) (now (presentsizes .exit)) (now (bits .exit)) (now (blocks .exit)) (now (weights .exit)) (now (aboves .exit)) loads (now (netweights .exit)) (now (firsts .exit)) (now (loadedsizes .exit)) n m k total) (two (stack .into) (stack .gone) (stack .len)) (two (r .stack .into) (r .stack .gone) (r .stack .len)) (two (journal .vertices) (journal .blocks) (journal .len)) (two (r .journal .vertices) (r .journal .blocks) (r .journal .len)) (contractingCall letter x y) (answerOf (r .answer))) ⌝ }
 {
     if letter == 74 {
@@ -314,11 +314,11 @@ pub fn perform(
     netweights: &[u16],
     firsts: &[u16],
     loadedsizes: &[u16],
+    ceilings: &[u64; 16],
     n: usize,
     m: usize,
     k: usize,
     average: u64,
-    capacity: u64,
     total: u32,
     stack: Stack,
     journal: Journal,
@@ -326,8 +326,8 @@ pub fn perform(
     x: usize,
     y: usize,
 ) -> Turn
-    requires { ⌜ ReadyA (tables (now counts) (now visited) (now gains) (now presentpins) (now presentsizes) (now bits) (now blocks) (now weights) (now aboves) (now loads) (now netweights) (now firsts) (now loadedsizes) n m k total) (two (stack .into) (stack .gone) (stack .len)) (two (journal .vertices) (journal .blocks) (journal .len)) average capacity ⌝ }
-    ensures { λ r. ⌜ ((h : Hypergraph) → AverageIs average h → CapacityIs capacity h → Called h (tables (now (counts .entry)) (now (visited .entry)) (now (gains .entry)) (now (presentpins .entry)) (now (presentsizes .entry)) (now (bits .entry)) (now (blocks .entry)) (now (weights .entry)) (now (aboves .entry)) (now (loads .entry)) (now (netweights .entry)) (now (firsts .entry)) (now (loadedsizes .entry)) n m k total)
+    requires { ⌜ ReadyA (tables (now counts) (now visited) (now gains) (now presentpins) (now presentsizes) (now bits) (now blocks) (now weights) (now aboves) (now loads) (now netweights) (now firsts) (now loadedsizes) n m k total) (two (stack .into) (stack .gone) (stack .len)) (two (journal .vertices) (journal .blocks) (journal .len)) average ⌝ }
+    ensures { λ r. ⌜ ((h : Hypergraph) (ceiling : ℕ → ℕ) → AverageIs average h → CeilingIs (now (ceilings .entry)) h ceiling → Called h ceiling (tables (now (counts .entry)) (now (visited .entry)) (now (gains .entry)) (now (presentpins .entry)) (now (presentsizes .entry)) (now (bits .entry)) (now (blocks .entry)) (now (weights .entry)) (now (aboves .entry)) (now (loads .entry)) (now (netweights .entry)) (now (firsts .entry)) (now (loadedsizes .entry)) n m k total)
         (tables (now (counts .exit)) (now (visited .exit)) (now (gains .exit)) (now (presentpins .exit)) (now (presentsizes .exit)) (now (bits .exit)) (now (blocks .exit)) (now (weights .exit)) (now (aboves .exit)) (now (loads .exit)) (now (netweights .exit)) (now (firsts .exit)) (now (loadedsizes .exit)) n m k (r .total)) (two (stack .into) (stack .gone) (stack .len)) (two (r .stack .into) (r .stack .gone) (r .stack .len)) (two (journal .vertices) (journal .blocks) (journal .len)) (two (r .journal .vertices) (r .journal .blocks) (r .journal .len)) (anyCall letter x y) (answerOf (r .answer))) ⌝ }
 {
     if is_contracting(letter) {
@@ -377,10 +377,10 @@ pub fn perform(
             weights,
             netweights,
             firsts,
+            ceilings,
             n,
             m,
             k,
-            capacity,
             total,
             journal,
             letter,
@@ -410,11 +410,11 @@ pub fn perform(
         netweights,
         firsts,
         loadedsizes,
+        ceilings,
         n,
         m,
         k,
         average,
-        capacity,
         total,
         stack,
         journal,

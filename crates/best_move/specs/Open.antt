@@ -29,22 +29,23 @@ PickIn n k (Move v b) = (1 ≤ v) × (v ≤ n) × (1 ≤ b) × (b ≤ k)
 abbrev pub gainIn : List ℤ → ℕ → ℕ → ℤ
 gainIn gains v b = getD gains (16 * (v - 1) + (b - 1)) (pos 0)
 
--- is there room for the weight in a block of weight `load`
+-- is there room for the weight in a block of weight `load`, which may hold `ceiling`
 abbrev pub roomFor : ℕ → ℕ → ℕ → Bool
-roomFor load weight capacity = leb (load + weight) capacity
+roomFor load weight ceiling = leb (load + weight) ceiling
 
 -- a vertex of block `own` may go to block b, of weight `load`
 abbrev pub mayGo : ℕ → ℕ → ℕ → ℕ → ℕ → Bool
-mayGo load own weight capacity b = not (eqb own b) && roomFor load weight capacity
+mayGo load own weight ceiling b = not (eqb own b) && roomFor load weight ceiling
 
 -- the candidates are the bits of one row: vertex v is bit v - 1
 abbrev pub isCandidate : List ℕ → ℕ → Bool
 isCandidate candidates v = eqb (on candidates 0 (v - 1)) 1
 
--- the pair is open: v is a candidate, b is not its block, and has room for it. `loads` are the blocks' weights
-abbrev pub openIn : (candidates blocks weights loads : List ℕ) (capacity : ℕ) → ℕ → ℕ → Bool
-openIn candidates blocks weights loads capacity v b =
-    isCandidate candidates v && mayGo (getD loads (b - 1) 0) (getD blocks (v - 1) 0) (getD weights (v - 1) 0) capacity b
+-- the pair is open: v is a candidate, b is not its block, and has room for it. `loads` are the blocks' weights,
+-- `ceilings` the most that they may hold
+abbrev pub openIn : (candidates blocks weights loads ceilings : List ℕ) → ℕ → ℕ → Bool
+openIn candidates blocks weights loads ceilings v b =
+    isCandidate candidates v && mayGo (getD loads (b - 1) 0) (getD blocks (v - 1) 0) (getD weights (v - 1) 0) (getD ceilings (b - 1) 0) b
 
 -- one more pair, where it may be taken
 unfoldable pub considered : Bool → ℕ → ℕ → ℤ → Best → Best

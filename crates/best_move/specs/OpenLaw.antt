@@ -2,33 +2,26 @@
 -- Assumes nothing.
 use mathlib.Core.Path.{_≡_, refl, sym, ap, _∙_, subst}
 use mathlib.Core.List.{List}
-use mathlib.Core.Bool.{Bool, true, false, not, _&&_, cond, and-false, true≢false}
+use mathlib.Core.Bool.{Bool, true, false, _&&_, cond, true≢false}
 use Prim.Native.Nat.{ℕ, zero, suc, _+_, _-_, _*_, _^_, _≤_, _<_}
 use native.Mathlib.Decide.{ℕ-discrete}
 use native.Mathlib.Omega.{arith}
-use lib.Dec.{leb, eqb}
+use lib.Dec.{eqb}
 use lib.ListN.{getD}
 use lib.IntN.{ℤ, pos, negsuc}
 use lib.Signed.{mag, ltZ}
 use mir.Syntax.{w32, w64}
 use mir.Val.{SFits, ofZ, toZ}
 use mir.Facts.{toZ-ofZ}
-use borrow.Author.Tests.{lt-ltb, le-leb, lt-leb, leb-true, leb-false, eq-eqb}
-use Rattle.laws.specs.Sum.{foldTo, foldTo-zero, foldTo-step, foldTo-skip}
+use borrow.Author.Tests.{lt-ltb, eq-eqb}
+use Rattle.laws.specs.Sum.{foldTo, foldTo-zero, foldTo-step}
 use Rattle.model.specs.Search.{Best, none, best, better, consider, bestPair}
 use Rattle.guarantees.specs.Tops.{Top, best-top}
 use Rattle.incidence.specs.On.{on}
 use Rattle.best_move.specs.declared.open.Lead.{Lead}
 use Rattle.best_move.specs.declared.open.Pick.{Pick}
 use Rattle.best_move.specs.declared.open.Pick.the-variants.{Move}
-use Rattle.best_move.specs.Open.{bestOf, PickIn, roomFor, mayGo, openIn, considered, bestInRow, bestTo, vertexAt, blockAt, pairAt, leadOf, Leads, Chosen}
-
-pub room-some : (load weight capacity : ℕ) → weight ≤ capacity → leb load (capacity - weight) ≡ roomFor load weight capacity
-room-some load weight capacity h = by (leb (load + weight) capacity) refl
-  where
-    by : (t : Bool) → leb (load + weight) capacity ≡ t → leb load (capacity - weight) ≡ leb (load + weight) capacity
-    by true e = let l : load + weight ≤ capacity = leb-true _ _ e in le-leb load (capacity - weight) (omega arith) ∙ sym e
-    by false e = let l : capacity < load + weight = leb-false _ _ e in lt-leb load (capacity - weight) (omega arith) ∙ sym e
+use Rattle.best_move.specs.Open.{bestOf, PickIn, mayGo, openIn, considered, bestInRow, bestTo, vertexAt, blockAt, pairAt, leadOf, Leads, Chosen}
 
 -- a place that holds a pair, and a pair that is in range
 pub pair-some : (at : ℕ) → (at ≡ 0 → ⊥) → Move (vertexAt at) (blockAt at) ≡ pairAt at
@@ -143,27 +136,15 @@ module _ (worth : ℕ → ℕ → ℤ) (may : ℕ → Bool) (v : ℕ) where
   unfolding bestInRow
   row-more j here may′ gain before ev eb em eg = rw (ev, eb, em, eg) (sym (foldTo-step j (λ c b. considered (may b) v b (worth v b) c) before))
 
-  -- where nothing may be taken, nothing is
-  pub row-shut : (k : ℕ) (before : Best) → ((b : ℕ) → may b ≡ false) → bestInRow worth may v k before ≡ before
-  unfolding bestInRow considered
-  row-shut k before h = foldTo-skip 0 k (λ c b. considered (may b) v b (worth v b) c) before (omega arith) (λ c b l u. rw (h b)) ∙ foldTo-zero (λ c b. considered (may b) v b (worth v b) c) before
-
--- a vertex that is heavier than the capacity has nowhere to go
-pub row-heavy : (worth : ℕ → ℕ → ℤ) (loads : List ℕ) (own weight capacity v k : ℕ) (before : Best) → capacity < weight
-    → bestInRow worth (λ b. mayGo (getD loads (b - 1) 0) own weight capacity b) v k before ≡ before
-row-heavy worth loads own weight capacity v k before h =
-    row-shut worth (λ b. mayGo (getD loads (b - 1) 0) own weight capacity b) v k before (λ b.
-    ap (λ (t : Bool). not (eqb own b) && t) (lt-leb (getD loads (b - 1) 0 + weight) capacity (omega (arith, h))) ∙ and-false (not (eqb own b)))
-
 -- ---- all candidates
 
 to-pair : (may : ℕ → ℕ → Bool) (worth : ℕ → ℕ → ℤ) (k n : ℕ) → bestTo may worth k n ≡ bestPair n k may worth
 unfolding bestTo bestInRow considered bestPair consider
 to-pair may worth k n = refl
 
-module _ (candidates blocks weights loads : List ℕ) (capacity : ℕ) (worth : ℕ → ℕ → ℤ) (n k : ℕ) where
+module _ (candidates blocks weights loads ceilings : List ℕ) (worth : ℕ → ℕ → ℤ) (n k : ℕ) where
   abbrev may : ℕ → ℕ → Bool
-  may = openIn candidates blocks weights loads capacity
+  may = openIn candidates blocks weights loads ceilings
 
   pub none-seen : none ≡ bestTo may worth k 0
   unfolding bestTo
@@ -171,14 +152,14 @@ module _ (candidates blocks weights loads : List ℕ) (capacity : ℕ) (worth : 
 
   -- the pairs of the candidate at place i
   candidate-row : (i : ℕ) → on candidates 0 i ≡ 1 → (before : Best)
-      → bestInRow worth (λ b. mayGo (getD loads (b - 1) 0) (getD blocks i 0) (getD weights i 0) capacity b) (i + 1) k before ≡ bestInRow worth (may (i + 1)) (i + 1) k before
+      → bestInRow worth (λ b. mayGo (getD loads (b - 1) 0) (getD blocks i 0) (getD weights i 0) (getD ceilings (b - 1) 0) b) (i + 1) k before ≡ bestInRow worth (may (i + 1)) (i + 1) k before
   candidate-row i o before =
       let e : i + 1 - 1 ≡ i = omega arith in
-      sym (ap (λ (x : ℕ). bestInRow worth (λ b. eqb (on candidates 0 x) 1 && mayGo (getD loads (b - 1) 0) (getD blocks x 0) (getD weights x 0) capacity b) (i + 1) k before) e
-      ∙ ap (λ (t : Bool). bestInRow worth (λ b. t && mayGo (getD loads (b - 1) 0) (getD blocks i 0) (getD weights i 0) capacity b) (i + 1) k before) (eq-eqb (on candidates 0 i) 1 o))
+      sym (ap (λ (x : ℕ). bestInRow worth (λ b. eqb (on candidates 0 x) 1 && mayGo (getD loads (b - 1) 0) (getD blocks x 0) (getD weights x 0) (getD ceilings (b - 1) 0) b) (i + 1) k before) e
+      ∙ ap (λ (t : Bool). bestInRow worth (λ b. t && mayGo (getD loads (b - 1) 0) (getD blocks i 0) (getD weights i 0) (getD ceilings (b - 1) 0) b) (i + 1) k before) (eq-eqb (on candidates 0 i) 1 o))
 
   pub candidate-more : (i : ℕ) → on candidates 0 i ≡ 1
-      → bestInRow worth (λ b. mayGo (getD loads (b - 1) 0) (getD blocks i 0) (getD weights i 0) capacity b) (i + 1) k (bestTo may worth k i) ≡ bestTo may worth k (i + 1)
+      → bestInRow worth (λ b. mayGo (getD loads (b - 1) 0) (getD blocks i 0) (getD weights i 0) (getD ceilings (b - 1) 0) b) (i + 1) k (bestTo may worth k i) ≡ bestTo may worth k (i + 1)
   unfolding bestTo
   candidate-more i o = candidate-row i o (bestTo may worth k i) ∙ sym (foldTo-step i (λ b v. bestInRow worth (may v) v k b) none)
 

@@ -10,14 +10,14 @@ use lib.IntN.{ℤ, pos}
 use lib.Signed.{mag, ltZ, leZ}
 use Rattle.laws.specs.Bit.{bit}
 
--- a weight of 32 bits that fits into a block of weight `load` is not above r
+-- a weight of 32 bits that fits into a block of weight `load`, which may hold `ceiling`, is not above r
 abbrev pub RoomFor : ℕ → ℕ → ℕ → Type 0
-RoomFor load capacity r = (weight : ℕ) → weight < 2 ^ 32 → load + weight ≤ capacity → weight ≤ r
+RoomFor load ceiling r = (weight : ℕ) → weight < 2 ^ 32 → load + weight ≤ ceiling → weight ≤ r
 
 -- the rooms of the first k blocks
-pub record Rooms (loads : List ℕ) (capacity k : ℕ) (rooms : List ℕ) : Type 0 where
+pub record Rooms (loads ceilings : List ℕ) (k : ℕ) (rooms : List ℕ) : Type 0 where
   pub len : length rooms ≡ 16
-  pub fits : (b : ℕ) → b < k → RoomFor (getD loads b 0) capacity (getD rooms b 0)
+  pub fits : (b : ℕ) → b < k → RoomFor (getD loads b 0) (getD ceilings b 0) (getD rooms b 0)
 
 -- a gain of 32 bits below `low` is not above `top`
 abbrev pub Least : ℤ → ℤ → Type 0

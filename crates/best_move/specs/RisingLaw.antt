@@ -29,13 +29,13 @@ use Rattle.best_move.specs.Rising.{RoomFor, Rooms, Least, NotBetter, Pas
 
 -- ---- rooms
 
-pub rooms-none : (loads : List ℕ) (capacity : ℕ) (rooms : List ℕ) → length rooms ≡ 16 → Rooms loads capacity 0 rooms
-rooms-none loads capacity rooms h = record { len = h; fits = λ b l. absurd (omega arith) }
+pub rooms-none : (loads ceilings rooms : List ℕ) → length rooms ≡ 16 → Rooms loads ceilings 0 rooms
+rooms-none loads ceilings rooms h = record { len = h; fits = λ b l. absurd (omega arith) }
 
-pub rooms-more : (loads : List ℕ) (capacity b : ℕ) (rooms : List ℕ) (r : ℕ) → b < 16 → Rooms loads capacity b rooms → RoomFor (getD loads b 0) capacity r → Rooms loads capacity (b + 1) (set rooms b r)
-rooms-more loads capacity b rooms r l h f = record { len = length-set rooms b r ∙ h .len; fits = λ c u. go c u (ℕ-discrete c b) }
+pub rooms-more : (loads ceilings : List ℕ) (b : ℕ) (rooms : List ℕ) (r : ℕ) → b < 16 → Rooms loads ceilings b rooms → RoomFor (getD loads b 0) (getD ceilings b 0) r → Rooms loads ceilings (b + 1) (set rooms b r)
+rooms-more loads ceilings b rooms r l h f = record { len = length-set rooms b r ∙ h .len; fits = λ c u. go c u (ℕ-discrete c b) }
   where
-    go : (c : ℕ) → c < b + 1 → Dec (c ≡ b) → RoomFor (getD loads c 0) capacity (getD (set rooms b r) c 0)
+    go : (c : ℕ) → c < b + 1 → Dec (c ≡ b) → RoomFor (getD loads c 0) (getD ceilings c 0) (getD (set rooms b r) c 0)
     go c u (yes q) = rw (q, getD-set-same rooms b r 0 (omega (arith, h .len))) f
     go c u (no q) = rw (getD-set-other rooms b c r 0 q) (h .fits c (omega arith))
 
@@ -91,15 +91,15 @@ module _ (top : ℤ) (f : mag top < 2 ^ 63) (lo : ltZ (toZ w64 (ofZ w64 top)) (n
 -- ---- one vertex
 
 -- the test of a block failed: the vertex may not go there, or gains no more than the best
-not-better-stays : (gains : List ℤ) (loads rooms : List ℕ) (capacity k row weight own b : ℕ) (top low : ℤ) → b < k → Rooms loads capacity k rooms → Least top low → NotBetter gains rooms row low weight own b
-    → mayGo (getD loads b 0) own weight capacity (b + 1) ≡ true → ltZ top (getD gains (row + b) (pos 0)) ≡ false
-not-better-stays gains loads rooms capacity k row weight own b top low l h least s may = least (getD gains (row + b) (pos 0)) (s .fits) (go (leZ low (getD gains (row + b) (pos 0))) refl)
+not-better-stays : (gains : List ℤ) (loads ceilings rooms : List ℕ) (k row weight own b : ℕ) (top low : ℤ) → b < k → Rooms loads ceilings k rooms → Least top low → NotBetter gains rooms row low weight own b
+    → mayGo (getD loads b 0) own weight (getD ceilings b 0) (b + 1) ≡ true → ltZ top (getD gains (row + b) (pos 0)) ≡ false
+not-better-stays gains loads ceilings rooms k row weight own b top low l h least s may = least (getD gains (row + b) (pos 0)) (s .fits) (go (leZ low (getD gains (row + b) (pos 0))) refl)
   where
     other : not (eqb own (b + 1)) ≡ true
-    other = and-left (not (eqb own (b + 1))) (leb (getD loads b 0 + weight) capacity) may
+    other = and-left (not (eqb own (b + 1))) (leb (getD loads b 0 + weight) (getD ceilings b 0)) may
 
     room : leb weight (getD rooms b 0) ≡ true
-    room = le-leb weight (getD rooms b 0) (h .fits b l weight (s .light) (leb-true _ _ (and-right (not (eqb own (b + 1))) (leb (getD loads b 0 + weight) capacity) may)))
+    room = le-leb weight (getD rooms b 0) (h .fits b l weight (s .light) (leb-true _ _ (and-right (not (eqb own (b + 1))) (leb (getD loads b 0 + weight) (getD ceilings b 0)) may)))
 
     go : (t : Bool) → leZ low (getD gains (row + b) (pos 0)) ≡ t → leZ low (getD gains (row + b) (pos 0)) ≡ false
     go true e = absurd (true≢false (sym (ap (λ (x : Bool). x && (leb weight (getD rooms b 0) && not (eqb own (b + 1)))) e ∙ ap (λ (x : Bool). x && not (eqb own (b + 1))) room ∙ other) ∙ s .shut))
@@ -174,10 +174,10 @@ part-bit candidates c j l =
     let at-j : (64 * c + j) % 64 ≡ j = omega arith in
     on-is candidates 0 (64 * c + j) ∙ ap (λ (x : ℕ). bit (getD candidates x 0) ((64 * c + j) % 64)) at-c ∙ ap (bit (getD candidates c 0)) at-j
 
-module _ (candidates blocks weights loads rooms : List ℕ) (capacity : ℕ) (gains : List ℤ) (c size k : ℕ) where
+module _ (candidates blocks weights loads ceilings rooms : List ℕ) (gains : List ℤ) (c size k : ℕ) where
   -- the best pair of the vertices before place i
   abbrev bestBefore : ℕ → Best
-  bestBefore i = bestTo (openIn candidates blocks weights loads capacity) (gainIn gains) k i
+  bestBefore i = bestTo (openIn candidates blocks weights loads ceilings) (gainIn gains) k i
 
   -- the part has been searched up to bit j, which is a candidate or past the part
   pub record Among (lead₀ lead : Lead) (j : ℕ) : Type 0 where
@@ -185,25 +185,25 @@ module _ (candidates blocks weights loads rooms : List ℕ) (capacity : ℕ) (ga
     pub found : j < size → on candidates 0 (64 * c + j) ≡ 1
     pub leads : Leads lead₀ (bestBefore (64 * c)) → Leads lead (bestBefore (lesser (64 * c + j) (64 * c + size)))
 
-  module _ (small : size ≤ 64) (h : Rooms loads capacity k rooms) where
+  module _ (small : size ≤ 64) (h : Rooms loads ceilings k rooms) where
     -- the candidates that were passed over have no better pair
     passed-leads : (low : ℤ) (from r : ℕ) (lead : Lead) → from ≤ size → Least (lead .top) low → Passed gains blocks weights rooms (getD candidates c 0) (64 * c) size k low from r
         → Leads lead (bestBefore (64 * c + from)) → Leads lead (bestBefore (lesser (64 * c + r) (64 * c + size)))
     passed-leads low from r lead le least p g =
-        lead-rests (openIn candidates blocks weights loads capacity) (gainIn gains) k (64 * c + from) (lesser (64 * c + r) (64 * c + size)) lead (omega (arith, p .start)) topped g
+        lead-rests (openIn candidates blocks weights loads ceilings) (gainIn gains) k (64 * c + from) (lesser (64 * c + r) (64 * c + size)) lead (omega (arith, p .start)) topped g
       where
-        topped : (v b : ℕ) → 64 * c + from < v → v ≤ lesser (64 * c + r) (64 * c + size) → 1 ≤ b → b ≤ k → openIn candidates blocks weights loads capacity v b ≡ true → Topped lead (gainIn gains v b)
+        topped : (v b : ℕ) → 64 * c + from < v → v ≤ lesser (64 * c + r) (64 * c + size) → 1 ≤ b → b ≤ k → openIn candidates blocks weights loads ceilings v b ≡ true → Topped lead (gainIn gains v b)
         topped v b lv uv lb ub o =
             let j = v - 1 - 64 * c in
             let e : 64 * c + j ≡ v - 1 = omega arith in
             let d : b - 1 + 1 ≡ b = omega arith in
-            let may = and-right (eqb (on candidates 0 (v - 1)) 1) (mayGo (getD loads (b - 1) 0) (getD blocks (v - 1) 0) (getD weights (v - 1) 0) capacity b) o in
-            let candidate : on candidates 0 (v - 1) ≡ 1 = eqb-true _ _ (and-left (eqb (on candidates 0 (v - 1)) 1) (mayGo (getD loads (b - 1) 0) (getD blocks (v - 1) 0) (getD weights (v - 1) 0) capacity b) o) in
+            let may = and-right (eqb (on candidates 0 (v - 1)) 1) (mayGo (getD loads (b - 1) 0) (getD blocks (v - 1) 0) (getD weights (v - 1) 0) (getD ceilings (b - 1) 0) b) o in
+            let candidate : on candidates 0 (v - 1) ≡ 1 = eqb-true _ _ (and-left (eqb (on candidates 0 (v - 1)) 1) (mayGo (getD loads (b - 1) 0) (getD blocks (v - 1) 0) (getD weights (v - 1) 0) (getD ceilings (b - 1) 0) b) o) in
             let set-bit : bit (getD candidates c 0) j ≡ 1 = sym (part-bit candidates c j (omega arith)) ∙ ap (on candidates 0) e ∙ candidate in
             let not-better = subst (λ (x : ℕ). NotBetter gains rooms (16 * x) low (getD weights x 0) (getD blocks x 0) (b - 1)) e (p .not-better j (omega arith) (omega arith) (omega arith) set-bit (b - 1) (omega arith)) in (
               λ z. g .below z (gainIn gains v b) (not-better .fits),
-              not-better-stays gains loads rooms capacity k (16 * (v - 1)) (getD weights (v - 1) 0) (getD blocks (v - 1) 0) (b - 1) (lead .top) low (omega arith) h least not-better
-                  (subst (λ (x : ℕ). mayGo (getD loads (b - 1) 0) (getD blocks (v - 1) 0) (getD weights (v - 1) 0) capacity x ≡ true) (sym d) may),
+              not-better-stays gains loads ceilings rooms k (16 * (v - 1)) (getD weights (v - 1) 0) (getD blocks (v - 1) 0) (b - 1) (lead .top) low (omega arith) h least not-better
+                  (subst (λ (x : ℕ). mayGo (getD loads (b - 1) 0) (getD blocks (v - 1) 0) (getD weights (v - 1) 0) (getD ceilings (b - 1) 0) x ≡ true) (sym d) may),
             )
 
     -- `top` and `low′` are the two gains read back from their bits
@@ -219,13 +219,13 @@ module _ (candidates blocks weights loads rooms : List ℕ) (capacity : ℕ) (ga
       among-begins e p = let z : 64 * c + 0 ≡ 64 * c = omega arith in among 0 (omega arith) p (λ q. rw (z, ← e) q)
 
       pub among-more : (old : Lead) (j : ℕ) → j < size → Among lead₀ old j
-          → ((b : Best) → Leads old b → Leads lead (bestInRow (gainIn gains) (λ b. mayGo (getD loads (b - 1) 0) (getD blocks (64 * c + j) 0) (getD weights (64 * c + j) 0) capacity b) (64 * c + j + 1) k b))
+          → ((b : Best) → Leads old b → Leads lead (bestInRow (gainIn gains) (λ b. mayGo (getD loads (b - 1) 0) (getD blocks (64 * c + j) 0) (getD weights (64 * c + j) 0) (getD ceilings (b - 1) 0) b) (64 * c + j + 1) k b))
           → Passed gains blocks weights rooms (getD candidates c 0) (64 * c) size k low′ (j + 1) r → Among lead₀ lead r
       among-more old j l a w p =
           let e : lesser (64 * c + j) (64 * c + size) ≡ 64 * c + j = omega arith in
           let d : 64 * c + j + 1 ≡ 64 * c + (j + 1) = omega arith in
           among (j + 1) (omega arith) p (λ q. subst (λ (i : ℕ). Leads lead (bestBefore i)) d
-          (subst (Leads lead) (candidate-more candidates blocks weights loads capacity (gainIn gains) size k (64 * c + j) (a .found l)) (w _ (subst (λ (i : ℕ). Leads old (bestBefore i)) e (a .leads q)))))
+          (subst (Leads lead) (candidate-more candidates blocks weights loads ceilings (gainIn gains) size k (64 * c + j) (a .found l)) (w _ (subst (λ (i : ℕ). Leads old (bestBefore i)) e (a .leads q)))))
 
   pub among-ends : (lead₀ lead : Lead) (j : ℕ) → size ≤ j → Among lead₀ lead j → Leads lead₀ (bestBefore (64 * c)) → Leads lead (bestBefore (64 * c + size))
   among-ends lead₀ lead j l a q =

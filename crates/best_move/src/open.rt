@@ -13,7 +13,7 @@ ghost use Prim.Native.Nat.{_+_, _-_, _*_, _≤_, _<_};
 ghost use lib.ListN.{length, getD};
 ghost use lib.Signed.{ltZ};
 ghost use Rattle.model.specs.Search.{Best, bestPair};
-ghost use Rattle.best_move.specs.Open.{gainIn, mayGo, openIn, considered, bestInRow, bestTo, vertexAt, blockAt, pairAt, Leads, Chosen, RowOk, VertexOk, SearchOk};
+ghost use Rattle.best_move.specs.Open.{gainIn, roomFor, mayGo, openIn, considered, bestInRow, bestTo, vertexAt, blockAt, pairAt, Leads, Chosen, RowOk, VertexOk, SearchOk};
 ghost use Rattle.best_move.specs.Peak.{lesser, Peaked};
 ghost use Rattle.best_move.specs.Rising.{Rooms};
 
@@ -66,65 +66,68 @@ fn weigh(gain: i32, may: bool, here: usize, lead: Lead) -> Lead
     }
 }
 
-// Whether a vertex of block `own` may go to block `b`, of weight `load`. The vertex is not heavier than the capacity; the sum of the two
-// weights may pass 64 bits.
-fn may_go(load: u64, own: usize, weight: u64, capacity: u64, b: usize) -> bool
-    requires { ⌜ weight ≤ capacity ⌝ }
-    ensures { λ r. ⌜ r ≡ mayGo load own weight capacity b ⌝ }
+// Whether a block of weight `load` has room for a weight. The sum of the two may pass 64 bits.
+fn has_space(load: u64, weight: u64, ceiling: u64) -> bool
+    ensures { λ r. ⌜ r ≡ roomFor load weight ceiling ⌝ }
 {
-    let space = capacity - weight;
-    both(own != b, load <= space)
+    if ceiling < weight {
+        return false;
+    }
+    load <= ceiling - weight
+}
+
+// Whether a vertex of block `own` may go to block `b`, of weight `load`, which may hold `ceiling`.
+fn may_go(load: u64, own: usize, weight: u64, ceiling: u64, b: usize) -> bool
+    ensures { λ r. ⌜ r ≡ mayGo load own weight ceiling b ⌝ }
+{
+    both(own != b, has_space(load, weight, ceiling))
 }
 
 // The best of `before` and the pairs of the vertex at place `i`, of block `own`, that may be taken.
 fn best_in_row(
     gains: &[i32],
     loads: &[u64; 16],
+    ceilings: &[u64; 16],
     own: usize,
     weight: u64,
-    capacity: u64,
     i: usize,
     k: usize,
     before: Lead,
 ) -> Lead
-    requires { ⌜ RowOk (length (now gains)) i k × (weight ≤ capacity) ⌝ }
-    ensures { λ r. ⌜ ((c : Best) → Leads before c → Leads r (bestInRow (gainIn (now (gains .entry))) (λ b. mayGo (getD (now (loads .entry)) (b - 1) 0) own weight capacity b) (i + 1) k c)) ⌝ }
+    requires { ⌜ RowOk (length (now gains)) i k ⌝ }
+    ensures { λ r. ⌜ ((c : Best) → Leads before c → Leads r (bestInRow (gainIn (now (gains .entry))) (λ b. mayGo (getD (now (loads .entry)) (b - 1) 0) own weight (getD (now (ceilings .entry)) (b - 1) 0) b) (i + 1) k c)) ⌝ }
 {
     let row = 16 * i;
     let mut lead = before;
     let mut j: usize = 0;
     while j < k {
-        let may = may_go(loads[j], own, weight, capacity, j + 1);
+        let may = may_go(loads[j], own, weight, ceilings[j], j + 1);
         lead = weigh(gains[row + j], may, row + j + 1, lead);
         j += 1;
     }
     lead
 }
 
-// The best of `before` and the open pairs of the candidate at place `i`. One that is heavier than the capacity has none.
+// The best of `before` and the open pairs of the candidate at place `i`.
 fn best_with(
     gains: &[i32],
     blocks: &[u16],
     weights: &[u32],
     loads: &[u64; 16],
+    ceilings: &[u64; 16],
     i: usize,
     k: usize,
-    capacity: u64,
     before: Lead,
 ) -> Lead
     requires { ⌜ VertexOk (length (now gains)) (length (now blocks)) (length (now weights)) i k ⌝ }
-    ensures { λ r. ⌜ ((c : Best) → Leads before c → Leads r (bestInRow (gainIn (now (gains .entry))) (λ b. mayGo (getD (now (loads .entry)) (b - 1) 0) (getD (now (blocks .entry)) i 0) (getD (now (weights .entry)) i 0) capacity b) (i + 1) k c)) ⌝ }
+    ensures { λ r. ⌜ ((c : Best) → Leads before c → Leads r (bestInRow (gainIn (now (gains .entry))) (λ b. mayGo (getD (now (loads .entry)) (b - 1) 0) (getD (now (blocks .entry)) i 0) (getD (now (weights .entry)) i 0) (getD (now (ceilings .entry)) (b - 1) 0) b) (i + 1) k c)) ⌝ }
 {
-    let weight = wide32(weights[i]);
-    if capacity < weight {
-        return before;
-    }
     best_in_row(
         gains,
         loads,
+        ceilings,
         wide(blocks[i]),
-        weight,
-        capacity,
+        wide32(weights[i]),
         i,
         k,
         before,
@@ -147,23 +150,23 @@ fn pair_at(at: usize) -> Pick
 }
 
 // The best of `before` and the open pairs of the candidates among the `size` vertices from place 64 * c on. Only those that may have a better
-// pair are weighed. `rooms` is what the blocks have left under the capacity.
+// pair are weighed. `rooms` is what the blocks have left under their ceilings.
 fn best_among(
     gains: &[i32],
     blocks: &[u16],
     weights: &[u32],
     loads: &[u64; 16],
+    ceilings: &[u64; 16],
     rooms: &[u32; 16],
     candidates: &[u64],
     c: usize,
     size: usize,
     k: usize,
-    capacity: u64,
     before: Lead,
 ) -> Lead
     requires { ⌜ SearchOk (length (now gains)) (length (now blocks)) (length (now weights)) (length (now candidates)) (64 * c + size) k × (size ≤ 64) × (c < 16) ⌝ }
-    requires { ⌜ Rooms (now loads) capacity k (now rooms) ⌝ }
-    ensures { λ r. ⌜ (Leads before (bestTo (openIn (now (candidates .entry)) (now (blocks .entry)) (now (weights .entry)) (now (loads .entry)) capacity) (gainIn (now (gains .entry))) k (64 * c)) → Leads r (bestTo (openIn (now (candidates .entry)) (now (blocks .entry)) (now (weights .entry)) (now (loads .entry)) capacity) (gainIn (now (gains .entry))) k (64 * c + size))) ⌝ }
+    requires { ⌜ Rooms (now loads) (now ceilings) k (now rooms) ⌝ }
+    ensures { λ r. ⌜ (Leads before (bestTo (openIn (now (candidates .entry)) (now (blocks .entry)) (now (weights .entry)) (now (loads .entry)) (now (ceilings .entry))) (gainIn (now (gains .entry))) k (64 * c)) → Leads r (bestTo (openIn (now (candidates .entry)) (now (blocks .entry)) (now (weights .entry)) (now (loads .entry)) (now (ceilings .entry))) (gainIn (now (gains .entry))) k (64 * c + size))) ⌝ }
 {
     let first = 64 * c;
     let word = candidates[c];
@@ -181,7 +184,7 @@ fn best_among(
         least_better(best.top),
     );
     while j < size {
-        best = best_with(gains, blocks, weights, loads, first + j, k, capacity, best);
+        best = best_with(gains, blocks, weights, loads, ceilings, first + j, k, best);
         j = next_rising(
             gains,
             blocks,
@@ -205,19 +208,19 @@ fn best_in_part(
     blocks: &[u16],
     weights: &[u32],
     loads: &[u64; 16],
+    ceilings: &[u64; 16],
     rooms: &[u32; 16],
     candidates: &[u64],
     peaks: &[i32; 16],
     c: usize,
     n: usize,
     k: usize,
-    capacity: u64,
     before: Lead,
 ) -> Lead
     requires { ⌜ SearchOk (length (now gains)) (length (now blocks)) (length (now weights)) (length (now candidates)) n k ⌝ }
     requires { ⌜ Peaked (now gains) (now peaks) n k × (64 * c < n) ⌝ }
-    requires { ⌜ Rooms (now loads) capacity k (now rooms) ⌝ }
-    ensures { λ r. ⌜ (Leads before (bestTo (openIn (now (candidates .entry)) (now (blocks .entry)) (now (weights .entry)) (now (loads .entry)) capacity) (gainIn (now (gains .entry))) k (64 * c)) → Leads r (bestTo (openIn (now (candidates .entry)) (now (blocks .entry)) (now (weights .entry)) (now (loads .entry)) capacity) (gainIn (now (gains .entry))) k (lesser (64 * c + 64) n))) ⌝ }
+    requires { ⌜ Rooms (now loads) (now ceilings) k (now rooms) ⌝ }
+    ensures { λ r. ⌜ (Leads before (bestTo (openIn (now (candidates .entry)) (now (blocks .entry)) (now (weights .entry)) (now (loads .entry)) (now (ceilings .entry))) (gainIn (now (gains .entry))) k (64 * c)) → Leads r (bestTo (openIn (now (candidates .entry)) (now (blocks .entry)) (now (weights .entry)) (now (loads .entry)) (now (ceilings .entry))) (gainIn (now (gains .entry))) k (lesser (64 * c + 64) n))) ⌝ }
 {
     let peak = peaks[c] as i64;
     let top = before.top;
@@ -227,12 +230,12 @@ fn best_in_part(
             blocks,
             weights,
             loads,
+            ceilings,
             rooms,
             candidates,
             c,
             least(64, n - 64 * c),
             k,
-            capacity,
             before,
         );
     }
@@ -240,28 +243,28 @@ fn best_in_part(
 }
 
 // The open pair of highest gain, then lowest vertex, then lowest block: vertices and blocks count from 1. `loads` are the blocks' weights,
-// `candidates` a row of bits in which vertex v is bit v - 1, `peaks` bounds on the gains of each part of 64 vertices.
+// `ceilings` the most that they may hold, `candidates` a row of bits in which vertex v is bit v - 1, `peaks` bounds on the gains of each part of 64 vertices.
 pub fn best_open(
     gains: &[i32],
     blocks: &[u16],
     weights: &[u32],
     loads: &[u64; 16],
+    ceilings: &[u64; 16],
     candidates: &[u64],
     peaks: &[i32; 16],
     n: usize,
     k: usize,
-    capacity: u64,
 ) -> Pick
     requires { ⌜ SearchOk (length (now gains)) (length (now blocks)) (length (now weights)) (length (now candidates)) n k ⌝ }
     requires { ⌜ Peaked (now gains) (now peaks) n k ⌝ }
-    ensures { λ r. ⌜ Chosen (gainIn (now (gains .entry))) n k r (bestPair n k (openIn (now (candidates .entry)) (now (blocks .entry)) (now (weights .entry)) (now (loads .entry)) capacity) (gainIn (now (gains .entry)))) ⌝ }
+    ensures { λ r. ⌜ Chosen (gainIn (now (gains .entry))) n k r (bestPair n k (openIn (now (candidates .entry)) (now (blocks .entry)) (now (weights .entry)) (now (loads .entry)) (now (ceilings .entry))) (gainIn (now (gains .entry)))) ⌝ }
 {
     let mut best = Lead {
         at: 0,
         top: -4294967296,
     };
     let mut rooms = [0u32; 16];
-    measure(&mut rooms, loads, k, capacity);
+    measure(&mut rooms, loads, ceilings, k);
     let mut c: usize = 0;
     while 64 * c < n {
         best = best_in_part(
@@ -269,13 +272,13 @@ pub fn best_open(
             blocks,
             weights,
             loads,
+            ceilings,
             &rooms,
             candidates,
             peaks,
             c,
             n,
             k,
-            capacity,
             best,
         );
         c += 1;

@@ -10,14 +10,14 @@ ghost use Prim.Native.Nat.{ℕ, _+_, _*_, _≤_, _<_};
 ghost use lib.ListN.{length};
 ghost use Rattle.best_move.specs.Rising.{Rooms, RoomFor, Least, NotBetter, PartOk, Passed};
 
-// The room that a block of weight `load` has left, as far as 32 bits go.
-fn room_of(load: u64, capacity: u64) -> u32
-    ensures { λ r. ⌜ RoomFor load capacity r ⌝ }
+// The room that a block of weight `load` has left under its ceiling, as far as 32 bits go.
+fn room_of(load: u64, ceiling: u64) -> u32
+    ensures { λ r. ⌜ RoomFor load ceiling r ⌝ }
 {
-    if capacity < load {
+    if ceiling < load {
         return 0;
     }
-    let room = capacity - load;
+    let room = ceiling - load;
     if 4294967295 < room {
         return 4294967295;
     }
@@ -25,13 +25,13 @@ fn room_of(load: u64, capacity: u64) -> u32
 }
 
 // Sets the rooms of `k` blocks.
-pub fn measure(rooms: &mut [u32; 16], loads: &[u64; 16], k: usize, capacity: u64)
+pub fn measure(rooms: &mut [u32; 16], loads: &[u64; 16], ceilings: &[u64; 16], k: usize)
     requires { ⌜ (length (now rooms) ≡ 16) × (k ≤ 16) ⌝ }
-    ensures { λ _. ⌜ Rooms (now (loads .entry)) capacity k (now (rooms .exit)) ⌝ }
+    ensures { λ _. ⌜ Rooms (now (loads .entry)) (now (ceilings .entry)) k (now (rooms .exit)) ⌝ }
 {
     let mut b: usize = 0;
     while b < k {
-        rooms[b] = room_of(loads[b], capacity);
+        rooms[b] = room_of(loads[b], ceilings[b]);
         b += 1;
     }
 }

@@ -1,10 +1,11 @@
 // A list of calls on a running sale: each call steps the tables, and its answer's line goes to the output.
+ghost use Prim.Native.Nat.{ℕ};
 ghost use mathlib.Core.Path.{_≡_};
 ghost use lib.ListN.{length};
 ghost use Rattle.model.specs.Catalogue.{Limits, Hypergraph};
 ghost use Rattle.model.specs.Lent.{two};
+ghost use Rattle.guarantees.specs.Caps.{CeilingIs};
 ghost use Rattle.operations.specs.Tables.{tables};
-ghost use Rattle.edit_calls.specs.Called.{CapacityIs};
 ghost use Rattle.search_calls.specs.Cycling.{AverageIs};
 ghost use Rattle.any_call.specs.Kinds.{anyCall};
 ghost use Rattle.call_list.specs.Course.{CanStep, Steps, Begins, CanRun, Done};
@@ -44,18 +45,18 @@ fn step(
     netweights: &[u16],
     firsts: &[u16],
     loadedsizes: &[u16],
+    ceilings: &[u64; 16],
     n: usize,
     m: usize,
     k: usize,
     average: u64,
-    capacity: u64,
     course: Course,
     letter: u32,
     x: usize,
     y: usize,
 ) -> Course
-    requires { ⌜ CanStep (tables (now counts) (now visited) (now gains) (now presentpins) (now presentsizes) (now bits) (now blocks) (now weights) (now aboves) (now loads) (now netweights) (now firsts) (now loadedsizes) n m k (course .total)) (two (course .stack .into) (course .stack .gone) (course .stack .len)) (two (course .journal .vertices) (course .journal .blocks) (course .journal .len)) average capacity (length (now output)) (course .at) (anyCall letter x y) ⌝ }
-    ensures { λ r. ⌜ ((h : Hypergraph) → AverageIs average h → CapacityIs capacity h → Steps h (tables (now (counts .entry)) (now (visited .entry)) (now (gains .entry)) (now (presentpins .entry)) (now (presentsizes .entry)) (now (bits .entry)) (now (blocks .entry)) (now (weights .entry)) (now (aboves .entry)) (now (loads .entry)) (now (netweights .entry)) (now (firsts .entry)) (now (loadedsizes .entry)) n m k (course .total))
+    requires { ⌜ CanStep (tables (now counts) (now visited) (now gains) (now presentpins) (now presentsizes) (now bits) (now blocks) (now weights) (now aboves) (now loads) (now netweights) (now firsts) (now loadedsizes) n m k (course .total)) (two (course .stack .into) (course .stack .gone) (course .stack .len)) (two (course .journal .vertices) (course .journal .blocks) (course .journal .len)) average (now ceilings) (length (now output)) (course .at) (anyCall letter x y) ⌝ }
+    ensures { λ r. ⌜ ((h : Hypergraph) (ceiling : ℕ → ℕ) → AverageIs average h → CeilingIs (now (ceilings .entry)) h ceiling → Steps h ceiling (tables (now (counts .entry)) (now (visited .entry)) (now (gains .entry)) (now (presentpins .entry)) (now (presentsizes .entry)) (now (bits .entry)) (now (blocks .entry)) (now (weights .entry)) (now (aboves .entry)) (now (loads .entry)) (now (netweights .entry)) (now (firsts .entry)) (now (loadedsizes .entry)) n m k (course .total))
         (tables (now (counts .exit)) (now (visited .exit)) (now (gains .exit)) (now (presentpins .exit)) (now (presentsizes .exit)) (now (bits .exit)) (now (blocks .exit)) (now (weights .exit)) (now (aboves .exit)) (now (loads .exit)) (now (netweights .exit)) (now (firsts .exit)) (now (loadedsizes .exit)) n m k (r .total)) (two (course .stack .into) (course .stack .gone) (course .stack .len)) (two (r .stack .into) (r .stack .gone) (r .stack .len)) (two (course .journal .vertices) (course .journal .blocks) (course .journal .len)) (two (r .journal .vertices) (r .journal .blocks) (r .journal .len)) (anyCall letter x y) (now (output .entry)) (now (output .exit)) (course .at) (r .at)) ⌝ }
 {
     let stack = course.stack;
@@ -74,11 +75,11 @@ fn step(
         netweights,
         firsts,
         loadedsizes,
+        ceilings,
         n,
         m,
         k,
         average,
-        capacity,
         course.total,
         stack,
         journal,
@@ -114,17 +115,17 @@ pub fn run_calls(
     netweights: &[u16],
     firsts: &[u16],
     loadedsizes: &[u16],
+    ceilings: &[u64; 16],
     calls: &[u32],
     count: usize,
     n: usize,
     m: usize,
     k: usize,
     average: u64,
-    capacity: u64,
     total: u32,
 ) -> Course
-    requires { ⌜ CanRun (tables (now counts) (now visited) (now gains) (now presentpins) (now presentsizes) (now bits) (now blocks) (now weights) (now aboves) (now loads) (now netweights) (now firsts) (now loadedsizes) n m k total) average capacity (now calls) count (length (now output)) ⌝ }
-    ensures { λ r. ⌜ ((limits : Limits) (h : Hypergraph) → Begins limits h (tables (now (counts .entry)) (now (visited .entry)) (now (gains .entry)) (now (presentpins .entry)) (now (presentsizes .entry)) (now (bits .entry)) (now (blocks .entry)) (now (weights .entry)) (now (aboves .entry)) (now (loads .entry)) (now (netweights .entry)) (now (firsts .entry)) (now (loadedsizes .entry)) n m k total) average capacity (now (calls .entry)) count (length (now (output .entry))) → Done h (now (calls .entry)) count (tables (now (counts .entry)) (now (visited .entry)) (now (gains .entry)) (now (presentpins .entry)) (now (presentsizes .entry)) (now (bits .entry)) (now (blocks .entry)) (now (weights .entry)) (now (aboves .entry)) (now (loads .entry)) (now (netweights .entry)) (now (firsts .entry)) (now (loadedsizes .entry)) n m k total)
+    requires { ⌜ CanRun (tables (now counts) (now visited) (now gains) (now presentpins) (now presentsizes) (now bits) (now blocks) (now weights) (now aboves) (now loads) (now netweights) (now firsts) (now loadedsizes) n m k total) average (now ceilings) (now calls) count (length (now output)) ⌝ }
+    ensures { λ r. ⌜ ((limits : Limits) (h : Hypergraph) → Begins limits h (tables (now (counts .entry)) (now (visited .entry)) (now (gains .entry)) (now (presentpins .entry)) (now (presentsizes .entry)) (now (bits .entry)) (now (blocks .entry)) (now (weights .entry)) (now (aboves .entry)) (now (loads .entry)) (now (netweights .entry)) (now (firsts .entry)) (now (loadedsizes .entry)) n m k total) average (now (ceilings .entry)) (now (calls .entry)) count (length (now (output .entry))) → Done h (now (calls .entry)) count (tables (now (counts .entry)) (now (visited .entry)) (now (gains .entry)) (now (presentpins .entry)) (now (presentsizes .entry)) (now (bits .entry)) (now (blocks .entry)) (now (weights .entry)) (now (aboves .entry)) (now (loads .entry)) (now (netweights .entry)) (now (firsts .entry)) (now (loadedsizes .entry)) n m k total)
         (tables (now (counts .exit)) (now (visited .exit)) (now (gains .exit)) (now (presentpins .exit)) (now (presentsizes .exit)) (now (bits .exit)) (now (blocks .exit)) (now (weights .exit)) (now (aboves .exit)) (now (loads .exit)) (now (netweights .exit)) (now (firsts .exit)) (now (loadedsizes .exit)) n m k (r .total)) (two (r .stack .into) (r .stack .gone) (r .stack .len)) (two (r .journal .vertices) (r .journal .blocks) (r .journal .len)) (now (output .entry)) (now (output .exit)) (r .at)) ⌝ }
 {
     let stack = Stack::new();
@@ -153,11 +154,11 @@ pub fn run_calls(
             netweights,
             firsts,
             loadedsizes,
+            ceilings,
             n,
             m,
             k,
             average,
-            capacity,
             course,
             calls[at],
             index(calls[at + 1]),

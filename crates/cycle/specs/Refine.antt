@@ -5,11 +5,12 @@ use native.Mathlib.Omega.{arith}
 use mathlib.Core.Path.{_≡_, refl, sym, ap, ap₂, _∙_, subst}
 use mathlib.Core.List.{List, [], _∷_}
 use lib.ListN.{length, getD}
-use Rattle.model.specs.Catalogue.{Hypergraph, capacity}
+use Rattle.model.specs.Catalogue.{Hypergraph}
 use Rattle.model.specs.Measure.{Contraction}
 use Rattle.model.specs.Machine.{uncontract}
 use Rattle.model.specs.Search.{Fine, walk, walked, refine}
 use Rattle.model.specs.Lent.{stackOf}
+use Rattle.guarantees.specs.Caps.{CeilingIs}
 use Rattle.guarantees.specs.Splits.{AllInside}
 use Rattle.guarantees.specs.SearchBounds.{tried-le, walk-counts}
 use Rattle.guarantees.specs.StateBounds.{stack-le}
@@ -23,22 +24,21 @@ use Rattle.walk.specs.Steps.{WalkOk, Walks, Ended}
 
 -- ---- one of them
 -- what `refine_once` asks: (u, v), counted from 0, is on top of the stack
-pub record PartOk (T : Tables) (limit u v : ℕ) : Type 0 where
+pub record PartOk (T : Tables) (u v : ℕ) : Type 0 where
   pub h : Hypergraph
   pub cs : List Contraction
   pub block : ℕ → ℕ
   pub sound : Sound h (join u v ∷ cs) block T
-  pub limit-is : limit ≡ capacity h
 
 -- what it does
-pub record Parts (T : Tables) (limit u v : ℕ) (T′ : Tables) (tried kept : ℕ) : Type 0 where
-  pub is : (h : Hypergraph) (cs : List Contraction) (block : ℕ → ℕ) → limit ≡ capacity h → Sound h (join u v ∷ cs) block T
-      → Ended h cs (walk h cs (uncontract block (join u v)) (u + 1) (v + 1)) T′ tried kept
+pub record Parts (T : Tables) (ceilings : List ℕ) (u v : ℕ) (T′ : Tables) (tried kept : ℕ) : Type 0 where
+  pub is : (h : Hypergraph) (ceiling : ℕ → ℕ) (cs : List Contraction) (block : ℕ → ℕ) → CeilingIs ceilings h ceiling → Sound h (join u v ∷ cs) block T
+      → Ended h cs (walk h ceiling cs (uncontract block (join u v)) (u + 1) (v + 1)) T′ tried kept
   pub keeps : Keeps T T′
 
 -- the parted pair is on the board
-pub walk-asks : {T : Tables} (T′ : List ℕ → List ℕ → Tables) (aboves loaded : List ℕ) {limit u v : ℕ} → PartOk T limit u v → Split T (T′ aboves loaded) u v → WalkOk T′ limit u v
-walk-asks T′ aboves loaded {limit} {u} {v} o p =
+pub walk-asks : {T : Tables} (T′ : List ℕ → List ℕ → Tables) (aboves loaded : List ℕ) {u v : ℕ} → PartOk T u v → Split T (T′ aboves loaded) u v → WalkOk T′ u v
+walk-asks T′ aboves loaded {u} {v} o p =
     let s = p .sound (o .h) (o .cs) (o .block) (o .sound) in
     let all = s .follows .says .all-vertices in
     let u-in : u < T′ aboves loaded .n = omega (arith, o .sound .inside .0 .1, all) in
@@ -51,36 +51,34 @@ walk-asks T′ aboves loaded {limit} {u} {v} o p =
       cs = o .cs;
       block = uncontract (o .block) (join u v);
       sound = s;
-      limit-is = o .limit-is;
       u-in = u-in;
       u-on = omega (arith, own-block s u u-in, in-range s u u-in (j .into-on) .0);
       v-in = v-in;
       v-on = omega (arith, own-block s v v-in, in-range s v v-in (j .gone-on) .0);
     }
 
-pub parts : {T T′ T″ : Tables} {limit u v tried kept : ℕ} → T′ .n ≡ T .n → T′ .m ≡ T .m → T′ .k ≡ T .k → T′ .firsts ≡ T .firsts → T′ .loaded ≡ T .loaded
-    → Split T T′ u v → Walks T′ limit u v T″ tried kept → Parts T limit u v T″ tried kept
+pub parts : {T T′ T″ : Tables} {ceilings : List ℕ} {u v tried kept : ℕ} → T′ .n ≡ T .n → T′ .m ≡ T .m → T′ .k ≡ T .k → T′ .firsts ≡ T .firsts → T′ .loaded ≡ T .loaded
+    → Split T T′ u v → Walks T′ ceilings u v T″ tried kept → Parts T ceilings u v T″ tried kept
 parts {u = u} {v = v} qn qm qk qf ql p w = record {
-  is = λ h cs block q s. w .is h cs (uncontract block (join u v)) q (p .sound h cs block s);
+  is = λ h ceiling cs block q s. w .is h ceiling cs (uncontract block (join u v)) q (p .sound h cs block s);
   keeps = keeps-more qn qm qk qf ql (p .keeps) (w .keeps);
 }
 
 -- a walk's numbers are small
-pub parts-few : {T T′ : Tables} {limit u v tried kept : ℕ} → PartOk T limit u v → Parts T limit u v T′ tried kept → (tried ≤ 1024) × (kept ≤ tried)
-parts-few {u = u} {v = v} o p =
-    let e = p .is (o .h) (o .cs) (o .block) (o .limit-is) (o .sound) in
+pub parts-few : {T T′ : Tables} {ceilings : List ℕ} {u v tried kept : ℕ} → PartOk T u v → Parts T ceilings u v T′ tried kept → (tried ≤ 1024) × (kept ≤ tried)
+parts-few {ceilings = ceilings} {u = u} {v = v} o p =
+    let e = p .is (o .h) (λ b. getD ceilings (b - 1) 0) (o .cs) (o .block) (λ b _ _. refl) (o .sound) in
     let q : ℕ → ℕ = uncontract (o .block) (join u v) in (
-      omega (arith, e .tried-is, tried-le (o .h) (o .cs) q (u + 1) (v + 1), o .sound .follows .says .all-vertices, o .sound .follows .room .few-vertices),
-      omega (arith, e .tried-is, e .kept-is, walk-counts (o .h) (o .cs) q (u + 1) (v + 1) .kept-le),
+      omega (arith, e .tried-is, tried-le (o .h) (λ b. getD ceilings (b - 1) 0) (o .cs) q (u + 1) (v + 1), o .sound .follows .says .all-vertices, o .sound .follows .room .few-vertices),
+      omega (arith, e .tried-is, e .kept-is, walk-counts (o .h) (λ b. getD ceilings (b - 1) 0) (o .cs) q (u + 1) (v + 1) .kept-le),
     )
 
 -- ---- all of them
 -- what `refine` asks
-pub record RefineOk (T : Tables) (limit : ℕ) (into gone : List ℕ) (len : ℕ) : Type 0 where
+pub record RefineOk (T : Tables) (into gone : List ℕ) (len : ℕ) : Type 0 where
   pub h : Hypergraph
   pub block : ℕ → ℕ
   pub sound : Sound h (stackOf into gone len) block T
-  pub limit-is : limit ≡ capacity h
   pub into-fit : length into ≡ 1024
   pub gone-fit : length gone ≡ 1024
 
@@ -91,27 +89,27 @@ pub record Fined (h : Hypergraph) (f : Fine) (T : Tables) (tried kept : ℕ) : T
   pub kept-is : kept ≡ f .kept
 
 -- what it does
-pub record Refines (T : Tables) (limit : ℕ) (into gone : List ℕ) (len : ℕ) (T′ : Tables) (tried kept : ℕ) : Type 0 where
-  pub is : (h : Hypergraph) (block : ℕ → ℕ) → limit ≡ capacity h → Sound h (stackOf into gone len) block T
-      → Fined h (refine h (stackOf into gone len) (record { block = block; tried = 0; kept = 0 })) T′ tried kept
+pub record Refines (T : Tables) (ceilings into gone : List ℕ) (len : ℕ) (T′ : Tables) (tried kept : ℕ) : Type 0 where
+  pub is : (h : Hypergraph) (ceiling block : ℕ → ℕ) → CeilingIs ceilings h ceiling → Sound h (stackOf into gone len) block T
+      → Fined h (refine h ceiling (stackOf into gone len) (record { block = block; tried = 0; kept = 0 })) T′ tried kept
   pub keeps : Keeps T T′
 
 -- with i contractions left, what is left to do leads to the same end
-pub record Behind (h : Hypergraph) (end : Fine) (into gone : List ℕ) (i : ℕ) (T : Tables) (tried kept : ℕ) : Type 0 where
+pub record Behind (h : Hypergraph) (ceiling : ℕ → ℕ) (end : Fine) (into gone : List ℕ) (i : ℕ) (T : Tables) (tried kept : ℕ) : Type 0 where
   pub there : ℕ → ℕ
   pub sound : Sound h (stackOf into gone i) there T
-  pub same : end ≡ refine h (stackOf into gone i) (record { block = there; tried = tried; kept = kept })
+  pub same : end ≡ refine h ceiling (stackOf into gone i) (record { block = there; tried = tried; kept = kept })
 
-pub record Refining (T : Tables) (limit : ℕ) (into gone : List ℕ) (len i : ℕ) (T′ : Tables) (tried kept : ℕ) : Type 0 where
-  pub is : (h : Hypergraph) (block : ℕ → ℕ) → limit ≡ capacity h → Sound h (stackOf into gone len) block T
-      → Behind h (refine h (stackOf into gone len) (record { block = block; tried = 0; kept = 0 })) into gone i T′ tried kept
+pub record Refining (T : Tables) (ceilings into gone : List ℕ) (len i : ℕ) (T′ : Tables) (tried kept : ℕ) : Type 0 where
+  pub is : (h : Hypergraph) (ceiling block : ℕ → ℕ) → CeilingIs ceilings h ceiling → Sound h (stackOf into gone len) block T
+      → Behind h ceiling (refine h ceiling (stackOf into gone len) (record { block = block; tried = 0; kept = 0 })) into gone i T′ tried kept
   pub keeps : Keeps T T′
 
-pub refining-none : (T : Tables) (limit : ℕ) (into gone : List ℕ) (len : ℕ) → Refining T limit into gone len len T 0 0
-refining-none T limit into gone len = record { is = λ h block q s. record { there = block; sound = s; same = refl }; keeps = keeps-none T }
+pub refining-none : (T : Tables) (ceilings into gone : List ℕ) (len : ℕ) → Refining T ceilings into gone len len T 0 0
+refining-none T ceilings into gone len = record { is = λ h ceiling block q s. record { there = block; sound = s; same = refl }; keeps = keeps-none T }
 
 -- the stack's length
-pub stack-to : {T : Tables} {limit : ℕ} {into gone : List ℕ} {len : ℕ} → RefineOk T limit into gone len → len ≤ 1024
+pub stack-to : {T : Tables} {into gone : List ℕ} {len : ℕ} → RefineOk T into gone len → len ≤ 1024
 stack-to {into = into} {gone = gone} {len = len} o = omega (
   arith,
   stack-le (o .h) (stackOf into gone len) (o .sound .follows .says .sound) (o .sound .inside),
@@ -132,61 +130,60 @@ module _ {h : Hypergraph} {block : ℕ → ℕ} {T : Tables} (into gone : List �
       pairs-some (λ u v. record { into = u; gone = v }) into gone i l
       ∙ ap₂ (λ (x y : ℕ). record { into = x; gone = y } ∷ stackOf into gone (i - 1)) a b
 
-pub part-asks : {T T′ : Tables} {limit : ℕ} {into gone : List ℕ} {len : ℕ} (i : ℕ) {tried kept u v : ℕ} → RefineOk T limit into gone len → Refining T limit into gone len i T′ tried kept → 1 ≤ i
-    → u ≡ getD into (i - 1) 0 - 1 → v ≡ getD gone (i - 1) 0 - 1 → PartOk T′ limit u v
-part-asks {T′ = T′} {into = into} {gone = gone} i {u = u} {v = v} o r l qu qv =
-    let b = r .is (o .h) (o .block) (o .limit-is) (o .sound) in
+pub part-asks : {T T′ : Tables} {ceilings into gone : List ℕ} {len : ℕ} (i : ℕ) {tried kept u v : ℕ} → RefineOk T into gone len → Refining T ceilings into gone len i T′ tried kept → 1 ≤ i
+    → u ≡ getD into (i - 1) 0 - 1 → v ≡ getD gone (i - 1) 0 - 1 → PartOk T′ u v
+part-asks {T′ = T′} {ceilings} {into = into} {gone = gone} i {u = u} {v = v} o r l qu qv =
+    let b = r .is (o .h) (λ b. getD ceilings (b - 1) 0) (o .block) (λ b _ _. refl) (o .sound) in
     record {
       h = o .h;
       cs = stackOf into gone (i - 1);
       block = b .there;
       sound = subst (λ (cs : List Contraction). Sound (o .h) cs (b .there) T′) (top-is into gone i l (b .sound) u v qu qv) (b .sound);
-      limit-is = o .limit-is;
     }
 
-pub top-asks : {T T′ : Tables} {limit : ℕ} {into gone : List ℕ} {len : ℕ} (i : ℕ) {tried kept : ℕ} → RefineOk T limit into gone len → Refining T limit into gone len i T′ tried kept → 1 ≤ i
+pub top-asks : {T T′ : Tables} {ceilings into gone : List ℕ} {len : ℕ} (i : ℕ) {tried kept : ℕ} → RefineOk T into gone len → Refining T ceilings into gone len i T′ tried kept → 1 ≤ i
     → (1 ≤ getD into (i - 1) 0) × (1 ≤ getD gone (i - 1) 0)
-top-asks {into = into} {gone = gone} i o r l = top-from into gone i l (r .is (o .h) (o .block) (o .limit-is) (o .sound) .sound)
+top-asks {ceilings = ceilings} {into = into} {gone = gone} i o r l = top-from into gone i l (r .is (o .h) (λ b. getD ceilings (b - 1) 0) (o .block) (λ b _ _. refl) (o .sound) .sound)
 
-refine-step : (h : Hypergraph) (u v : ℕ) (cs : List Contraction) (block : ℕ → ℕ) (tried kept a b : ℕ) → a ≡ walk h cs (uncontract block (join u v)) (u + 1) (v + 1) .tried → b ≡ walk h cs (uncontract block (join u v)) (u + 1) (v + 1) .kept
-    → refine h (join u v ∷ cs) (record { block = block; tried = tried; kept = kept })
-    ≡ refine h cs (record { block = walked h cs (walk h cs (uncontract block (join u v)) (u + 1) (v + 1)); tried = tried + a; kept = kept + b })
+refine-step : (h : Hypergraph) (ceiling : ℕ → ℕ) (u v : ℕ) (cs : List Contraction) (block : ℕ → ℕ) (tried kept a b : ℕ) → a ≡ walk h ceiling cs (uncontract block (join u v)) (u + 1) (v + 1) .tried → b ≡ walk h ceiling cs (uncontract block (join u v)) (u + 1) (v + 1) .kept
+    → refine h ceiling (join u v ∷ cs) (record { block = block; tried = tried; kept = kept })
+    ≡ refine h ceiling cs (record { block = walked h cs (walk h ceiling cs (uncontract block (join u v)) (u + 1) (v + 1)); tried = tried + a; kept = kept + b })
 unfolding refine
-refine-step h u v cs block tried kept a b qa qb =
-    ap₂ (λ (x y : ℕ). refine h cs (record { block = walked h cs (walk h cs (uncontract block (join u v)) (u + 1) (v + 1)); tried = tried + x; kept = kept + y })) (sym qa) (sym qb)
+refine-step h ceiling u v cs block tried kept a b qa qb =
+    ap₂ (λ (x y : ℕ). refine h ceiling cs (record { block = walked h cs (walk h ceiling cs (uncontract block (join u v)) (u + 1) (v + 1)); tried = tried + x; kept = kept + y })) (sym qa) (sym qb)
 
-pub refining-more : {T T′ T″ : Tables} {limit : ℕ} {into gone : List ℕ} {len : ℕ} (i : ℕ) {tried kept u v a b tried′ kept′ : ℕ} → T′ .n ≡ T .n → T′ .m ≡ T .m → T′ .k ≡ T .k → T′ .firsts ≡ T .firsts → T′ .loaded ≡ T .loaded
-    → Refining T limit into gone len i T′ tried kept → 1 ≤ i → u ≡ getD into (i - 1) 0 - 1 → v ≡ getD gone (i - 1) 0 - 1 → Parts T′ limit u v T″ a b → tried′ ≡ tried + a → kept′ ≡ kept + b
-    → Refining T limit into gone len (i - 1) T″ tried′ kept′
+pub refining-more : {T T′ T″ : Tables} {ceilings into gone : List ℕ} {len : ℕ} (i : ℕ) {tried kept u v a b tried′ kept′ : ℕ} → T′ .n ≡ T .n → T′ .m ≡ T .m → T′ .k ≡ T .k → T′ .firsts ≡ T .firsts → T′ .loaded ≡ T .loaded
+    → Refining T ceilings into gone len i T′ tried kept → 1 ≤ i → u ≡ getD into (i - 1) 0 - 1 → v ≡ getD gone (i - 1) 0 - 1 → Parts T′ ceilings u v T″ a b → tried′ ≡ tried + a → kept′ ≡ kept + b
+    → Refining T ceilings into gone len (i - 1) T″ tried′ kept′
 refining-more {T′ = T′} {T″ = T″} {into = into} {gone = gone} i {tried} {kept} {u} {v} {a} {b} {tried′} {kept′} qn qm qk qf ql r l qu qv p qt qp = record {
-  is = λ h block q s.
-      let x = r .is h block q s in
+  is = λ h ceiling block q s.
+      let x = r .is h ceiling block q s in
       let top = top-is into gone i l (x .sound) u v qu qv in
-      let e = p .is h (stackOf into gone (i - 1)) (x .there) q (subst (λ (cs : List Contraction). Sound h cs (x .there) T′) top (x .sound)) in
-      let new : ℕ → ℕ = walked h (stackOf into gone (i - 1)) (walk h (stackOf into gone (i - 1)) (uncontract (x .there) (join u v)) (u + 1) (v + 1)) in
+      let e = p .is h ceiling (stackOf into gone (i - 1)) (x .there) q (subst (λ (cs : List Contraction). Sound h cs (x .there) T′) top (x .sound)) in
+      let new : ℕ → ℕ = walked h (stackOf into gone (i - 1)) (walk h ceiling (stackOf into gone (i - 1)) (uncontract (x .there) (join u v)) (u + 1) (v + 1)) in
       record {
         there = new;
         sound = e .sound;
         same =
             x .same
-            ∙ ap (λ (cs : List Contraction). refine h cs (record { block = x .there; tried = tried; kept = kept })) top
-            ∙ refine-step h u v (stackOf into gone (i - 1)) (x .there) tried kept a b (e .tried-is) (e .kept-is)
-            ∙ ap₂ (λ (y z : ℕ). refine h (stackOf into gone (i - 1)) (record { block = new; tried = y; kept = z })) (sym qt) (sym qp);
+            ∙ ap (λ (cs : List Contraction). refine h ceiling cs (record { block = x .there; tried = tried; kept = kept })) top
+            ∙ refine-step h ceiling u v (stackOf into gone (i - 1)) (x .there) tried kept a b (e .tried-is) (e .kept-is)
+            ∙ ap₂ (λ (y z : ℕ). refine h ceiling (stackOf into gone (i - 1)) (record { block = new; tried = y; kept = z })) (sym qt) (sym qp);
       };
   keeps = keeps-more qn qm qk qf ql (r .keeps) (p .keeps);
 }
 
-refine-end : (h : Hypergraph) (f : Fine) → refine h [] f ≡ f
+refine-end : (h : Hypergraph) (ceiling : ℕ → ℕ) (f : Fine) → refine h ceiling [] f ≡ f
 unfolding refine
-refine-end h f = refl
+refine-end h ceiling f = refl
 
-pub refining-done : {T T′ : Tables} {limit : ℕ} {into gone : List ℕ} {len : ℕ} (i : ℕ) {tried kept : ℕ} → Refining T limit into gone len i T′ tried kept → i ≡ 0 → Refines T limit into gone len T′ tried kept
+pub refining-done : {T T′ : Tables} {ceilings into gone : List ℕ} {len : ℕ} (i : ℕ) {tried kept : ℕ} → Refining T ceilings into gone len i T′ tried kept → i ≡ 0 → Refines T ceilings into gone len T′ tried kept
 refining-done {T′ = T′} {into = into} {gone = gone} i {tried} {kept} r z = record {
-  is = λ h block q s.
-      let x = r .is h block q s in
+  is = λ h ceiling block q s.
+      let x = r .is h ceiling block q s in
       let bare : stackOf into gone i ≡ [] = ap (stackOf into gone) z ∙ pairs-none (λ u v. record { into = u; gone = v }) into gone in
       let f : Fine = record { block = x .there; tried = tried; kept = kept } in
-      let e = x .same ∙ ap (λ (cs : List Contraction). refine h cs f) bare ∙ refine-end h f in
+      let e = x .same ∙ ap (λ (cs : List Contraction). refine h ceiling cs f) bare ∙ refine-end h ceiling f in
       subst (λ (g : Fine). Fined h g T′ tried kept) (sym e) (record {
         sound = subst (λ (cs : List Contraction). Sound h cs (x .there) T′) bare (x .sound);
         tried-is = refl;

@@ -39,15 +39,15 @@ fn descend(
     netweights: &[u16],
     firsts: &[u16],
     loadedsizes: &[u16],
+    ceilings: &[u64; 16],
     n: usize,
     m: usize,
     k: usize,
     average: u64,
-    capacity: u64,
     total: u32,
 ) -> Descent
-    requires { ⌜ CycleOk (tables (now counts) (now visited) (now gains) (now presentpins) (now presentsizes) (now bits) (now blocks) (now weights) (now aboves) (now loads) (now netweights) (now firsts) (now loadedsizes) n m k total) average capacity ⌝ }
-    ensures { λ r. ⌜ Levels (tables (now (counts .entry)) (now (visited .entry)) (now (gains .entry)) (now (presentpins .entry)) (now (presentsizes .entry)) (now (bits .entry)) (now (blocks .entry)) (now (weights .entry)) (now (aboves .entry)) (now (loads .entry)) (now (netweights .entry)) (now (firsts .entry)) (now (loadedsizes .entry)) n m k total) average capacity
+    requires { ⌜ CycleOk (tables (now counts) (now visited) (now gains) (now presentpins) (now presentsizes) (now bits) (now blocks) (now weights) (now aboves) (now loads) (now netweights) (now firsts) (now loadedsizes) n m k total) average ⌝ }
+    ensures { λ r. ⌜ Levels (tables (now (counts .entry)) (now (visited .entry)) (now (gains .entry)) (now (presentpins .entry)) (now (presentsizes .entry)) (now (bits .entry)) (now (blocks .entry)) (now (weights .entry)) (now (aboves .entry)) (now (loads .entry)) (now (netweights .entry)) (now (firsts .entry)) (now (loadedsizes .entry)) n m k total) average (now (ceilings .entry))
         (tables (now (counts .exit)) (now (visited .exit)) (now (gains .exit)) (now (presentpins .exit)) (now (presentsizes .exit)) (now (bits .exit)) (now (blocks .exit)) (now (weights .exit)) (now (aboves .exit)) (now (loads .exit)) (now (netweights .exit)) (now (firsts .exit)) (now (loadedsizes .exit)) n m k (r .total)) (r .joins) (r .tried) (r .kept) ⌝ }
 {
     let stack = coarsen(
@@ -83,10 +83,10 @@ fn descend(
         netweights,
         firsts,
         loadedsizes,
+        ceilings,
         n,
         m,
         k,
-        capacity,
         total,
         stack,
     );
@@ -113,15 +113,15 @@ pub fn run(
     netweights: &[u16],
     firsts: &[u16],
     loadedsizes: &[u16],
+    ceilings: &[u64; 16],
     n: usize,
     m: usize,
     k: usize,
     average: u64,
-    capacity: u64,
     total: u32,
 ) -> Cycled
-    requires { ⌜ CycleOk (tables (now counts) (now visited) (now gains) (now presentpins) (now presentsizes) (now bits) (now blocks) (now weights) (now aboves) (now loads) (now netweights) (now firsts) (now loadedsizes) n m k total) average capacity ⌝ }
-    ensures { λ r. ⌜ Does (tables (now (counts .entry)) (now (visited .entry)) (now (gains .entry)) (now (presentpins .entry)) (now (presentsizes .entry)) (now (bits .entry)) (now (blocks .entry)) (now (weights .entry)) (now (aboves .entry)) (now (loads .entry)) (now (netweights .entry)) (now (firsts .entry)) (now (loadedsizes .entry)) n m k total) average capacity
+    requires { ⌜ CycleOk (tables (now counts) (now visited) (now gains) (now presentpins) (now presentsizes) (now bits) (now blocks) (now weights) (now aboves) (now loads) (now netweights) (now firsts) (now loadedsizes) n m k total) average ⌝ }
+    ensures { λ r. ⌜ Does (tables (now (counts .entry)) (now (visited .entry)) (now (gains .entry)) (now (presentpins .entry)) (now (presentsizes .entry)) (now (bits .entry)) (now (blocks .entry)) (now (weights .entry)) (now (aboves .entry)) (now (loads .entry)) (now (netweights .entry)) (now (firsts .entry)) (now (loadedsizes .entry)) n m k total) average (now (ceilings .entry))
         (tables (now (counts .exit)) (now (visited .exit)) (now (gains .exit)) (now (presentpins .exit)) (now (presentsizes .exit)) (now (bits .exit)) (now (blocks .exit)) (now (weights .exit)) (now (aboves .exit)) (now (loads .exit)) (now (netweights .exit)) (now (firsts .exit)) (now (loadedsizes .exit)) n m k (r .total)) (r .joins) (r .tried) (r .kept) (r .moves) ⌝ }
 {
     let d = descend(
@@ -138,11 +138,11 @@ pub fn run(
         netweights,
         firsts,
         loadedsizes,
+        ceilings,
         n,
         m,
         k,
         average,
-        capacity,
         total,
     );
     let p = polish(
@@ -157,10 +157,10 @@ pub fn run(
         weights,
         netweights,
         firsts,
+        ceilings,
         n,
         m,
         k,
-        capacity,
         d.total,
     );
     Cycled {

@@ -4,10 +4,10 @@ use native.Mathlib.Omega.{arith}
 use mathlib.Core.Path.{_≡_, refl, sym, ap, _∙_, subst}
 use mathlib.Core.List.{List}
 use lib.ListN.{length, set}
-use Rattle.model.specs.Catalogue.{Hypergraph, capacity}
+use Rattle.model.specs.Catalogue.{Hypergraph}
 use Rattle.model.specs.Measure.{Contraction}
 use Rattle.model.specs.Machine.{Call, Answer, State, Step, settle}
-use Rattle.model.specs.Search.{call}
+use Rattle.model.specs.Search.{callUnder}
 use Rattle.model.specs.Report.{refusal}
 use Rattle.model.specs.Lent.{Two}
 use Rattle.guarantees.specs.StateBounds.{stack-le}
@@ -32,14 +32,10 @@ pub record ReadyM (T : List ℕ → List ℕ → Tables) (J : Two) : Type 0 wher
   pub stack : Two
   pub ready : Ready (T aboves loaded) stack J
 
--- the capacity that M is told is the catalogue's
-abbrev pub CapacityIs : ℕ → Hypergraph → Type 0
-CapacityIs x h = x ≡ capacity h
-
--- what a call does: whatever state of the catalogue h the sale ran in, it runs in the machine's next one, with the machine's answer, and
+-- what a call under a ceiling does: whatever state of the catalogue h the sale ran in, it runs in the machine's next one, with the machine's answer, and
 -- what is not in use is untouched; a refused call leaves every entry, the stack and the journal as they were
-pub record Called (h : Hypergraph) (T T′ : Tables) (S S′ J J′ : Two) (c : Call) (a : Answer) : Type 0 where
-  pub steps : (s : State) → Runs h s T S J → Stepped h s c T′ S′ J J′ a
+pub record Called (h : Hypergraph) (ceiling : ℕ → ℕ) (T T′ : Tables) (S S′ J J′ : Two) (c : Call) (a : Answer) : Type 0 where
+  pub steps : (s : State) → Runs h s T S J → Stepped h ceiling s c T′ S′ J J′ a
   pub keeps : (s : State) → Runs h s T S J → Keeps T T′
   pub unchanged : 1 ≤ refusal a → (T′ ≡ T) × (S′ ≡ S) × (J′ ≡ J)
 
@@ -55,16 +51,16 @@ pub record Cleared (J J′ : Two) : Type 0 where
   pub len-is : J′ .len ≡ 0
 
 -- ---- a step of the machine, once it is known which
-pub stepped : {h : Hypergraph} {s : State} {T T′ : Tables} {S S′ J J′ : Two} {a : Answer} (c : Call) (to : Step) → call h s c ≡ to → Runs h s T S J → Moves h s (to .state) T′ S′ J′ → a ≡ to .answer → J′ .len ≤ J .len + 1
-    → Stepped h s c T′ S′ J J′ a
-stepped {h} {s} {T′ = T′} {S′ = S′} {J′ = J′} c to e r m q l = record {
-  runs = runs-call c r (subst (λ (x : Step). Moves h s (x .state) T′ S′ J′) (sym e) m);
+pub stepped : {h : Hypergraph} {ceiling : ℕ → ℕ} {s : State} {T T′ : Tables} {S S′ J J′ : Two} {a : Answer} (c : Call) (to : Step) → callUnder h ceiling s c ≡ to → Runs h s T S J → Moves h s (to .state) T′ S′ J′ → a ≡ to .answer → J′ .len ≤ J .len + 1
+    → Stepped h ceiling s c T′ S′ J J′ a
+stepped {h} {ceiling} {s} {T′ = T′} {S′ = S′} {J′ = J′} c to e r m q l = record {
+  runs = runs-call ceiling c r (subst (λ (x : Step). Moves h s (x .state) T′ S′ J′) (sym e) m);
   says = q ∙ sym (ap (λ (x : Step). x .answer) e);
   longer = l;
 }
 
 -- ---- a refused call
-pub refused : {h : Hypergraph} {s : State} {T : Tables} {S J : Two} {a : Answer} (c : Call) → call h s c ≡ record { state = s; answer = a } → Runs h s T S J → Stepped h s c T S J J a
+pub refused : {h : Hypergraph} {ceiling : ℕ → ℕ} {s : State} {T : Tables} {S J : Two} {a : Answer} (c : Call) → callUnder h ceiling s c ≡ record { state = s; answer = a } → Runs h s T S J → Stepped h ceiling s c T S J J a
 refused c e r = stepped c _ e r (record { sound = r .sound; stack-is = r .stack-is; journal-is = r .journal-is; stack-whole = r .stack-whole; journal-whole = r .journal-whole }) refl (omega arith)
 
 pub settle-no : (q : ℕ) (s : State) (done : Step) (a : Answer) → (q ≡ 0 → ⊥) → settle q s done ≡ record { state = s; answer = told q a }

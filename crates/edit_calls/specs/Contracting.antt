@@ -13,7 +13,7 @@ use Rattle.model.specs.Catalogue.{Hypergraph}
 use Rattle.model.specs.Measure.{Contraction, above, weight}
 use Rattle.model.specs.Machine.{callJ, callS, saysJ, saysS, saysNO, State, settle, refusesJ, contract, doesJ, uncontract, doesS}
 use Rattle.model.specs.Report.{refusal}
-use Rattle.model.specs.Search.{call}
+use Rattle.model.specs.Search.{callUnder}
 use Rattle.model.specs.Lent.{stackOf, journalOf, Two}
 use Rattle.guarantees.specs.Splits.{AllInside, into-on}
 use Rattle.pins.specs.Board.{join}
@@ -66,8 +66,8 @@ pair-of blocks n u v q =
       },
     )
 
-pub refused-J : {h : Hypergraph} (T : Tables) {S J : Two} (u v q w : ℕ) → q ≡ refusalJ (T .blocks) (T .n) u v → (q ≡ 0 → ⊥) → Called h T T S S J J (callJ u v) (told q (saysJ w))
-unfolding call
+pub refused-J : {h : Hypergraph} {ceiling : ℕ → ℕ} (T : Tables) {S J : Two} (u v q w : ℕ) → q ≡ refusalJ (T .blocks) (T .n) u v → (q ≡ 0 → ⊥) → Called h ceiling T T S S J J (callJ u v) (told q (saysJ w))
+unfolding callUnder
 refused-J {h} T u v q w e n = record {
   steps = λ s r. refused (callJ u v) (ap (λ (z : ℕ). settle z s (doesJ h s u v)) (sym (e ∙ refusalJ-is (r .sound) s refl refl u v)) ∙ settle-no q s (doesJ h s u v) (saysJ w) n) r;
   keeps = λ s r. keeps-none T;
@@ -101,8 +101,8 @@ module _ (h : Hypergraph) (T T′ : Tables) (S S′ J J′ : Two) (u v : ℕ) (e
         pairs-push (λ x y. record { into = x; gone = y }) (omega (arith, stack-room r, r .stack-whole .xs-whole)) (omega (arith, stack-room r, r .stack-whole .ys-whole)) p
         ∙ ap (λ (l : List Contraction). record { into = u; gone = v } ∷ l) (r .stack-is)
 
-  pub accepted-J : (w : ℕ) → w ≡ getD (T′ .weights) (u - 1) 0 → Called h T T′ S S′ J J′ (callJ u v) (saysJ w)
-  unfolding call doesJ contract refusal
+  pub accepted-J : {ceiling : ℕ → ℕ} (w : ℕ) → w ≡ getD (T′ .weights) (u - 1) 0 → Called h ceiling T T′ S S′ J J′ (callJ u v) (saysJ w)
+  unfolding callUnder doesJ contract refusal
   accepted-J w q = record {
     steps = λ s r. stepped (callJ u v) (doesJ h s u v) (settle-yes (refusesJ h s u v) s (doesJ h s u v) (sym (refusalJ-is (r .sound) s refl refl u v) ∙ e)) r (record {
       sound = sound-J s r;
@@ -123,8 +123,8 @@ topJoin S = record { into = getD (S .xs) (S .len - 1) 0; gone = getD (S .ys) (S 
 abbrev lower : Two → List Contraction
 lower S = stackOf (S .xs) (S .ys) (S .len - 1)
 
-pub refused-S : {h : Hypergraph} (T : Tables) {S J : Two} → S .len ≡ 0 → Called h T T S S J J callS (saysNO 15)
-unfolding call doesS
+pub refused-S : {h : Hypergraph} {ceiling : ℕ → ℕ} (T : Tables) {S J : Two} → S .len ≡ 0 → Called h ceiling T T S S J J callS (saysNO 15)
+unfolding callUnder doesS
 refused-S {h} T {S} q = record {
   steps = λ s r. refused callS (ap (doesS s) (sym (r .stack-is) ∙ ap (stackOf (S .xs) (S .ys)) q ∙ pairs-none (λ x y. record { into = x; gone = y }) (S .xs) (S .ys))) r;
   keeps = λ s r. keeps-none T;
@@ -164,8 +164,8 @@ module _ (h : Hypergraph) (T T′ : Tables) (S S′ J J′ : Two) (l : 1 ≤ S .
   stack-S : stackOf (S′ .xs) (S′ .ys) (S′ .len) ≡ lower S
   stack-S = rw (p .xs-same, p .ys-same, p .len-is)
 
-  pub accepted-S : (x y : ℕ) → x ≡ topJoin S .into → y ≡ topJoin S .gone → Called h T T′ S S′ J J′ callS (saysS x y)
-  unfolding call doesS refusal
+  pub accepted-S : {ceiling : ℕ → ℕ} (x y : ℕ) → x ≡ topJoin S .into → y ≡ topJoin S .gone → Called h ceiling T T′ S S′ J J′ callS (saysS x y)
+  unfolding callUnder doesS refusal
   accepted-S x y qx qy = record {
     steps = λ s r. stepped callS (doesS s (topJoin S ∷ lower S)) (ap (doesS s) (stack-top r l)) r (record {
       sound = sound-S s r;

@@ -10,13 +10,14 @@ use lib.IntN.{ℤ}
 use lib.ListN.{getD}
 use Rattle.laws.specs.Choice.{cond-zero}
 use Rattle.laws.specs.Place.{place}
-use Rattle.model.specs.Catalogue.{Hypergraph, capacity}
+use Rattle.model.specs.Catalogue.{Hypergraph}
 use Rattle.model.specs.Measure.{above, gain}
 use Rattle.model.specs.Machine.{callM, callB, saysM, saysB, saysNO, Move, State, settle, refusesM, doesM, doesB}
 use Rattle.model.specs.Report.{refusal}
-use Rattle.model.specs.Search.{call}
+use Rattle.model.specs.Search.{callUnder}
 use Rattle.model.specs.Lent.{journalOf, Two}
 use Rattle.guarantees.specs.Calls.{Recorded}
+use Rattle.guarantees.specs.Caps.{CeilingIs}
 use Rattle.guarantees.specs.StateBounds.{Listed}
 use Rattle.guarantees.specs.Reversals.{Apart}
 use Rattle.connectivity.specs.Raised.{at}
@@ -31,9 +32,9 @@ use Rattle.edit_calls.specs.Contracting.{above-none, popped-whole, pushe
 
 -- ---- M
 -- an accepted M names a vertex on the board and another block than its own
-pub open-of : (blocks loads weights : List ℕ) (n k cap u t : ℕ) → refusalM blocks loads weights n k cap u t ≡ 0 → (1 ≤ u) × Open blocks n k (u - 1) t
+pub open-of : (blocks loads ceilings weights : List ℕ) (n k u t : ℕ) → refusalM blocks loads ceilings weights n k u t ≡ 0 → (1 ≤ u) × Open blocks n k (u - 1) t
 unfolding refusalM
-open-of blocks loads weights n k cap u t q =
+open-of blocks loads ceilings weights n k u t q =
     let a = cond-zero (not (known n u && known k t)) 9 _ (omega arith) q in
     let b = cond-zero (not (here blocks u)) 10 _ (omega arith) (a .1) in
     let d = cond-zero (eqb (getD blocks (u - 1) 0) t) 12 _ (omega arith) (b .1) in
@@ -47,21 +48,21 @@ open-of blocks loads weights n k cap u t q =
       },
     )
 
-pub refused-M : {h : Hypergraph} (T : Tables) {S J : Two} (cap u t q total : ℕ) (g : ℤ) → cap ≡ capacity h → q ≡ refusalM (T .blocks) (T .loads) (T .weights) (T .n) (T .k) cap u t → (q ≡ 0 → ⊥)
-    → Called h T T S S J J (callM u t) (told q (saysM g total))
-unfolding call
-refused-M {h} T cap u t q total g qc e n = record {
+pub refused-M : {h : Hypergraph} {ceiling : ℕ → ℕ} (T : Tables) {S J : Two} (ceilings : List ℕ) (u t q total : ℕ) (g : ℤ) → CeilingIs ceilings h ceiling → q ≡ refusalM (T .blocks) (T .loads) ceilings (T .weights) (T .n) (T .k) u t → (q ≡ 0 → ⊥)
+    → Called h ceiling T T S S J J (callM u t) (told q (saysM g total))
+unfolding callUnder
+refused-M {h} {ceiling} T ceilings u t q total g qc e n = record {
   steps = λ s r. refused (callM u t)
-      (ap (λ (z : ℕ). settle z s (doesM h s u t)) (sym (e ∙ ap (λ (z : ℕ). refusalM (T .blocks) (T .loads) (T .weights) (T .n) (T .k) z u t) qc ∙ refusalM-is (r .sound) s refl refl u t))
+      (ap (λ (z : ℕ). settle z s (doesM h s u t)) (sym (e ∙ refusalM-is (r .sound) ceiling ceilings qc s refl refl u t))
       ∙ settle-no q s (doesM h s u t) (saysM g total) n) r;
   keeps = λ s r. keeps-none T;
   unchanged = λ _. (refl, refl, refl);
 }
 
-module _ (h : Hypergraph) (T T′ : Tables) (S J J′ : Two) (cap u t b f : ℕ) (qc : cap ≡ capacity h) (e : refusalM (T .blocks) (T .loads) (T .weights) (T .n) (T .k) cap u t ≡ 0) (qb : b ≡ t) (w : Went T T′ (u - 1) b)
+module _ (h : Hypergraph) (T T′ : Tables) (S J J′ : Two) (ceilings : List ℕ) (u t b f : ℕ) (e : refusalM (T .blocks) (T .loads) ceilings (T .weights) (T .n) (T .k) u t ≡ 0) (qb : b ≡ t) (w : Went T T′ (u - 1) b)
     (room : J .len < 1024) (qf : f ≡ getD (T .blocks) (u - 1) 0) (p : Pushed (J .xs) (J .ys) (J .len) u f (J′ .xs) (J′ .ys) (J′ .len)) where
   ok : (1 ≤ u) × Open (T .blocks) (T .n) (T .k) (u - 1) t
-  ok = open-of (T .blocks) (T .loads) (T .weights) (T .n) (T .k) cap u t e
+  ok = open-of (T .blocks) (T .loads) ceilings (T .weights) (T .n) (T .k) u t e
 
   u-is : u - 1 + 1 ≡ u
   u-is = omega (arith, ok .0)
@@ -78,11 +79,11 @@ module _ (h : Hypergraph) (T T′ : Tables) (S J J′ : Two) (cap u t b f : ℕ)
         pairs-push (λ v x. record { vertex = v; from = x }) (omega (arith, room, r .journal-whole .xs-whole)) (omega (arith, room, r .journal-whole .ys-whole)) p
         ∙ ap₂ (λ (x : ℕ) (l : List Move). record { vertex = u; from = x } ∷ l) from-M (r .journal-is)
 
-  pub accepted-M : (g : ℤ) → g ≡ at (T .gains) (16 * (u - 1) + (t - 1)) → Called h T T′ S S J J′ (callM u t) (saysM g (T′ .total))
-  unfolding call doesM refusal
-  accepted-M g q = record {
+  pub accepted-M : {ceiling : ℕ → ℕ} → CeilingIs ceilings h ceiling → (g : ℤ) → g ≡ at (T .gains) (16 * (u - 1) + (t - 1)) → Called h ceiling T T′ S S J J′ (callM u t) (saysM g (T′ .total))
+  unfolding callUnder doesM refusal
+  accepted-M {ceiling} qc g q = record {
     steps = λ s r. stepped (callM u t) (doesM h s u t)
-        (settle-yes (refusesM h s u t) s (doesM h s u t) (sym (ap (λ (z : ℕ). refusalM (T .blocks) (T .loads) (T .weights) (T .n) (T .k) z u t) qc ∙ refusalM-is (r .sound) s refl refl u t) ∙ e))
+        (settle-yes (refusesM h ceiling s u t) s (doesM h s u t) (sym (refusalM-is (r .sound) ceiling ceilings qc s refl refl u t) ∙ e))
         r (record {
           sound = sound-M s r;
           stack-is = r .stack-is;
@@ -111,8 +112,8 @@ lastMove J = record { vertex = getD (J .xs) (J .len - 1) 0; from = getD (J .ys) 
 abbrev earlier : Two → List Move
 earlier J = journalOf (J .xs) (J .ys) (J .len - 1)
 
-pub refused-B : {h : Hypergraph} (T : Tables) {S J : Two} → J .len ≡ 0 → Called h T T S S J J callB (saysNO 15)
-unfolding call doesB
+pub refused-B : {h : Hypergraph} {ceiling : ℕ → ℕ} (T : Tables) {S J : Two} → J .len ≡ 0 → Called h ceiling T T S S J J callB (saysNO 15)
+unfolding callUnder doesB
 refused-B {h} T {J = J} q = record {
   steps = λ s r. refused callB (ap (doesB h s) (sym (r .journal-is) ∙ ap (journalOf (J .xs) (J .ys)) q ∙ pairs-none (λ v x. record { vertex = v; from = x }) (J .xs) (J .ys))) r;
   keeps = λ s r. keeps-none T;
@@ -160,8 +161,8 @@ module _ (h : Hypergraph) (T T′ : Tables) (S J J′ : Two) (l : 1 ≤ J .len) 
   journal-B : journalOf (J′ .xs) (J′ .ys) (J′ .len) ≡ earlier J
   journal-B = rw (p .xs-same, p .ys-same, p .len-is)
 
-  pub accepted-B : (x y : ℕ) → x ≡ lastMove J .vertex → y ≡ lastMove J .from → Called h T T′ S S J J′ callB (saysB x y (T′ .total))
-  unfolding call doesB refusal
+  pub accepted-B : {ceiling : ℕ → ℕ} (x y : ℕ) → x ≡ lastMove J .vertex → y ≡ lastMove J .from → Called h ceiling T T′ S S J J′ callB (saysB x y (T′ .total))
+  unfolding callUnder doesB refusal
   accepted-B x y qx qy = record {
     steps = λ s r. stepped callB (doesB h s (lastMove J ∷ earlier J)) (ap (doesB h s) (journal-top r l)) r (record {
       sound = sound-B s r;

@@ -9,10 +9,11 @@ use borrow.Author.Tests.{eq-eqb, ne-eqb, leb-true, leb-false, le-leb, lt-leb, eq
 use lib.Dec.{eqb, leb}
 use lib.ListN.{getD}
 use Rattle.laws.specs.Choice.{and-left, and-right}
-use Rattle.model.specs.Catalogue.{Hypergraph, vertices, isVertex, isBlock, capacity}
+use Rattle.model.specs.Catalogue.{Hypergraph, vertices, isVertex, isBlock}
 use Rattle.model.specs.Measure.{Contraction, above, onBoard, weight, blockWeight, hasRoom}
 use Rattle.model.specs.Machine.{State, refusesJ, refusesM}
 use Rattle.model.specs.Search.{refusesW}
+use Rattle.guarantees.specs.Caps.{CeilingIs}
 use Rattle.operations.specs.Tables.{Tables, Sound}
 use Rattle.operations.specs.Move.{own-block, own-weight, in-range}
 
@@ -24,9 +25,9 @@ known n u = leb 1 u && leb u n
 abbrev pub here : List ℕ → ℕ → Bool
 here blocks u = not (eqb (getD blocks (u - 1) 0) 0)
 
--- there is room for u in t under the capacity
-abbrev pub roomIn : List ℕ → List ℕ → ℕ → ℕ → ℕ → Bool
-roomIn loads weights cap u t = leb (getD loads (t - 1) 0 + getD weights (u - 1) 0) cap
+-- there is room for u in t under its ceiling
+abbrev pub roomIn : (loads ceilings weights : List ℕ) → ℕ → ℕ → Bool
+roomIn loads ceilings weights u t = leb (getD loads (t - 1) 0 + getD weights (u - 1) 0) (getD ceilings (t - 1) 0)
 
 -- J: 9, 11, 10, 13
 unfoldable pub refusalJ : List ℕ → ℕ → ℕ → ℕ → ℕ
@@ -37,12 +38,12 @@ refusalJ blocks n u v =
     (cond (not (eqb (getD blocks (u - 1) 0) (getD blocks (v - 1) 0))) 13 0)))
 
 -- M: 9, 10, 12, 14
-unfoldable pub refusalM : (blocks loads weights : List ℕ) (n k cap u t : ℕ) → ℕ
-refusalM blocks loads weights n k cap u t =
+unfoldable pub refusalM : (blocks loads ceilings weights : List ℕ) (n k u t : ℕ) → ℕ
+refusalM blocks loads ceilings weights n k u t =
     cond (not (known n u && known k t)) 9
     (cond (not (here blocks u)) 10
     (cond (eqb (getD blocks (u - 1) 0) t) 12
-    (cond (not (roomIn loads weights cap u t)) 14 0)))
+    (cond (not (roomIn loads ceilings weights u t)) 14 0)))
 
 -- W: 9, 10
 unfoldable pub refusalW : List ℕ → ℕ → ℕ → ℕ → ℕ
@@ -99,23 +100,26 @@ module _ {h : Hypergraph} {cs : List Contraction} {block : ℕ → ℕ} {T : Tab
       cond-if {b′ = not (isVertex h u && isVertex h v)} 9 (ap not (ap₂ (λ (x y : Bool). x && y) (known-is u) (known-is v))) (λ a.
       ap (λ (x : Bool). cond (not x) 10 0) (ap₂ (λ (x y : Bool). x && y) (here-is u (and-left _ _ (not-false _ a))) (here-is v (and-right (isVertex h u) _ (not-false _ a))))))
 
-  room-is : (u t : ℕ) → isVertex h u ≡ true → onBoard cs u ≡ true → isBlock h t ≡ true → roomIn (T .loads) (T .weights) (capacity h) u t ≡ hasRoom h cs block u t
+  room-is : (ceiling : ℕ → ℕ) (ceilings : List ℕ) → CeilingIs ceilings h ceiling → (u t : ℕ) → isVertex h u ≡ true → onBoard cs u ≡ true → isBlock h t ≡ true
+      → roomIn (T .loads) ceilings (T .weights) u t ≡ hasRoom h ceiling cs block u t
   unfolding hasRoom
-  room-is u t q on r =
+  room-is ceiling ceilings c u t q on r =
       let p = place-of u q in
       let b : (t - 1 < T .k) × (t - 1 + 1 ≡ t) = omega (arith, leb-true 1 t (and-left _ _ r), leb-true t (h .blocks) (and-right (leb 1 t) _ r), s .follows .says .all-blocks) in
-      ap₂ (λ (x y : ℕ). leb (x + y) (capacity h))
+      ap (leb (getD (T .loads) (t - 1) 0 + getD (T .weights) (u - 1) 0)) (c t (omega (arith, b .1)) (omega (arith, b .0, b .1, s .follows .says .all-blocks)))
+      ∙ ap₂ (λ (x y : ℕ). leb (x + y) (ceiling t))
       (s .bears (t - 1) (b .0) ∙ ap (blockWeight h cs block) (b .1))
       (own-weight s (u - 1) (p .0) (ap (above cs) (p .1) ∙ eqb-true (above cs u) 0 on) ∙ ap (weight h cs) (p .1))
 
-  pub refusalM-is : (st : State) → st .stack ≡ cs → st .block ≡ block → (u t : ℕ) → refusalM (T .blocks) (T .loads) (T .weights) (T .n) (T .k) (capacity h) u t ≡ refusesM h st u t
+  pub refusalM-is : (ceiling : ℕ → ℕ) (ceilings : List ℕ) → CeilingIs ceilings h ceiling → (st : State) → st .stack ≡ cs → st .block ≡ block → (u t : ℕ)
+      → refusalM (T .blocks) (T .loads) ceilings (T .weights) (T .n) (T .k) u t ≡ refusesM h ceiling st u t
   unfolding refusalM refusesM
-  refusalM-is st qs qb u t = rw (qs, qb) (
+  refusalM-is ceiling ceilings c st qs qb u t = rw (qs, qb) (
       cond-if {b′ = not (isVertex h u && isBlock h t)} 9 (ap not (ap₂ (λ (x y : Bool). x && y) (known-is u) (ap (λ (k : ℕ). leb 1 t && leb t k) (s .follows .says .all-blocks)))) (λ a.
       let ku = and-left _ _ (not-false _ a) in
       let kt = and-right (isVertex h u) _ (not-false _ a) in
       cond-if {b′ = not (onBoard cs u)} 10 (ap not (here-is u ku)) (λ o.
-      cond-if {b′ = eqb (block u) t} 12 (ap (λ (x : ℕ). eqb x t) (block-is u ku)) (λ _. ap (λ (b : Bool). cond (not b) 14 0) (room-is u t ku (not-false _ o) kt)))))
+      cond-if {b′ = eqb (block u) t} 12 (ap (λ (x : ℕ). eqb x t) (block-is u ku)) (λ _. ap (λ (b : Bool). cond (not b) 14 0) (room-is ceiling ceilings c u t ku (not-false _ o) kt)))))
 
 -- ---- the arms of the code's tests: r is what a test answered
 pub known-no : (n x : ℕ) → x < 1 → false ≡ known n x
@@ -129,16 +133,6 @@ both-no a b {r} e q = sym (ap (λ (x : Bool). x && b) (sym e ∙ not-true r q))
 
 pub both-yes : (a b : Bool) {r r′ : Bool} → r ≡ a → not r ≡ false → r′ ≡ b → r′ ≡ (a && b)
 both-yes a b {r} e q e′ = e′ ∙ sym (ap (λ (x : Bool). x && b) (sym e ∙ not-false r q))
-
-pub room-no : (l w cap : ℕ) → cap < w → false ≡ leb (l + w) cap
-room-no l w cap h = sym (lt-leb (l + w) cap (omega arith))
-
-pub room-some : (l w cap : ℕ) → w ≤ cap → leb l (cap - w) ≡ leb (l + w) cap
-room-some l w cap h = go (leb l (cap - w)) refl
-  where
-    go : (b : Bool) → leb l (cap - w) ≡ b → b ≡ leb (l + w) cap
-    go true q = sym (le-leb (l + w) cap (omega (arith, leb-true l (cap - w) q)))
-    go false q = sym (lt-leb (l + w) cap (omega (arith, leb-false l (cap - w) q)))
 
 -- two known numbers, from the test that they are
 pub known-range : (n u k v : ℕ) {r : Bool} → r ≡ (known n u && known k v) → not r ≡ false → ((1 ≤ u) × (u ≤ n)) × ((1 ≤ v) × (v ≤ k))
@@ -191,27 +185,27 @@ module _ (blocks : List ℕ) (n u v : ℕ) {r : Bool} (e : r ≡ (known n u && k
     join-0 w q′ d = left (not (known n u && known n v)) 9 (sym (ap not e) ∙ q) (left (eqb u v) 11 (ne-eqb u v w) (left (not (here blocks u && here blocks v)) 10 (sym (ap not e′) ∙ q′)
         (left (not (eqb (getD blocks (u - 1) 0) (getD blocks (v - 1) 0))) 13 (ap not (eq-eqb (getD blocks (u - 1) 0) (getD blocks (v - 1) 0) d)) refl)))
 
-module _ (blocks loads weights : List ℕ) (n k cap u t : ℕ) {r : Bool} (e : r ≡ (known n u && known k t)) where
-  pub move-9 : not r ≡ true → 9 ≡ refusalM blocks loads weights n k cap u t
+module _ (blocks loads ceilings weights : List ℕ) (n k u t : ℕ) {r : Bool} (e : r ≡ (known n u && known k t)) where
+  pub move-9 : not r ≡ true → 9 ≡ refusalM blocks loads ceilings weights n k u t
   unfolding refusalM
   move-9 q = taken (not (known n u && known k t)) 9 _ (sym (ap not e) ∙ q)
 
   module _ (q : not r ≡ false) {r′ : Bool} (e′ : r′ ≡ here blocks u) where
-    pub move-10 : not r′ ≡ true → 10 ≡ refusalM blocks loads weights n k cap u t
+    pub move-10 : not r′ ≡ true → 10 ≡ refusalM blocks loads ceilings weights n k u t
     unfolding refusalM
     move-10 q′ = left (not (known n u && known k t)) 9 (sym (ap not e) ∙ q) (taken (not (here blocks u)) 10 _ (sym (ap not e′) ∙ q′))
 
-    pub move-12 : not r′ ≡ false → getD blocks (u - 1) 0 ≡ t → 12 ≡ refusalM blocks loads weights n k cap u t
+    pub move-12 : not r′ ≡ false → getD blocks (u - 1) 0 ≡ t → 12 ≡ refusalM blocks loads ceilings weights n k u t
     unfolding refusalM
     move-12 q′ d = left (not (known n u && known k t)) 9 (sym (ap not e) ∙ q) (left (not (here blocks u)) 10 (sym (ap not e′) ∙ q′) (taken (eqb (getD blocks (u - 1) 0) t) 12 _ (eq-eqb (getD blocks (u - 1) 0) t d)))
 
-    module _ (q′ : not r′ ≡ false) (d : getD blocks (u - 1) 0 ≡ t → ⊥) {r″ : Bool} (e″ : r″ ≡ roomIn loads weights cap u t) where
-      pub move-14 : not r″ ≡ true → 14 ≡ refusalM blocks loads weights n k cap u t
+    module _ (q′ : not r′ ≡ false) (d : getD blocks (u - 1) 0 ≡ t → ⊥) {r″ : Bool} (e″ : r″ ≡ roomIn loads ceilings weights u t) where
+      pub move-14 : not r″ ≡ true → 14 ≡ refusalM blocks loads ceilings weights n k u t
       unfolding refusalM
       move-14 q″ = left (not (known n u && known k t)) 9 (sym (ap not e) ∙ q) (left (not (here blocks u)) 10 (sym (ap not e′) ∙ q′) (left (eqb (getD blocks (u - 1) 0) t) 12 (ne-eqb (getD blocks (u - 1) 0) t d)
-          (taken (not (roomIn loads weights cap u t)) 14 0 (sym (ap not e″) ∙ q″))))
+          (taken (not (roomIn loads ceilings weights u t)) 14 0 (sym (ap not e″) ∙ q″))))
 
-      pub move-0 : not r″ ≡ false → 0 ≡ refusalM blocks loads weights n k cap u t
+      pub move-0 : not r″ ≡ false → 0 ≡ refusalM blocks loads ceilings weights n k u t
       unfolding refusalM
       move-0 q″ = left (not (known n u && known k t)) 9 (sym (ap not e) ∙ q) (left (not (here blocks u)) 10 (sym (ap not e′) ∙ q′) (left (eqb (getD blocks (u - 1) 0) t) 12 (ne-eqb (getD blocks (u - 1) 0) t d)
-          (left (not (roomIn loads weights cap u t)) 14 (sym (ap not e″) ∙ q″) refl)))
+          (left (not (roomIn loads ceilings weights u t)) 14 (sym (ap not e″) ∙ q″) refl)))

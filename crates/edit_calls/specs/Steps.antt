@@ -5,7 +5,7 @@ use mathlib.Core.Path.{_≡_}
 use lib.ListN.{length}
 use Rattle.model.specs.Catalogue.{Hypergraph}
 use Rattle.model.specs.Machine.{Call, Answer, saysNO, State}
-use Rattle.model.specs.Search.{call}
+use Rattle.model.specs.Search.{callUnder}
 use Rattle.model.specs.Lent.{Two, stackOf, journalOf}
 use Rattle.guarantees.specs.Calls.{Legal, legal-call}
 use Rattle.guarantees.specs.StateBounds.{Listed, listed-call}
@@ -40,10 +40,10 @@ abbrev pub told : ℕ → Answer → Answer
 told zero a = a
 told (suc q) a = saysNO (suc q)
 
--- what a call does, for whatever state the sale ran in
-pub record Stepped (h : Hypergraph) (s : State) (c : Call) (T′ : Tables) (S′ J J′ : Two) (a : Answer) : Type 0 where
-  pub runs : Runs h (call h s c .state) T′ S′ J′
-  pub says : a ≡ call h s c .answer
+-- what a call under a ceiling does, for whatever state the sale ran in
+pub record Stepped (h : Hypergraph) (ceiling : ℕ → ℕ) (s : State) (c : Call) (T′ : Tables) (S′ J J′ : Two) (a : Answer) : Type 0 where
+  pub runs : Runs h (callUnder h ceiling s c .state) T′ S′ J′
+  pub says : a ≡ callUnder h ceiling s c .answer
   pub longer : J′ .len ≤ J .len + 1
 
 -- the part of it that the tables, the stack and the journal decide
@@ -54,11 +54,11 @@ pub record Moves (h : Hypergraph) (s s′ : State) (T′ : Tables) (S′ J′ : 
   pub stack-whole : Whole S′
   pub journal-whole : Whole J′
 
-pub runs-call : {h : Hypergraph} {s : State} {T T′ : Tables} {S S′ J J′ : Two} (c : Call) → Runs h s T S J → Moves h s (call h s c .state) T′ S′ J′ → Runs h (call h s c .state) T′ S′ J′
-runs-call {h} {s} c r m = record {
-  legal = legal-call h s c (r .legal);
-  listed = listed-call h s c (r .listed);
-  apart = apart-call h s c (r .apart);
+pub runs-call : {h : Hypergraph} {s : State} {T T′ : Tables} {S S′ J J′ : Two} (ceiling : ℕ → ℕ) (c : Call) → Runs h s T S J → Moves h s (callUnder h ceiling s c .state) T′ S′ J′ → Runs h (callUnder h ceiling s c .state) T′ S′ J′
+runs-call {h} {s} ceiling c r m = record {
+  legal = legal-call h ceiling s c (r .legal);
+  listed = listed-call h ceiling s c (r .listed);
+  apart = apart-call h ceiling s c (r .apart);
   sound = m .sound;
   stack-is = m .stack-is;
   journal-is = m .journal-is;

@@ -4,9 +4,10 @@ ghost use mathlib.Core.List.{List};
 ghost use Rattle.model.specs.Catalogue.{Hypergraph};
 ghost use Rattle.model.specs.Machine.{callM, callB, saysM, saysB};
 ghost use Rattle.model.specs.Lent.{Two, two};
+ghost use Rattle.guarantees.specs.Caps.{CeilingIs};
 ghost use Rattle.operations.specs.Tables.{tables};
 ghost use Rattle.edit_calls.specs.Steps.{told};
-ghost use Rattle.edit_calls.specs.Called.{ReadyM, CapacityIs, Called};
+ghost use Rattle.edit_calls.specs.Called.{ReadyM, Called};
 use crate::refusals::refuses_move;
 use crate::widths::index;
 use crate::widths::short;
@@ -44,20 +45,20 @@ pub fn call_move(
     weights: &[u32],
     netweights: &[u16],
     firsts: &[u16],
+    ceilings: &[u64; 16],
     n: usize,
     m: usize,
     k: usize,
-    capacity: u64,
     total: u32,
     journal: Journal,
     u: usize,
     t: usize,
 ) -> MoveTurn
     requires { ⌜ ReadyM (λ aboves loadedsizes. tables (now counts) (now visited) (now gains) (now presentpins) (now presentsizes) (now bits) (now blocks) (now weights) aboves (now loads) (now netweights) (now firsts) loadedsizes n m k total) (two (journal .vertices) (journal .blocks) (journal .len)) ⌝ }
-    ensures { λ r. ⌜ ((aboves loadedsizes : List ℕ) (S : Two) (h : Hypergraph) → CapacityIs capacity h → Called h (tables (now (counts .entry)) (now (visited .entry)) (now (gains .entry)) (now (presentpins .entry)) (now (presentsizes .entry)) (now (bits .entry)) (now (blocks .entry)) (now (weights .entry)) aboves (now (loads .entry)) (now (netweights .entry)) (now (firsts .entry)) loadedsizes n m k total)
+    ensures { λ r. ⌜ ((aboves loadedsizes : List ℕ) (S : Two) (h : Hypergraph) (ceiling : ℕ → ℕ) → CeilingIs (now (ceilings .entry)) h ceiling → Called h ceiling (tables (now (counts .entry)) (now (visited .entry)) (now (gains .entry)) (now (presentpins .entry)) (now (presentsizes .entry)) (now (bits .entry)) (now (blocks .entry)) (now (weights .entry)) aboves (now (loads .entry)) (now (netweights .entry)) (now (firsts .entry)) loadedsizes n m k total)
         (tables (now (counts .exit)) (now (visited .exit)) (now (gains .exit)) (now (presentpins .exit)) (now (presentsizes .exit)) (now (bits .exit)) (now (blocks .exit)) (now (weights .exit)) aboves (now (loads .exit)) (now (netweights .exit)) (now (firsts .exit)) loadedsizes n m k (r .total)) S S (two (journal .vertices) (journal .blocks) (journal .len)) (two (r .journal .vertices) (r .journal .blocks) (r .journal .len)) (callM u t) (told (r .no) (saysM (r .gain) (r .total)))) ⌝ }
 {
-    let no = refuses_move(blocks, loads, weights, n, k, capacity, u, t);
+    let no = refuses_move(blocks, loads, ceilings, weights, n, k, u, t);
     if no != 0 {
         return MoveTurn {
             journal: journal,
@@ -115,7 +116,7 @@ pub fn call_back(
     journal: Journal,
 ) -> BackTurn
     requires { ⌜ ReadyM (λ aboves loadedsizes. tables (now counts) (now visited) (now gains) (now presentpins) (now presentsizes) (now bits) (now blocks) (now weights) aboves (now loads) (now netweights) (now firsts) loadedsizes n m k total) (two (journal .vertices) (journal .blocks) (journal .len)) ⌝ }
-    ensures { λ r. ⌜ ((aboves loadedsizes : List ℕ) (S : Two) (h : Hypergraph) → Called h (tables (now (counts .entry)) (now (visited .entry)) (now (gains .entry)) (now (presentpins .entry)) (now (presentsizes .entry)) (now (bits .entry)) (now (blocks .entry)) (now (weights .entry)) aboves (now (loads .entry)) (now (netweights .entry)) (now (firsts .entry)) loadedsizes n m k total)
+    ensures { λ r. ⌜ ((aboves loadedsizes : List ℕ) (S : Two) (h : Hypergraph) (ceiling : ℕ → ℕ) → Called h ceiling (tables (now (counts .entry)) (now (visited .entry)) (now (gains .entry)) (now (presentpins .entry)) (now (presentsizes .entry)) (now (bits .entry)) (now (blocks .entry)) (now (weights .entry)) aboves (now (loads .entry)) (now (netweights .entry)) (now (firsts .entry)) loadedsizes n m k total)
         (tables (now (counts .exit)) (now (visited .exit)) (now (gains .exit)) (now (presentpins .exit)) (now (presentsizes .exit)) (now (bits .exit)) (now (blocks .exit)) (now (weights .exit)) aboves (now (loads .exit)) (now (netweights .exit)) (now (firsts .exit)) loadedsizes n m k (r .total)) S S (two (journal .vertices) (journal .blocks) (journal .len)) (two (r .journal .vertices) (r .journal .blocks) (r .journal .len)) callB (told (r .no) (saysB (r .vertex) (r .block) (r .total)))) ⌝ }
 {
     let at = journal.len;

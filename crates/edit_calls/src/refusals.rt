@@ -23,16 +23,17 @@ fn is_here(blocks: &[u16], u: usize) -> bool
     blocks[u - 1] != 0
 }
 
-// Is there room for `u` in the block `t`.
-fn has_room(loads: &[u64; 16], weights: &[u32], capacity: u64, u: usize, t: usize) -> bool
+// Is there room for `u` in the block `t`. The sum of the two weights may pass 64 bits.
+fn has_room(loads: &[u64; 16], ceilings: &[u64; 16], weights: &[u32], u: usize, t: usize) -> bool
     requires { ⌜ (1 ≤ u) × (u ≤ length (now weights)) × (1 ≤ t) × (t ≤ 16) × (length (now loads) ≡ 16) ⌝ }
-    ensures { λ r. ⌜ r ≡ roomIn (now (loads .entry)) (now (weights .entry)) capacity u t ⌝ }
+    ensures { λ r. ⌜ r ≡ roomIn (now (loads .entry)) (now (ceilings .entry)) (now (weights .entry)) u t ⌝ }
 {
     let w = weights[u - 1] as u64;
-    if capacity < w {
+    let ceiling = ceilings[t - 1];
+    if ceiling < w {
         return false;
     }
-    loads[t - 1] <= capacity - w
+    loads[t - 1] <= ceiling - w
 }
 
 // Both are known.
@@ -80,15 +81,15 @@ pub fn refuses_join(blocks: &[u16], n: usize, u: usize, v: usize) -> u32
 pub fn refuses_move(
     blocks: &[u16],
     loads: &[u64; 16],
+    ceilings: &[u64; 16],
     weights: &[u32],
     n: usize,
     k: usize,
-    capacity: u64,
     u: usize,
     t: usize,
 ) -> u32
     requires { ⌜ (n ≤ length (now blocks)) × (n ≤ length (now weights)) × (k ≤ 16) × (length (now loads) ≡ 16) ⌝ }
-    ensures { λ r. ⌜ r ≡ refusalM (now (blocks .entry)) (now (loads .entry)) (now (weights .entry)) n k capacity u t ⌝ }
+    ensures { λ r. ⌜ r ≡ refusalM (now (blocks .entry)) (now (loads .entry)) (now (ceilings .entry)) (now (weights .entry)) n k u t ⌝ }
 {
     if !both_known(n, u, k, t) {
         return 9;
@@ -99,7 +100,7 @@ pub fn refuses_move(
     if blocks[u - 1] as usize == t {
         return 12;
     }
-    if !has_room(loads, weights, capacity, u, t) {
+    if !has_room(loads, ceilings, weights, u, t) {
         return 14;
     }
     0

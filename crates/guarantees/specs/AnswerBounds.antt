@@ -12,12 +12,12 @@ use lib.ListN.{length}
 use Rattle.model.specs.Catalogue.{Limits, Hypergraph, vertices, isVertex, isBlock}
 use Rattle.model.specs.Measure.{Contraction, onBoard, metric, hasRoom}
 use Rattle.model.specs.Machine.{Call, callJ, callS, callM, callB, callW, callP, callA, Answer, saysJ, saysS, saysM, saysB, saysW, saysP, saysA, saysNO, Move, State, Step, settle, refusesJ, contract, doesJ, refusesM, doesM, doesS, doesB}
-use Rattle.model.specs.Search.{Coarse, Fine, coarsen, refine, refusesW, doesW, doesP, refusesA, doesA, call}
+use Rattle.model.specs.Search.{Coarse, Fine, coarsen, refine, refusesW, doesW, doesP, refusesA, doesA, callUnder}
 use Rattle.guarantees.specs.Calls.{Legal, AllInside, Recorded, coarsened}
 use Rattle.guarantees.specs.Ends.{Placed}
 use Rattle.guarantees.specs.Ranges.{Ranges}
 use Rattle.guarantees.specs.Bounds.{gain-le, metric-le}
-use Rattle.guarantees.specs.WeightBounds.{weight-le, total-le}
+use Rattle.guarantees.specs.WeightBounds.{weight-le, loaded-le}
 use Rattle.guarantees.specs.SearchBounds.{walk-counts, tried-le, polish-count, refine-counts}
 use Rattle.guarantees.specs.StateBounds.{stack-le, Listed}
 
@@ -51,7 +51,7 @@ module _ (limits : Limits) (small : limits .vertexLimit ≤ 1024) (narrow : limi
   settled zero s done l f = f refl
   settled (suc q) s done l f = l
 
-  module _ (s : State) where
+  module _ (ceiling : ℕ → ℕ) (s : State) where
     refusals-J : (u v : ℕ) → refusesJ h s u v ≤ 16
     unfolding refusesJ
     refusals-J u v =
@@ -60,13 +60,13 @@ module _ (limits : Limits) (small : limits .vertexLimit ≤ 1024) (narrow : limi
         (either-le (not (onBoard (s .stack) u && onBoard (s .stack) v)) 10 _ 16 (omega arith)
         (either-le (not (eqb (s .block u) (s .block v))) 13 0 16 (omega arith) (omega arith))))
 
-    refusals-M : (v t : ℕ) → refusesM h s v t ≤ 16
+    refusals-M : (v t : ℕ) → refusesM h ceiling s v t ≤ 16
     unfolding refusesM
     refusals-M v t =
         either-le (not (isVertex h v && isBlock h t)) 9 _ 16 (omega arith)
         (either-le (not (onBoard (s .stack) v)) 10 _ 16 (omega arith)
         (either-le (eqb (s .block v) t) 12 _ 16 (omega arith)
-        (either-le (not (hasRoom h (s .stack) (s .block) v t)) 14 0 16 (omega arith) (omega arith))))
+        (either-le (not (hasRoom h ceiling (s .stack) (s .block) v t)) 14 0 16 (omega arith) (omega arith))))
 
     refusals-W : (u v : ℕ) → refusesW h s u v ≤ 16
     unfolding refusesW
@@ -81,7 +81,7 @@ module _ (limits : Limits) (small : limits .vertexLimit ≤ 1024) (narrow : limi
 
     bounded-J : (u v : ℕ) → Bounded (doesJ h s u v .answer)
     unfolding doesJ contract
-    bounded-J u v = omega (arith, weight-le h (record { into = u; gone = v } ∷ s .stack) u, total-le limits small h r)
+    bounded-J u v = omega (arith, weight-le h (record { into = u; gone = v } ∷ s .stack) u, loaded-le limits small h r)
 
     bounded-S : (cs : List Contraction) → AllInside h cs → Bounded (doesS s cs .answer)
     unfolding doesS
@@ -97,44 +97,44 @@ module _ (limits : Limits) (small : limits .vertexLimit ≤ 1024) (narrow : limi
     bounded-B [] k l = omega arith
     bounded-B (m ∷ ms) k l = (omega (arith, l .0 .1, vertices-in), omega (arith, k .0 .2, blocks-in), metric-in _ _)
 
-    bounded-W : (u v : ℕ) → Bounded (doesW h s u v .answer)
+    bounded-W : (u v : ℕ) → Bounded (doesW h ceiling s u v .answer)
     unfolding doesW
     bounded-W u v = (
-      omega (arith, tried-le h (s .stack) (s .block) u v, vertices-in),
-      walk-counts h (s .stack) (s .block) u v .kept-le,
+      omega (arith, tried-le h ceiling (s .stack) (s .block) u v, vertices-in),
+      walk-counts h ceiling (s .stack) (s .block) u v .kept-le,
       metric-in _ _,
     )
 
-    bounded-P : Bounded (doesP h s .answer)
+    bounded-P : Bounded (doesP h ceiling s .answer)
     unfolding doesP
-    bounded-P = (omega (arith, polish-count h (s .stack) (s .block), metric-in (s .stack) (s .block)), metric-in _ _)
+    bounded-P = (omega (arith, polish-count h ceiling (s .stack) (s .block), metric-in (s .stack) (s .block)), metric-in _ _)
 
-    bounded-A : Placed h [] (s .block) → Bounded (doesA h s .answer)
+    bounded-A : Placed h [] (s .block) → Bounded (doesA h ceiling s .answer)
     unfolding doesA
     bounded-A ok =
         let c : Coarse = coarsen h (vertices h) (record { stack = []; block = s .block }) in
         let k = coarsened h (vertices h) (s .block) (record { stack = []; block = s .block }) (record { sound = tt; inside = tt; placed = ok; same = refl; same-weights = λ b. refl }) in
-        let f : Fine = refine h (c .stack) (record { block = c .block; tried = 0; kept = 0 }) in
-        let n = refine-counts h (c .stack) (record { block = c .block; tried = 0; kept = 0 }) in
+        let f : Fine = refine h ceiling (c .stack) (record { block = c .block; tried = 0; kept = 0 }) in
+        let n = refine-counts h ceiling (c .stack) (record { block = c .block; tried = 0; kept = 0 }) in
         let joins : length (c .stack) ≤ 1023 = omega (arith, stack-le h (c .stack) (k .sound) (k .inside), vertices-in) in (
           joins,
           omega (arith, n .tried-le, mul-le-mul joins vertices-in),
           omega (arith, n .kept-le),
-          omega (arith, polish-count h [] (f .block), metric-in [] (f .block)),
+          omega (arith, polish-count h ceiling [] (f .block), metric-in [] (f .block)),
           metric-in _ _,
         )
 
-    accepted-A : (cs : List Contraction) → s .stack ≡ cs → Legal h s → refusesA h s cs ≡ 0 → Bounded (doesA h s .answer)
+    accepted-A : (cs : List Contraction) → s .stack ≡ cs → Legal h s → refusesA h s cs ≡ 0 → Bounded (doesA h ceiling s .answer)
     unfolding refusesA
     accepted-A [] q ok e = bounded-A (subst (λ (l : List Contraction). Placed h l (s .block)) q (ok .placed))
     accepted-A (c ∷ cs) q ok e = absurd (omega arith)
 
-  pub bounded-call : (s : State) (c : Call) → Legal h s → Listed h (s .journal) → Bounded (call h s c .answer)
-  unfolding call
-  bounded-call s (callJ u v) ok k = settled (refusesJ h s u v) s (doesJ h s u v) (refusals-J s u v) (λ _. bounded-J s u v)
-  bounded-call s callS ok k = bounded-S s (s .stack) (ok .inside)
-  bounded-call s (callM v t) ok k = settled (refusesM h s v t) s (doesM h s v t) (refusals-M s v t) (λ _. bounded-M s v t)
-  bounded-call s callB ok k = bounded-B s (s .journal) (ok .recorded) k
-  bounded-call s (callW u v) ok k = settled (refusesW h s u v) s (doesW h s u v) (refusals-W s u v) (λ _. bounded-W s u v)
-  bounded-call s callP ok k = bounded-P s
-  bounded-call s callA ok k = settled (refusesA h s (s .stack)) s (doesA h s) (refusals-A s (s .stack)) (accepted-A s (s .stack) refl ok)
+  pub bounded-call : (ceiling : ℕ → ℕ) (s : State) (c : Call) → Legal h s → Listed h (s .journal) → Bounded (callUnder h ceiling s c .answer)
+  unfolding callUnder
+  bounded-call ceiling s (callJ u v) ok k = settled (refusesJ h s u v) s (doesJ h s u v) (refusals-J ceiling s u v) (λ _. bounded-J ceiling s u v)
+  bounded-call ceiling s callS ok k = bounded-S ceiling s (s .stack) (ok .inside)
+  bounded-call ceiling s (callM v t) ok k = settled (refusesM h ceiling s v t) s (doesM h s v t) (refusals-M ceiling s v t) (λ _. bounded-M ceiling s v t)
+  bounded-call ceiling s callB ok k = bounded-B ceiling s (s .journal) (ok .recorded) k
+  bounded-call ceiling s (callW u v) ok k = settled (refusesW h s u v) s (doesW h ceiling s u v) (refusals-W ceiling s u v) (λ _. bounded-W ceiling s u v)
+  bounded-call ceiling s callP ok k = bounded-P ceiling s
+  bounded-call ceiling s callA ok k = settled (refusesA h s (s .stack)) s (doesA h ceiling s) (refusals-A ceiling s (s .stack)) (accepted-A ceiling s (s .stack) refl ok)

@@ -1,4 +1,4 @@
--- Every call leaves a legal state legal: the stack is one that J makes, every vertex on the board has a block, the journal's moves are of such
+-- Every call, under any ceiling, leaves a legal state legal: the stack is one that J makes, every vertex on the board has a block, the journal's moves are of such
 -- vertices (legal-call, legal-after). An accepted A ends with no contraction, on no higher metric, where no move with room lowers it (solves); its
 -- contractions end by their own rule (coarsen-ends). Rests on Splits, Ends and Walks. Assumes nothing.
 use Prim.Native.Nat.{ℕ, zero, suc, _+_, _*_, _≤_}
@@ -12,10 +12,10 @@ use lib.Dec.{eqb, ltb}
 use lib.IntN.{pos}
 use Rattle.laws.specs.Choice.{one, and-left, and-right, cond-zero}
 use Rattle.laws.specs.Sum.{sumTo-change, countTo-le}
-use Rattle.model.specs.Catalogue.{Hypergraph, vertices, drafted, isVertex, isBlock}
+use Rattle.model.specs.Catalogue.{Hypergraph, vertices, drafted, isVertex, isBlock, capacities}
 use Rattle.model.specs.Measure.{Contraction, above, onBoard, blockWeight, metric}
 use Rattle.model.specs.Machine.{Call, callJ, callS, callM, callB, callW, callP, callA, Move, State, Step, fresh, settle, refusesJ, contract, doesJ, refusesM, doesM, uncontract, doesS, doesB}
-use Rattle.model.specs.Search.{Best, none, best, Coarse, Fine, rating, canJoin, joinBest, joinTurn, boardSize, coarsen, refine, refusesW, doesW, doesP, refusesA, doesA, call}
+use Rattle.model.specs.Search.{Best, none, best, Coarse, Fine, rating, canJoin, joinBest, joinTurn, boardSize, coarsen, refine, refusesW, doesW, doesP, refusesA, doesA, callUnder, call}
 use Rattle.model.specs.Engine.{after}
 use Rattle.guarantees.specs.Climbs.{Joins, Sound, above-gone, above-other}
 use Rattle.guarantees.specs.Joins.{metric-join}
@@ -86,25 +86,6 @@ module _ (h : Hypergraph) where
       go ih true = join-turn p c (coarsen h n) k ih _ (best-top (canJoin h (c .stack) (c .block)) (λ u v. pos (rating h (c .stack) u v)) (vertices h) (vertices h))
       go ih false = k
 
-  -- ---- A's uncontractions and walks
-  pub refined : (cs : List Contraction) (f : Fine) → Sound cs → AllInside h cs → Placed h cs (f .block) → Placed h [] (refine h cs f .block) × (metric h [] (refine h cs f .block) ≤ metric h cs (f .block))
-  unfolding refine
-  refined [] f s r ok = (ok, omega arith)
-  refined (c ∷ cs) f s r ok =
-      let ok′ = placed-split h cs c (f .block) (s .0) (r .0) ok in
-      let w = walked-metric h cs (uncontract (f .block) c) (c .into) (c .gone) ok′ in
-      let end = refined cs _ (s .1) (r .1) (w .0) in
-      (end .0, omega (arith, end .1, w .2, metric-split h cs c s (r .0) (f .block) ok))
-
-  -- ---- A: no contraction stands, the metric is no higher, and no single move that has room lowers it
-  pub solves : (s : State) → Placed h [] (s .block) → Polished h [] (s .block) (doesA h s .state .block)
-  unfolding doesA
-  solves s ok =
-      let k = coarsened (vertices h) (s .block) (record { stack = []; block = s .block }) (record { sound = tt; inside = tt; placed = ok; same = refl; same-weights = λ b. refl }) in
-      let f = refined _ _ (k .sound) (k .inside) (k .placed) in
-      let e = polish-ends h [] _ (f .0) in
-      record { placed = e .placed; lower = omega (arith, e .lower, f .1, k .same); stuck = e .stuck }
-
   -- ---- every call leaves a state legal
   -- a refusal leaves the state; so it is enough to show it where the number is 0
   settled : (q : ℕ) (s : State) (done : Step) → Legal s → (q ≡ 0 → Legal (done .state)) → Legal (settle q s done .state)
@@ -148,23 +129,6 @@ module _ (h : Hypergraph) where
         recorded = tt;
       }
 
-  pub legal-M : (s : State) (v t : ℕ) → Legal s → refusesM h s v t ≡ 0 → Legal (doesM h s v t .state)
-  unfolding refusesM doesM
-  legal-M s v t ok q =
-      let a = cond-zero (not (isVertex h v && isBlock h t)) 9 _ (omega arith) q in
-      let b = cond-zero (not (onBoard (s .stack) v)) 10 _ (omega arith) (a .1) in
-      let r = not-false _ (a .0) in
-      let rv = vertex-range h v (and-left _ _ r) in
-      let rt = block-range h t (and-right (isVertex h v) _ r) in
-      let on = eqb-true (above (s .stack) v) 0 (not-false _ (b .0)) in
-      let here = ok .placed v (rv .0) (rv .1) .board on in
-      record {
-        sound = ok .sound;
-        inside = ok .inside;
-        placed = placed-move h (s .stack) (s .block) v t (ok .placed) on (rt .0) (rt .1);
-        recorded = ((on, here .0, here .1), ok .recorded);
-      }
-
   pub legal-B : (s : State) (ms : List Move) → s .journal ≡ ms → Legal s → Legal (doesB h s ms .state)
   unfolding doesB
   legal-B s [] q ok = ok
@@ -177,28 +141,65 @@ module _ (h : Hypergraph) where
         recorded = r .1;
       }
 
-  pub legal-W : (s : State) (u v : ℕ) → Legal s → Legal (doesW h s u v .state)
-  unfolding doesW
-  legal-W s u v ok = record { sound = ok .sound; inside = ok .inside; placed = walked-metric h (s .stack) (s .block) u v (ok .placed) .0; recorded = tt }
+  module _ (ceiling : ℕ → ℕ) where
+    -- ---- A's uncontractions and walks
+    pub refined : (cs : List Contraction) (f : Fine) → Sound cs → AllInside h cs → Placed h cs (f .block) → Placed h [] (refine h ceiling cs f .block) × (metric h [] (refine h ceiling cs f .block) ≤ metric h cs (f .block))
+    unfolding refine
+    refined [] f s r ok = (ok, omega arith)
+    refined (c ∷ cs) f s r ok =
+        let ok′ = placed-split h cs c (f .block) (s .0) (r .0) ok in
+        let w = walked-metric h ceiling cs (uncontract (f .block) c) (c .into) (c .gone) ok′ in
+        let end = refined cs _ (s .1) (r .1) (w .0) in
+        (end .0, omega (arith, end .1, w .2, metric-split h cs c s (r .0) (f .block) ok))
 
-  pub legal-P : (s : State) → Legal s → Legal (doesP h s .state)
-  unfolding doesP
-  legal-P s ok = record { sound = ok .sound; inside = ok .inside; placed = polish-ends h (s .stack) (s .block) (ok .placed) .placed; recorded = tt }
+    -- ---- A: no contraction stands, the metric is no higher, and no single move that has room lowers it
+    pub solves : (s : State) → Placed h [] (s .block) → Polished h ceiling [] (s .block) (doesA h ceiling s .state .block)
+    unfolding doesA
+    solves s ok =
+        let k = coarsened (vertices h) (s .block) (record { stack = []; block = s .block }) (record { sound = tt; inside = tt; placed = ok; same = refl; same-weights = λ b. refl }) in
+        let f = refined _ _ (k .sound) (k .inside) (k .placed) in
+        let e = polish-ends h ceiling [] _ (f .0) in
+        record { placed = e .placed; lower = omega (arith, e .lower, f .1, k .same); stuck = e .stuck }
 
-  pub legal-A : (s : State) (cs : List Contraction) → s .stack ≡ cs → Legal s → refusesA h s cs ≡ 0 → Legal (doesA h s .state)
-  unfolding refusesA doesA
-  legal-A s [] q ok e = record { sound = tt; inside = tt; placed = solves s (subst (λ (l : List Contraction). Placed h l (s .block)) q (ok .placed)) .placed; recorded = tt }
-  legal-A s (c ∷ cs) q ok e = absurd (omega arith)
+    pub legal-M : (s : State) (v t : ℕ) → Legal s → refusesM h ceiling s v t ≡ 0 → Legal (doesM h s v t .state)
+    unfolding refusesM doesM
+    legal-M s v t ok q =
+        let a = cond-zero (not (isVertex h v && isBlock h t)) 9 _ (omega arith) q in
+        let b = cond-zero (not (onBoard (s .stack) v)) 10 _ (omega arith) (a .1) in
+        let r = not-false _ (a .0) in
+        let rv = vertex-range h v (and-left _ _ r) in
+        let rt = block-range h t (and-right (isVertex h v) _ r) in
+        let on = eqb-true (above (s .stack) v) 0 (not-false _ (b .0)) in
+        let here = ok .placed v (rv .0) (rv .1) .board on in
+        record {
+          sound = ok .sound;
+          inside = ok .inside;
+          placed = placed-move h (s .stack) (s .block) v t (ok .placed) on (rt .0) (rt .1);
+          recorded = ((on, here .0, here .1), ok .recorded);
+        }
 
-  pub legal-call : (s : State) (c : Call) → Legal s → Legal (call h s c .state)
-  unfolding call
-  legal-call s (callJ u v) ok = settled (refusesJ h s u v) s (doesJ h s u v) ok (legal-J s u v ok)
-  legal-call s callS ok = legal-S s (s .stack) refl ok
-  legal-call s (callM v t) ok = settled (refusesM h s v t) s (doesM h s v t) ok (legal-M s v t ok)
-  legal-call s callB ok = legal-B s (s .journal) refl ok
-  legal-call s (callW u v) ok = settled (refusesW h s u v) s (doesW h s u v) ok (λ q. legal-W s u v ok)
-  legal-call s callP ok = legal-P s ok
-  legal-call s callA ok = settled (refusesA h s (s .stack)) s (doesA h s) ok (legal-A s (s .stack) refl ok)
+    pub legal-W : (s : State) (u v : ℕ) → Legal s → Legal (doesW h ceiling s u v .state)
+    unfolding doesW
+    legal-W s u v ok = record { sound = ok .sound; inside = ok .inside; placed = walked-metric h ceiling (s .stack) (s .block) u v (ok .placed) .0; recorded = tt }
+
+    pub legal-P : (s : State) → Legal s → Legal (doesP h ceiling s .state)
+    unfolding doesP
+    legal-P s ok = record { sound = ok .sound; inside = ok .inside; placed = polish-ends h ceiling (s .stack) (s .block) (ok .placed) .placed; recorded = tt }
+
+    pub legal-A : (s : State) (cs : List Contraction) → s .stack ≡ cs → Legal s → refusesA h s cs ≡ 0 → Legal (doesA h ceiling s .state)
+    unfolding refusesA doesA
+    legal-A s [] q ok e = record { sound = tt; inside = tt; placed = solves s (subst (λ (l : List Contraction). Placed h l (s .block)) q (ok .placed)) .placed; recorded = tt }
+    legal-A s (c ∷ cs) q ok e = absurd (omega arith)
+
+    pub legal-call : (s : State) (c : Call) → Legal s → Legal (callUnder h ceiling s c .state)
+    unfolding callUnder
+    legal-call s (callJ u v) ok = settled (refusesJ h s u v) s (doesJ h s u v) ok (legal-J s u v ok)
+    legal-call s callS ok = legal-S s (s .stack) refl ok
+    legal-call s (callM v t) ok = settled (refusesM h ceiling s v t) s (doesM h s v t) ok (legal-M s v t ok)
+    legal-call s callB ok = legal-B s (s .journal) refl ok
+    legal-call s (callW u v) ok = settled (refusesW h s u v) s (doesW h ceiling s u v) ok (λ q. legal-W s u v ok)
+    legal-call s callP ok = legal-P s ok
+    legal-call s callA ok = settled (refusesA h s (s .stack)) s (doesA h ceiling s) ok (legal-A s (s .stack) refl ok)
 
   -- a fresh machine is legal where the draft has each vertex in a block
   pub legal-fresh : ((x : ℕ) → 1 ≤ x → x ≤ vertices h → (1 ≤ drafted h x) × (drafted h x ≤ h .blocks)) → Legal (fresh h)
@@ -244,7 +245,7 @@ module _ (h : Hypergraph) where
   pub legal-after : (s : State) (cs : List Call) → Legal s → Legal (after h s cs)
   unfolding after
   legal-after s [] ok = ok
-  legal-after s (c ∷ cs) ok = legal-after (call h s c .state) cs (legal-call s c ok)
+  legal-after s (c ∷ cs) ok = legal-after (call h s c .state) cs (legal-call (capacities h) s c ok)
 
   -- so they do in A
   pub A-joins-end : (s : State) → Coarsest (coarsen h (vertices h) (record { stack = []; block = s .block }))

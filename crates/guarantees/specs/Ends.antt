@@ -14,8 +14,8 @@ use Rattle.laws.specs.Choice.{and-left, and-right}
 use Rattle.laws.specs.Integer.{up, dn, le-by, pos-is, sub-is, lt-parts, ≤ℤ-trans}
 use Rattle.laws.specs.Place.{place, place-at, place-off}
 use Rattle.model.specs.Catalogue.{Hypergraph, vertices}
-use Rattle.model.specs.Measure.{Contraction, above, onBoard, metric, gain}
-use Rattle.model.specs.Search.{Best, none, best, Polish, canGo, polishBest, polishTurn, polishOn, polish}
+use Rattle.model.specs.Measure.{Contraction, above, metric, gain}
+use Rattle.model.specs.Search.{Best, none, best, Polish, mayMove, canGo, polishBest, polishTurn, polishOn, polish}
 use Rattle.guarantees.specs.Moves.{metric-gain}
 use Rattle.guarantees.specs.Tops.{Top, best-top}
 
@@ -27,6 +27,10 @@ module _ (h : Hypergraph) (cs : List Contraction) where
 
   abbrev pub Placed : (ℕ → ℕ) → Type 0
   Placed p = (x : ℕ) → 1 ≤ x → x ≤ vertices h → At p x
+
+  -- a vertex that may move is on the board
+  pub may-on : (v : ℕ) → mayMove h cs v ≡ true → above cs v ≡ 0
+  may-on v q = eqb-true (above cs v) 0 q
 
   abbrev pub Pair : ℕ → ℕ → Type 0
   Pair v t = (1 ≤ v) × (v ≤ vertices h) × (1 ≤ t) × (t ≤ h .blocks)
@@ -44,23 +48,25 @@ module _ (h : Hypergraph) (cs : List Contraction) where
         off = λ o. place-off p v t x n ∙ ok x xl xu .off o;
       }
 
+-- the same under a ceiling of each block
+module _ (h : Hypergraph) (ceiling : ℕ → ℕ) (cs : List Contraction) where
   -- what an open pair is
-  pub can-on : (p : ℕ → ℕ) (v t : ℕ) → canGo h cs p v t ≡ true → above cs v ≡ 0
+  pub can-on : (p : ℕ → ℕ) (v t : ℕ) → canGo h ceiling cs p v t ≡ true → above cs v ≡ 0
   unfolding canGo
-  can-on p v t q = eqb-true (above cs v) 0 (and-left _ _ (and-left _ _ q))
+  can-on p v t q = may-on h cs v (and-left _ _ (and-left _ _ q))
 
-  pub can-away : (p : ℕ → ℕ) (v t : ℕ) → canGo h cs p v t ≡ true → p v ≡ t → ⊥
+  pub can-away : (p : ℕ → ℕ) (v t : ℕ) → canGo h ceiling cs p v t ≡ true → p v ≡ t → ⊥
   unfolding canGo
-  can-away p v t q = eqb-false (p v) t (not-true _ (and-right (onBoard cs v) _ (and-left _ _ q)))
+  can-away p v t q = eqb-false (p v) t (not-true _ (and-right (mayMove h cs v) _ (and-left _ _ q)))
 
   -- the metric after an open pair's move
-  pub metric-open : (p : ℕ → ℕ) (v t : ℕ) → Placed p → Pair v t → canGo h cs p v t ≡ true → pos (metric h cs (place p v t)) ≡ pos (metric h cs p) -ℤ gain h cs p v t
+  pub metric-open : (p : ℕ → ℕ) (v t : ℕ) → Placed h cs p → Pair h cs v t → canGo h ceiling cs p v t ≡ true → pos (metric h cs (place p v t)) ≡ pos (metric h cs p) -ℤ gain h cs p v t
   metric-open p v t ok r q =
       let s = ok v (r .0) (r .1) .board (can-on p v t q) in
       metric-gain h cs p v t (r .0) (r .1) (s .0) (s .1) (r .2) (r .3) (can-away p v t q)
 
   -- no gain is above the metric
-  gain-le : (p : ℕ → ℕ) (v t : ℕ) → Placed p → Pair v t → canGo h cs p v t ≡ true → gain h cs p v t ≤ℤ pos (metric h cs p)
+  gain-le : (p : ℕ → ℕ) (v t : ℕ) → Placed h cs p → Pair h cs v t → canGo h ceiling cs p v t ≡ true → gain h cs p v t ≤ℤ pos (metric h cs p)
   gain-le p v t ok r q = le-by _ _ (omega (
     arith,
     ap up (metric-open p v t ok r q),
@@ -72,13 +78,13 @@ module _ (h : Hypergraph) (cs : List Contraction) where
 
   -- p′ is where polishing from p may end
   pub record Polished (p p′ : ℕ → ℕ) : Type 0 where
-    pub placed : Placed p′
+    pub placed : Placed h cs p′
     pub lower : metric h cs p′ ≤ metric h cs p
-    pub stuck : (v t : ℕ) → Pair v t → canGo h cs p′ v t ≡ true → gain h cs p′ v t ≤ℤ pos 0
+    pub stuck : (v t : ℕ) → Pair h cs v t → canGo h ceiling cs p′ v t ≡ true → gain h cs p′ v t ≤ℤ pos 0
 
-  turn-end : (n : ℕ) (q : Polish) → Placed (q .block) → metric h cs (q .block) ≤ suc n
-      → ((r : Polish) → Placed (r .block) → metric h cs (r .block) ≤ n → Polished (r .block) (polishOn h cs n r .block))
-      → (b : Best) → Top (canGo h cs (q .block)) (gain h cs (q .block)) Pair b → Polished (q .block) (polishTurn h cs q (polishOn h cs n) b .block)
+  turn-end : (n : ℕ) (q : Polish) → Placed h cs (q .block) → metric h cs (q .block) ≤ suc n
+      → ((r : Polish) → Placed h cs (r .block) → metric h cs (r .block) ≤ n → Polished (r .block) (polishOn h ceiling cs n r .block))
+      → (b : Best) → Top (canGo h ceiling cs (q .block)) (gain h cs (q .block)) (Pair h cs) b → Polished (q .block) (polishTurn h cs q (polishOn h ceiling cs n) b .block)
   unfolding polishTurn
   turn-end n q ok l ih none top = record {
     placed = ok;
@@ -104,10 +110,10 @@ module _ (h : Hypergraph) (cs : List Contraction) where
         pos-is 0,
       )
 
-      go : (b : Bool) → ltZ (pos 0) g ≡ b → Polished (q .block) (cond b (polishOn h cs n next) q .block)
+      go : (b : Bool) → ltZ (pos 0) g ≡ b → Polished (q .block) (cond b (polishOn h ceiling cs n next) q .block)
       go true e =
           let down : metric h cs (place (q .block) v t) < metric h cs (q .block) = less (subst T (sym e) tt) in
-          let end : Polished (place (q .block) v t) (polishOn h cs n next .block) = ih next (placed-move (q .block) v t ok (can-on (q .block) v t (top .open-pair)) (top .there .2) (top .there .3)) (omega arith) in
+          let end : Polished (place (q .block) v t) (polishOn h ceiling cs n next .block) = ih next (placed-move h cs (q .block) v t ok (can-on (q .block) v t (top .open-pair)) (top .there .2) (top .there .3)) (omega arith) in
           record { placed = end .placed; lower = omega (arith, end .lower); stuck = end .stuck }
       go false e = record {
         placed = ok;
@@ -116,15 +122,15 @@ module _ (h : Hypergraph) (cs : List Contraction) where
       }
 
   -- with the metric for fuel, polishing ends by itself
-  polish-end : (n : ℕ) (q : Polish) → Placed (q .block) → metric h cs (q .block) ≤ n → Polished (q .block) (polishOn h cs n q .block)
+  polish-end : (n : ℕ) (q : Polish) → Placed h cs (q .block) → metric h cs (q .block) ≤ n → Polished (q .block) (polishOn h ceiling cs n q .block)
   unfolding polishOn polishBest
   polish-end zero q ok l = record {
     placed = ok;
     lower = omega arith;
     stuck = λ v t r o. ≤ℤ-trans (gain-le (q .block) v t ok r o) (le-by _ _ (omega (arith, pos-is (metric h cs (q .block)), pos-is 0)));
   }
-  polish-end (suc n) q ok l = turn-end n q ok l (polish-end n) (polishBest h cs (q .block)) (best-top (canGo h cs (q .block)) (gain h cs (q .block)) (h .blocks) (vertices h))
+  polish-end (suc n) q ok l = turn-end n q ok l (polish-end n) (polishBest h ceiling cs (q .block)) (best-top (canGo h ceiling cs (q .block)) (gain h cs (q .block)) (h .blocks) (vertices h))
 
-  pub polish-ends : (p : ℕ → ℕ) → Placed p → Polished p (polish h cs p .block)
+  pub polish-ends : (p : ℕ → ℕ) → Placed h cs p → Polished p (polish h ceiling cs p .block)
   unfolding polish
   polish-ends p ok = polish-end (metric h cs p) (record { block = p; made = 0 }) ok (omega arith)

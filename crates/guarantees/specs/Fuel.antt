@@ -28,36 +28,36 @@ cond-same : {A : Type 0} (b : Bool) (x : A) → cond b x x ≡ x
 cond-same true x = refl
 cond-same false x = refl
 
-module _ (h : Hypergraph) (cs : List Contraction) where
-  over-rests : (w : Walk) → Over h cs w → (n : ℕ) → walkOn h cs n w ≡ w
+module _ (h : Hypergraph) (ceiling : ℕ → ℕ) (cs : List Contraction) where
+  over-rests : (w : Walk) → Over h ceiling cs w → (n : ℕ) → walkOn h ceiling cs n w ≡ w
   unfolding walkOn walkTurn
   over-rests w o zero = refl
-  over-rests w (inl e) (suc n) = ap (λ (b : Bool). cond b w (walkTurn h cs w (walkOn h cs n) (walkBest h cs w))) e
+  over-rests w (inl e) (suc n) = ap (λ (b : Bool). cond b w (walkTurn h cs w (walkOn h ceiling cs n) (walkBest h ceiling cs w))) e
   over-rests w (inr e) (suc n) =
-      ap (λ (b : Best). cond (leb (w .kept + patience) (w .tried)) w (walkTurn h cs w (walkOn h cs n) b)) e
+      ap (λ (b : Best). cond (leb (w .kept + patience) (w .tried)) w (walkTurn h cs w (walkOn h ceiling cs n) b)) e
       ∙ cond-same (leb (w .kept + patience) (w .tried)) w
 
-  pub walk-rests : (p : ℕ → ℕ) (u v : ℕ) → Placed h cs p → (n : ℕ) → walkOn h cs n (walk h cs p u v) ≡ walk h cs p u v
-  walk-rests p u v ok = over-rests (walk h cs p u v) (walk-ends h cs p u v ok .over)
+  pub walk-rests : (p : ℕ → ℕ) (u v : ℕ) → Placed h cs p → (n : ℕ) → walkOn h ceiling cs n (walk h ceiling cs p u v) ≡ walk h ceiling cs p u v
+  walk-rests p u v ok = over-rests (walk h ceiling cs p u v) (walk-ends h ceiling cs p u v ok .over)
 
   not-above : (g : ℤ) → g ≤ℤ pos 0 → (b : Bool) → ltZ (pos 0) g ≡ b → b ≡ false
   not-above g l true e = absurd (omega (arith, lt-parts (pos 0) g (ltZ-yes (subst T (sym e) tt)), le-parts g (pos 0) l, pos-is 0))
   not-above g l false e = refl
 
-  turn-rests : (q : Polish) (on : Polish → Polish) → ((v t : ℕ) → Pair h cs v t → canGo h cs (q .block) v t ≡ true → gain h cs (q .block) v t ≤ℤ pos 0)
-      → (b : Best) → Top (canGo h cs (q .block)) (gain h cs (q .block)) (Pair h cs) b → polishTurn h cs q on b ≡ q
+  turn-rests : (q : Polish) (on : Polish → Polish) → ((v t : ℕ) → Pair h cs v t → canGo h ceiling cs (q .block) v t ≡ true → gain h cs (q .block) v t ≤ℤ pos 0)
+      → (b : Best) → Top (canGo h ceiling cs (q .block)) (gain h cs (q .block)) (Pair h cs) b → polishTurn h cs q on b ≡ q
   unfolding polishTurn
   turn-rests q on stuck none top = refl
   turn-rests q on stuck (best v t g) top =
       ap (λ (b : Bool). cond b (on (record { block = place (q .block) v t; made = suc (q .made) })) q) (not-above g (subst (λ (z : ℤ). z ≤ℤ pos 0) (sym (top .value)) (stuck v t (top .there) (top .open-pair))) (ltZ (pos 0) g) refl)
 
-  stuck-rests : (q : Polish) → ((v t : ℕ) → Pair h cs v t → canGo h cs (q .block) v t ≡ true → gain h cs (q .block) v t ≤ℤ pos 0) → (n : ℕ) → polishOn h cs n q ≡ q
+  stuck-rests : (q : Polish) → ((v t : ℕ) → Pair h cs v t → canGo h ceiling cs (q .block) v t ≡ true → gain h cs (q .block) v t ≤ℤ pos 0) → (n : ℕ) → polishOn h ceiling cs n q ≡ q
   unfolding polishOn polishBest
   stuck-rests q stuck zero = refl
-  stuck-rests q stuck (suc n) = turn-rests q (polishOn h cs n) stuck (polishBest h cs (q .block)) (best-top (canGo h cs (q .block)) (gain h cs (q .block)) (h .blocks) (vertices h))
+  stuck-rests q stuck (suc n) = turn-rests q (polishOn h ceiling cs n) stuck (polishBest h ceiling cs (q .block)) (best-top (canGo h ceiling cs (q .block)) (gain h cs (q .block)) (h .blocks) (vertices h))
 
-  pub polish-rests : (p : ℕ → ℕ) → Placed h cs p → (n : ℕ) → polishOn h cs n (polish h cs p) ≡ polish h cs p
-  polish-rests p ok = stuck-rests (polish h cs p) (polish-ends h cs p ok .stuck)
+  pub polish-rests : (p : ℕ → ℕ) → Placed h cs p → (n : ℕ) → polishOn h ceiling cs n (polish h ceiling cs p) ≡ polish h ceiling cs p
+  polish-rests p ok = stuck-rests (polish h ceiling cs p) (polish-ends h ceiling cs p ok .stuck)
 
 module _ (h : Hypergraph) where
   pub coarsest-rests : (c : Coarse) → Coarsest h c → (n : ℕ) → coarsen h n c ≡ c

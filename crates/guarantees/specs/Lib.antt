@@ -5,10 +5,11 @@
 --    Weights (blockWeight-join), Splits (metric-split, blockWeight-split), so J and S do: Contractions (J-leaves, S-leaves). With no
 --    contraction pins and weights are the loaded ones: Splits (pin-none, weight-none). A clump's gain is the effect on the
 --    uncontracted hypergraph: ClumpGain (clump-gain).
--- 3. From an accepted catalogue, after every list of calls, no block is above the capacity: Reached (within-capacity).
--- 4. No W, P or A ends on a higher metric: NeverHigher (never-higher). A walk keeps the first prefix of lowest metric: Walks (first-lowest).
+-- 3. A call under a ceiling that the state is within leaves a state within it: Caps (held-call). From an accepted catalogue, after every list of
+--    calls, no block is above the capacity: Reached (within-capacity).
+-- 4. No W, P or A, under any ceiling, ends on a higher metric: NeverHigher (never-higher). A walk keeps the first prefix of lowest metric: Walks (first-lowest).
 --    No definition stops for want of fuel: Fuel (walk-rests, polish-rests, coarsen-rests, climb-rests, digits-fuel).
--- 5. When an accepted A ends, no single move with room lowers the metric: Optimum (A-best; P-best for P).
+-- 5. When an accepted A ends, under any ceiling, no single move with room lowers the metric: Optimum (A-best; P-best for P).
 -- 6. An accepted file is within every range of document 01: Ranges (accepted-ranges, accepted-book).
 -- 7. Bounds for the code: ReachedBounds (reached-bounds), SearchBounds (walk-counts, refine-counts, polish-count), AnswerBounds (bounded-call),
 --    Stretches (size-le, size-fresh, stretch-le, marks-le). The report fits into the lent output: ReportFits (report-fits), whatever the file:

@@ -1,4 +1,4 @@
--- An accepted file's catalogue is loaded (parsed): blocks, draft, weights and pins in range, the marks of each net distinct and at
+-- An accepted file's catalogue is loaded (parsed): blocks, draft, weights and pins in range, W the sum of all weights, the marks of each net distinct and at
 -- least one. Its book is of the announced size (parsed-size), with at most 8,192 marks and 512 calls; and a fresh machine over it is in a
 -- state that all laws of calls want (held-start). Rests on Reading. Assumes nothing.
 use Prim.Native.Nat.{ℕ, zero, suc, _+_, _-_, _≤_, _<_}
@@ -14,7 +14,7 @@ use Rattle.laws.specs.Fold.{sumOver, sumOver-more, All, all-map, all-more, all-
 use Rattle.laws.specs.Occurrence.{Distinct}
 use Rattle.laws.specs.Sum.{foldTo}
 use Rattle.laws.specs.Choice.{and-left, and-right, or-none}
-use Rattle.model.specs.Catalogue.{Limits, Hypergraph, vertices, drafted, capacity}
+use Rattle.model.specs.Catalogue.{Limits, Hypergraph, vertices, drafted, capacity, capacities}
 use Rattle.model.specs.Measure.{blockWeight}
 use Rattle.model.specs.Machine.{Call, fresh}
 use Rattle.model.specs.Grammar.{Book, reading, whole, full, overfull, withLot, withNet, parse}
@@ -28,6 +28,7 @@ pub record Loaded (limits : Limits) (h : Hypergraph) : Type 0 where
   pub blocks-high : h .blocks ≤ limits .blockLimit
   pub draft-in : All (h .draft) (λ b. (1 ≤ b) × (b ≤ h .blocks))
   pub as-long : length (h .draft) ≡ length (h .weights)
+  pub total-is : h .totalWeight ≡ sumOver (h .weights) (λ w. w)
   pub nets-in : All (h .nets) (Within (vertices h))
   pub nets-distinct : All (h .nets) (λ e. Distinct (e .pins) 0 (length (e .pins)))
   pub nets-some : All (h .nets) (λ e. 1 ≤ length (e .pins))
@@ -56,7 +57,7 @@ module _ (limits : Limits) where
   read-first : (n m k s : ℕ) → 1 ≤ n → n ≤ limits .vertexLimit → m ≤ 1024 → 2 ≤ k → k ≤ limits .blockLimit → s ≤ 1000 → Read (blank n m k s)
   unfolding sumOver
   read-first n m k s nl nu mu kl ku su = record {
-    loads = record { blocks-low = kl; blocks-high = ku; draft-in = tt; as-long = refl; nets-in = tt; nets-distinct = tt; nets-some = tt; weights-in = tt; net-weights = tt; imbalance-high = su };
+    loads = record { blocks-low = kl; blocks-high = ku; draft-in = tt; as-long = refl; total-is = refl; nets-in = tt; nets-distinct = tt; nets-some = tt; weights-in = tt; net-weights = tt; imbalance-high = su };
     even = λ w. absurd (omega (arith, eqb-true 0 n (and-left _ _ w)));
     sized = record { lots-low = nl; lots-high = nu; buyers-high = mu; lots-le = omega arith; nets-le = omega arith; marks-are = refl; marks-high = omega arith; calls-high = omega arith };
   }
@@ -74,6 +75,7 @@ module _ (limits : Limits) where
           blocks-high = g .blocks-high;
           draft-in = all-more (h .draft) _ b (g .draft-in) (bl, bu);
           as-long = length-append (h .draft) (b ∷ []) ∙ ap (λ (n : ℕ). n + 1) (g .as-long) ∙ sym longer;
+          total-is = ap (λ (n : ℕ). n + w) (g .total-is) ∙ sym (sumOver-more (h .weights) w (λ x. x));
           nets-in = all-map (h .nets) _ _ (λ e. all-map (e .pins) _ _ (λ x r. (r .0, omega (arith, r .1, longer)))) (g .nets-in);
           nets-distinct = g .nets-distinct;
           nets-some = g .nets-some;
@@ -98,6 +100,7 @@ module _ (limits : Limits) where
           blocks-high = g .blocks-high;
           draft-in = g .draft-in;
           as-long = g .as-long;
+          total-is = g .total-is;
           nets-in = all-more ns _ _ (g .nets-in) (a .in-range);
           nets-distinct = all-more ns _ _ (g .nets-distinct) (a .distinct);
           nets-some = all-more ns _ _ (g .nets-some) vl;
@@ -166,11 +169,11 @@ module _ (limits : Limits) where
       go both ih (yes e) = ap f e ∙ both .1
       go both ih (no m) = ih (both .0) (omega arith)
 
-  pub capped-draft : (h : Hypergraph) → overfull h ≡ false → Capped h [] (drafted h)
+  pub capped-draft : (h : Hypergraph) → overfull h ≡ false → Capped h (capacities h) [] (drafted h)
   unfolding overfull
   capped-draft h q b l u = ltb-false (capacity h) (blockWeight h [] (drafted h) b) (none-over (h .blocks) (λ s. ltb (capacity h) (blockWeight h [] (drafted h) s)) q b l u)
 
-  pub held-start : (file : List ℕ) (k : Book) → parse limits file ≡ reading k → Held (k .graph) (fresh (k .graph))
+  pub held-start : (file : List ℕ) (k : Book) → parse limits file ≡ reading k → Held (k .graph) (capacities (k .graph)) (fresh (k .graph))
   unfolding fresh
   held-start file k q =
       let r = read-all file k q in

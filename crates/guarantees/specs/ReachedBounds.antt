@@ -9,11 +9,11 @@ use lib.ListN.{length}
 use Rattle.model.specs.Catalogue.{Limits, Hypergraph, vertices, averageWeight, capacity}
 use Rattle.model.specs.Measure.{weight, blockWeight, metric, gain}
 use Rattle.model.specs.Machine.{Call, State, fresh}
-use Rattle.model.specs.Search.{rating, call}
+use Rattle.model.specs.Search.{rating, callUnder}
 use Rattle.model.specs.Engine.{after}
 use Rattle.model.specs.Demand.{Accepted}
 use Rattle.guarantees.specs.Bounds.{gain-le, rating-le}
-use Rattle.guarantees.specs.WeightBounds.{weight-le, blockWeight-le, total-le, average-le, product-le, capacity-le}
+use Rattle.guarantees.specs.WeightBounds.{weight-le, blockWeight-le, loaded-le, average-le, product-le, capacity-le}
 use Rattle.guarantees.specs.StateBounds.{stack-le, journal-le, Listed, journal-in}
 use Rattle.guarantees.specs.AnswerBounds.{Bounded, bounded-call, metric-in}
 use Rattle.guarantees.specs.Ranges.{Ranges, accepted-ranges}
@@ -31,7 +31,7 @@ pub record Small (h : Hypergraph) (calls : List Call) (s : State) : Type 0 where
   pub capacities : capacity h < 2 ^ 27
   pub products : (1000 + h .imbalance) * averageWeight h < 2 ^ 64
   pub ratings : (u v : ℕ) → rating h (s .stack) u v < 2 ^ 64
-  pub answers : (c : Call) → Bounded (call h s c .answer)
+  pub answers : (ceiling : ℕ → ℕ) (c : Call) → Bounded (callUnder h ceiling s c .answer)
 
 pub reached-bounds : (limits : Limits) → limits .vertexLimit ≤ 1024 → limits .blockLimit ≤ 16 → (h : Hypergraph) → Accepted limits h → (calls : List Call) → Small h calls (after h (fresh h) calls)
 reached-bounds limits small narrow h a calls =
@@ -44,11 +44,11 @@ reached-bounds limits small narrow h a calls =
       journal-real = journal-in h calls;
       gains = λ v t. omega (arith, gain-le limits narrow h (r .loaded) (r .nets-high) (s .stack) (s .block) v t);
       metrics = λ p. omega (arith, metric-in limits small narrow h r (s .stack) p);
-      weights = λ v. omega (arith, weight-le h (s .stack) v, total-le limits small h r);
-      block-weights = λ b. omega (arith, blockWeight-le h (s .stack) (s .block) b, total-le limits small h r);
+      weights = λ v. omega (arith, weight-le h (s .stack) v, loaded-le limits small h r);
+      block-weights = λ b. omega (arith, blockWeight-le h (s .stack) (s .block) b, loaded-le limits small h r);
       averages = omega (arith, average-le limits small h r);
       capacities = omega (arith, capacity-le limits small h r);
       products = omega (arith, product-le limits small h r);
       ratings = λ u v. omega (arith, rating-le limits h (r .loaded) (r .nets-high) (s .stack) u v);
-      answers = λ c. bounded-call limits small narrow h r s c k (journal-in h calls);
+      answers = λ ceiling c. bounded-call limits small narrow h r ceiling s c k (journal-in h calls);
     }

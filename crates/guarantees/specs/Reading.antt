@@ -74,7 +74,7 @@ module _ (h : Hypergraph) (before : ℕ) where
 
 -- ---- the book after one line more
 abbrev pub blank : ℕ → ℕ → ℕ → ℕ → Book
-blank n m k s = record { lots = n; buyers = m; graph = record { blocks = k; imbalance = s; weights = []; draft = []; nets = [] }; marks = 0; calls = [] }
+blank n m k s = record { lots = n; buyers = m; graph = record { blocks = k; imbalance = s; totalWeight = 0; weights = []; draft = []; nets = [] }; marks = 0; calls = [] }
 
 abbrev pub lotted : Book → ℕ → ℕ → Book
 lotted k w b = record { lots = k .lots; buyers = k .buyers; graph = withLot (k .graph) w b; marks = k .marks; calls = [] }

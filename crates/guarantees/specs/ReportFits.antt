@@ -11,7 +11,7 @@ use lib.IntN.{ℤ, pos, negsuc, natAbs}
 use lib.ListN.{length, length-append}
 use Rattle.laws.specs.Fold.{sumOver}
 use Rattle.laws.specs.Sum.{foldTo}
-use Rattle.model.specs.Catalogue.{Limits, Net, Hypergraph, vertices}
+use Rattle.model.specs.Catalogue.{Limits, Net, Hypergraph, vertices, capacities}
 use Rattle.model.specs.Measure.{representative, connectivity, metric}
 use Rattle.model.specs.Machine.{Call, Answer, saysJ, saysS, saysM, saysB, saysW, saysP, saysA, saysNO, State, fresh}
 use Rattle.model.specs.Search.{call}
@@ -137,8 +137,8 @@ module _ (limits : Limits) (small : limits .vertexLimit ≤ 1024) (narrow : limi
   answers-le s (c ∷ cs) ok k = omega (
     arith,
     length-append (answerRow (call h s c .answer)) (answers h (call h s c .state) cs),
-    answer-le (call h s c .answer) (bounded-call limits small narrow h r s c ok k),
-    answers-le (call h s c .state) cs (legal-call h s c ok) (listed-call h s c k),
+    answer-le (call h s c .answer) (bounded-call limits small narrow h r (capacities h) s c ok k),
+    answers-le (call h s c .state) cs (legal-call h (capacities h) s c ok) (listed-call h (capacities h) s c k),
   )
 
 pub report-fits : (limits : Limits) → limits .vertexLimit ≤ 1024 → limits .blockLimit ≤ 16 → (h : Hypergraph) → Accepted limits h → (calls : List Call) → length calls ≤ 512 → length (run h calls) ≤ 60000

@@ -12,7 +12,7 @@ use Rattle.laws.specs.Place.{place, place-at, place-back}
 use Rattle.model.specs.Catalogue.{Hypergraph, isVertex, isBlock}
 use Rattle.model.specs.Measure.{Contraction, onBoard}
 use Rattle.model.specs.Machine.{Call, callJ, callS, callM, callB, callW, callP, callA, Move, State, Step, settle, refusesJ, contract, doesJ, refusesM, doesM, doesS, doesB}
-use Rattle.model.specs.Search.{refusesW, doesW, doesP, refusesA, doesA, call}
+use Rattle.model.specs.Search.{refusesW, doesW, doesP, refusesA, doesA, callUnder}
 
 abbrev pub Apart : (ℕ → ℕ) → List Move → Type 0
 Apart p [] = Unit {0}
@@ -21,13 +21,13 @@ Apart p (m ∷ ms) = (p (m .vertex) ≡ m .from → ⊥) × Apart (place p (m .v
 abbrev ApartIn : State → Type 0
 ApartIn s = Apart (s .block) (s .journal)
 
-module _ (h : Hypergraph) where
+module _ (h : Hypergraph) (ceiling : ℕ → ℕ) where
   settled : (q : ℕ) (s : State) (done : Step) → ApartIn s → (q ≡ 0 → ApartIn (done .state)) → ApartIn (settle q s done .state)
   unfolding settle
   settled zero s done ok f = f refl
   settled (suc q) s done ok f = ok
 
-  apart-M : (s : State) (v t : ℕ) → ApartIn s → refusesM h s v t ≡ 0 → ApartIn (doesM h s v t .state)
+  apart-M : (s : State) (v t : ℕ) → ApartIn s → refusesM h ceiling s v t ≡ 0 → ApartIn (doesM h s v t .state)
   unfolding refusesM doesM
   apart-M s v t ok q =
       let a = cond-zero (not (isVertex h v && isBlock h t)) 9 _ (omega arith) q in
@@ -45,12 +45,12 @@ module _ (h : Hypergraph) where
   apart-B s [] q ok = ok
   apart-B s (m ∷ ms) q ok = let r : Apart (s .block) (m ∷ ms) = subst (Apart (s .block)) q ok in r .1
 
-  pub apart-call : (s : State) (c : Call) → ApartIn s → ApartIn (call h s c .state)
-  unfolding call doesJ contract doesW doesP doesA
+  pub apart-call : (s : State) (c : Call) → ApartIn s → ApartIn (callUnder h ceiling s c .state)
+  unfolding callUnder doesJ contract doesW doesP doesA
   apart-call s (callJ u v) ok = settled (refusesJ h s u v) s (doesJ h s u v) ok (λ _. tt)
   apart-call s callS ok = apart-S s (s .stack) ok
-  apart-call s (callM v t) ok = settled (refusesM h s v t) s (doesM h s v t) ok (apart-M s v t ok)
+  apart-call s (callM v t) ok = settled (refusesM h ceiling s v t) s (doesM h s v t) ok (apart-M s v t ok)
   apart-call s callB ok = apart-B s (s .journal) refl ok
-  apart-call s (callW u v) ok = settled (refusesW h s u v) s (doesW h s u v) ok (λ _. tt)
+  apart-call s (callW u v) ok = settled (refusesW h s u v) s (doesW h ceiling s u v) ok (λ _. tt)
   apart-call s callP ok = tt
-  apart-call s callA ok = settled (refusesA h s (s .stack)) s (doesA h s) ok (λ _. tt)
+  apart-call s callA ok = settled (refusesA h s (s .stack)) s (doesA h ceiling s) ok (λ _. tt)

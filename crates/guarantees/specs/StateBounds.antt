@@ -10,10 +10,10 @@ use lib.ListN.{length}
 use Rattle.laws.specs.Choice.{one, and-left, cond-zero}
 use Rattle.laws.specs.Fold.{All}
 use Rattle.laws.specs.Sum.{sumTo-term, sumTo-const}
-use Rattle.model.specs.Catalogue.{Hypergraph, vertices, isVertex, isBlock}
+use Rattle.model.specs.Catalogue.{Hypergraph, vertices, isVertex, isBlock, capacities}
 use Rattle.model.specs.Measure.{Contraction, above, onBoard}
 use Rattle.model.specs.Machine.{Call, callJ, callS, callM, callB, callW, callP, callA, Move, State, Step, fresh, settle, refusesJ, contract, doesJ, refusesM, doesM, doesS, doesB}
-use Rattle.model.specs.Search.{boardSize, refusesW, doesW, doesP, refusesA, doesA, call}
+use Rattle.model.specs.Search.{boardSize, refusesW, doesW, doesP, refusesA, doesA, callUnder, call}
 use Rattle.model.specs.Engine.{after}
 use Rattle.guarantees.specs.Climbs.{Sound}
 use Rattle.guarantees.specs.Calls.{Inside, AllInside, into-on, board-join, vertex-range}
@@ -36,7 +36,7 @@ module _ (h : Hypergraph) where
 
   -- ---- the journal: what holds of an empty one, is kept by an accepted M and by dropping the last move, holds after each call
   module _ (Q : ℕ → List Move → Type 0) (empty : (n : ℕ) → Q n []) (later : (n : ℕ) (ms : List Move) → Q n ms → Q (suc n) ms)
-      (more : (n : ℕ) (s : State) (v t : ℕ) → refusesM h s v t ≡ 0 → Q n (s .journal) → Q (suc n) (record { vertex = v; from = s .block v } ∷ s .journal))
+      (more : (n : ℕ) (ceiling : ℕ → ℕ) (s : State) (v t : ℕ) → refusesM h ceiling s v t ≡ 0 → Q n (s .journal) → Q (suc n) (record { vertex = v; from = s .block v } ∷ s .journal))
       (fewer : (n : ℕ) (m : Move) (ms : List Move) → Q n (m ∷ ms) → Q n ms) where
     settled : (n q : ℕ) (s : State) (done : Step) → Q n (s .journal) → (q ≡ 0 → Q (suc n) (done .state .journal)) → Q (suc n) (settle q s done .state .journal)
     unfolding settle
@@ -53,15 +53,15 @@ module _ (h : Hypergraph) where
     after-B n s [] q k = later n (s .journal) k
     after-B n s (m ∷ ms) q k = later n ms (fewer n m ms (subst (Q n) q k))
 
-    after-call : (n : ℕ) (s : State) (c : Call) → Q n (s .journal) → Q (suc n) (call h s c .state .journal)
-    unfolding call doesJ contract doesM doesW doesP doesA
-    after-call n s (callJ u v) k = settled n (refusesJ h s u v) s (doesJ h s u v) k (λ _. empty (suc n))
-    after-call n s callS k = after-S n s (s .stack) k
-    after-call n s (callM v t) k = settled n (refusesM h s v t) s (doesM h s v t) k (λ q. more n s v t q k)
-    after-call n s callB k = after-B n s (s .journal) refl k
-    after-call n s (callW u v) k = settled n (refusesW h s u v) s (doesW h s u v) k (λ _. empty (suc n))
-    after-call n s callP k = empty (suc n)
-    after-call n s callA k = settled n (refusesA h s (s .stack)) s (doesA h s) k (λ _. empty (suc n))
+    after-call : (n : ℕ) (ceiling : ℕ → ℕ) (s : State) (c : Call) → Q n (s .journal) → Q (suc n) (callUnder h ceiling s c .state .journal)
+    unfolding callUnder doesJ contract doesM doesW doesP doesA
+    after-call n ceiling s (callJ u v) k = settled n (refusesJ h s u v) s (doesJ h s u v) k (λ _. empty (suc n))
+    after-call n ceiling s callS k = after-S n s (s .stack) k
+    after-call n ceiling s (callM v t) k = settled n (refusesM h ceiling s v t) s (doesM h s v t) k (λ q. more n ceiling s v t q k)
+    after-call n ceiling s callB k = after-B n s (s .journal) refl k
+    after-call n ceiling s (callW u v) k = settled n (refusesW h s u v) s (doesW h ceiling s u v) k (λ _. empty (suc n))
+    after-call n ceiling s callP k = empty (suc n)
+    after-call n ceiling s callA k = settled n (refusesA h s (s .stack)) s (doesA h ceiling s) k (λ _. empty (suc n))
 
     after-all : (n : ℕ) (s : State) (calls : List Call) → Q n (s .journal) → Q (n + length calls) (after h s calls .journal)
     unfolding after
@@ -69,25 +69,25 @@ module _ (h : Hypergraph) where
       where
         zero-more : (n : ℕ) → n ≡ n + 0
         zero-more n = omega arith
-    after-all n s (c ∷ cs) k = subst (λ (m : ℕ). Q m (after h (call h s c .state) cs .journal)) (one-more n (length cs)) (after-all (suc n) (call h s c .state) cs (after-call n s c k))
+    after-all n s (c ∷ cs) k = subst (λ (m : ℕ). Q m (after h (call h s c .state) cs .journal)) (one-more n (length cs)) (after-all (suc n) (call h s c .state) cs (after-call n (capacities h) s c k))
       where
         one-more : (n m : ℕ) → suc n + m ≡ n + suc m
         one-more n m = omega arith
 
   pub journal-le : (calls : List Call) → length (after h (fresh h) calls .journal) ≤ length calls
   unfolding fresh
-  journal-le calls = omega (arith, after-all (λ n ms. length ms ≤ n) (λ n. omega arith) (λ n ms l. omega arith) (λ n s v t _ l. omega arith) (λ n m ms l. omega arith) 0 (fresh h) calls (omega arith))
+  journal-le calls = omega (arith, after-all (λ n ms. length ms ≤ n) (λ n. omega arith) (λ n ms l. omega arith) (λ n ceiling s v t _ l. omega arith) (λ n m ms l. omega arith) 0 (fresh h) calls (omega arith))
 
   -- the moves of a journal are of vertices that there are
   abbrev pub Listed : List Move → Type 0
   Listed ms = All ms (λ m. (1 ≤ m .vertex) × (m .vertex ≤ vertices h))
 
-  listed-more : (s : State) (v t : ℕ) → refusesM h s v t ≡ 0 → Listed (s .journal) → Listed (record { vertex = v; from = s .block v } ∷ s .journal)
+  listed-more : (ceiling : ℕ → ℕ) (s : State) (v t : ℕ) → refusesM h ceiling s v t ≡ 0 → Listed (s .journal) → Listed (record { vertex = v; from = s .block v } ∷ s .journal)
   unfolding refusesM
-  listed-more s v t q k = (vertex-range h v (and-left _ _ (not-false _ (cond-zero (not (isVertex h v && isBlock h t)) 9 _ (omega arith) q .0))), k)
+  listed-more ceiling s v t q k = (vertex-range h v (and-left _ _ (not-false _ (cond-zero (not (isVertex h v && isBlock h t)) 9 _ (omega arith) q .0))), k)
 
-  pub listed-call : (s : State) (c : Call) → Listed (s .journal) → Listed (call h s c .state .journal)
-  listed-call s c k = after-call (λ n ms. Listed ms) (λ n. tt) (λ n ms k. k) (λ n. listed-more) (λ n m ms k. k .1) 0 s c k
+  pub listed-call : (ceiling : ℕ → ℕ) (s : State) (c : Call) → Listed (s .journal) → Listed (callUnder h ceiling s c .state .journal)
+  listed-call ceiling s c k = after-call (λ n ms. Listed ms) (λ n. tt) (λ n ms k. k) (λ n. listed-more) (λ n m ms k. k .1) 0 ceiling s c k
 
   pub journal-in : (calls : List Call) → Listed (after h (fresh h) calls .journal)
   unfolding fresh

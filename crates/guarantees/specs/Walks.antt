@@ -126,26 +126,6 @@ module _ (h : Hypergraph) (cs : List Contraction) where
   abbrev pub moved : Walk → ℕ → Bool
   moved w x = any (w .journal) (λ m. eqb (m .vertex) x)
 
-  abbrev pub Over : Walk → Type 0
-  Over w = (leb (w .kept + patience) (w .tried) ≡ true) ⊎ (walkBest h cs w ≡ none)
-
-  pub still : (w : Walk) (v t : ℕ) → isOpen h cs w v t ≡ true → moved w v ≡ false
-  unfolding isOpen
-  still w v t o = not-true _ (and-right (w .candidate v) _ (and-left _ _ o))
-
-  pub open-on : (w : Walk) (v t : ℕ) → isOpen h cs w v t ≡ true → above cs v ≡ 0
-  unfolding isOpen
-  open-on w v t o = can-on h cs (w .block) v t (and-right (w .candidate v && not (moved w v)) _ o)
-
-  -- every vertex has moved: no pair is open
-  none-left : (w : Walk) → vertices h ≤ countTo (vertices h) (moved w) → walkBest h cs w ≡ none
-  unfolding walkBest
-  none-left w l = go (walkBest h cs w) (best-top (isOpen h cs w) (gain h cs (w .block)) (h .blocks) (vertices h))
-    where
-      go : (b : Best) → Top (isOpen h cs w) (gain h cs (w .block)) (Pair h cs) b → b ≡ none
-      go none top = refl
-      go (best v t g) top = absurd (true≢false (sym (countTo-full (vertices h) (moved w) l v (top .there .0) (top .there .1)) ∙ still w v t (top .open-pair)))
-
   -- a move of a vertex that has not moved yet
   pub moved-more : (w : Walk) (v t n : ℕ) → 1 ≤ v → v ≤ vertices h → moved w v ≡ false → countTo (vertices h) (moved (walkMove h cs w v t n)) ≡ countTo (vertices h) (moved w) + 1
   unfolding walkMove any
@@ -156,32 +136,54 @@ module _ (h : Hypergraph) (cs : List Contraction) where
     ap (λ (b : Bool). one (b || moved w v)) (eq-eqb v v refl),
   )
 
+-- the same under a ceiling of each block
+module _ (h : Hypergraph) (ceiling : ℕ → ℕ) (cs : List Contraction) where
+  abbrev pub Over : Walk → Type 0
+  Over w = (leb (w .kept + patience) (w .tried) ≡ true) ⊎ (walkBest h ceiling cs w ≡ none)
+
+  pub still : (w : Walk) (v t : ℕ) → isOpen h ceiling cs w v t ≡ true → moved h cs w v ≡ false
+  unfolding isOpen
+  still w v t o = not-true _ (and-right (w .candidate v) _ (and-left _ _ o))
+
+  pub open-on : (w : Walk) (v t : ℕ) → isOpen h ceiling cs w v t ≡ true → above cs v ≡ 0
+  unfolding isOpen
+  open-on w v t o = can-on h ceiling cs (w .block) v t (and-right (w .candidate v && not (moved h cs w v)) _ o)
+
+  -- every vertex has moved: no pair is open
+  none-left : (w : Walk) → vertices h ≤ countTo (vertices h) (moved h cs w) → walkBest h ceiling cs w ≡ none
+  unfolding walkBest
+  none-left w l = go (walkBest h ceiling cs w) (best-top (isOpen h ceiling cs w) (gain h cs (w .block)) (h .blocks) (vertices h))
+    where
+      go : (b : Best) → Top (isOpen h ceiling cs w) (gain h cs (w .block)) (Pair h cs) b → b ≡ none
+      go none top = refl
+      go (best v t g) top = absurd (true≢false (sym (countTo-full (vertices h) (moved h cs w) l v (top .there .0) (top .there .1)) ∙ still w v t (top .open-pair)))
+
   pub record Ended (p : ℕ → ℕ) (w : Walk) : Type 0 where
-    pub going : Going p w
+    pub going : Going h cs p w
     pub over : Over w
 
-  turn-end : (n : ℕ) (p : ℕ → ℕ) (w : Walk) → Going p w → vertices h ≤ countTo (vertices h) (moved w) + suc n
-      → ((w′ : Walk) → Going p w′ → vertices h ≤ countTo (vertices h) (moved w′) + n → Ended p (walkOn h cs n w′))
-      → (b : Best) → walkBest h cs w ≡ b → Top (isOpen h cs w) (gain h cs (w .block)) (Pair h cs) b → Ended p (walkTurn h cs w (walkOn h cs n) b)
+  turn-end : (n : ℕ) (p : ℕ → ℕ) (w : Walk) → Going h cs p w → vertices h ≤ countTo (vertices h) (moved h cs w) + suc n
+      → ((w′ : Walk) → Going h cs p w′ → vertices h ≤ countTo (vertices h) (moved h cs w′) + n → Ended p (walkOn h ceiling cs n w′))
+      → (b : Best) → walkBest h ceiling cs w ≡ b → Top (isOpen h ceiling cs w) (gain h cs (w .block)) (Pair h cs) b → Ended p (walkTurn h cs w (walkOn h ceiling cs n) b)
   unfolding walkTurn
   turn-end n p w g l ih none q top = record { going = g; over = inr q }
   turn-end n p w g l ih (best v t f) q top = ih (walkMove h cs w v t (metric h cs (place (w .block) v t)))
-      (going-move w v t p g (open-on w v t (top .open-pair)) (top .there .2) (top .there .3))
-      (omega (arith, moved-more w v t (metric h cs (place (w .block) v t)) (top .there .0) (top .there .1) (still w v t (top .open-pair))))
+      (going-move h cs w v t p g (open-on w v t (top .open-pair)) (top .there .2) (top .there .3))
+      (omega (arith, moved-more h cs w v t (metric h cs (place (w .block) v t)) (top .there .0) (top .there .1) (still w v t (top .open-pair))))
 
   -- with as many turns as there are vertices left to move, a walk ends by its own rule
-  walk-end : (n : ℕ) (p : ℕ → ℕ) (w : Walk) → Going p w → vertices h ≤ countTo (vertices h) (moved w) + n → Ended p (walkOn h cs n w)
+  walk-end : (n : ℕ) (p : ℕ → ℕ) (w : Walk) → Going h cs p w → vertices h ≤ countTo (vertices h) (moved h cs w) + n → Ended p (walkOn h ceiling cs n w)
   unfolding walkOn walkBest
   walk-end zero p w g l = record { going = g; over = inr (none-left w (omega arith)) }
   walk-end (suc n) p w g l = go (walk-end n p) (leb (w .kept + patience) (w .tried)) refl
     where
-      go : ((w′ : Walk) → Going p w′ → vertices h ≤ countTo (vertices h) (moved w′) + n → Ended p (walkOn h cs n w′))
-          → (b : Bool) → leb (w .kept + patience) (w .tried) ≡ b → Ended p (cond b w (walkTurn h cs w (walkOn h cs n) (walkBest h cs w)))
+      go : ((w′ : Walk) → Going h cs p w′ → vertices h ≤ countTo (vertices h) (moved h cs w′) + n → Ended p (walkOn h ceiling cs n w′))
+          → (b : Bool) → leb (w .kept + patience) (w .tried) ≡ b → Ended p (cond b w (walkTurn h cs w (walkOn h ceiling cs n) (walkBest h ceiling cs w)))
       go ih true e = record { going = g; over = inl e }
-      go ih false e = turn-end n p w g l ih (walkBest h cs w) refl (best-top (isOpen h cs w) (gain h cs (w .block)) (h .blocks) (vertices h))
+      go ih false e = turn-end n p w g l ih (walkBest h ceiling cs w) refl (best-top (isOpen h ceiling cs w) (gain h cs (w .block)) (h .blocks) (vertices h))
 
-  -- W ends by its rule, having kept the first prefix of lowest metric
-  pub walk-ends : (p : ℕ → ℕ) (u v : ℕ) → Placed h cs p → Ended p (walk h cs p u v)
+  -- W ends by its rule, having kept the first prefix h cs of lowest metric
+  pub walk-ends : (p : ℕ → ℕ) (u v : ℕ) → Placed h cs p → Ended p (walk h ceiling cs p u v)
   unfolding walk reversed
   walk-ends p u v ok = walk-end (vertices h) p _ (record {
     placed = λ i l. subst (Placed h cs) (sym (reversed-nil (0 - i) p)) ok;
@@ -193,16 +195,16 @@ module _ (h : Hypergraph) (cs : List Contraction) where
   }) (omega arith)
 
   -- what W leaves has every vertex on the board in a block, and a metric that is the walk's lowest, at most the one before
-  pub walked-metric : (p : ℕ → ℕ) (u v : ℕ) → Placed h cs p → Placed h cs (walked h cs (walk h cs p u v)) × (metric h cs (walked h cs (walk h cs p u v)) ≡ walk h cs p u v .lowest) × (metric h cs (walked h cs (walk h cs p u v)) ≤ metric h cs p)
+  pub walked-metric : (p : ℕ → ℕ) (u v : ℕ) → Placed h cs p → Placed h cs (walked h cs (walk h ceiling cs p u v)) × (metric h cs (walked h cs (walk h ceiling cs p u v)) ≡ walk h ceiling cs p u v .lowest) × (metric h cs (walked h cs (walk h ceiling cs p u v)) ≤ metric h cs p)
   unfolding walked
   walked-metric p u v ok =
       let g = walk-ends p u v ok .going in
       (g .placed _ (g .kept-le), g .lowest-is, omega (arith, g .lowest-is, g .lowest-le 0 (omega arith), ap (metric h cs) (g .starts)))
 
-  -- no prefix of the walk has a lower metric than what W leaves, and every shorter one has a higher
+  -- no prefix h cs of the walk has a lower metric than what W leaves, and every shorter one has a higher
   pub first-lowest : (p : ℕ → ℕ) (u v : ℕ) → Placed h cs p
-      → ((i : ℕ) → i ≤ walk h cs p u v .tried → metric h cs (walked h cs (walk h cs p u v)) ≤ metric h cs (prefix (walk h cs p u v) i))
-      × ((i : ℕ) → i < walk h cs p u v .kept → metric h cs (walked h cs (walk h cs p u v)) < metric h cs (prefix (walk h cs p u v) i))
+      → ((i : ℕ) → i ≤ walk h ceiling cs p u v .tried → metric h cs (walked h cs (walk h ceiling cs p u v)) ≤ metric h cs (prefix h cs (walk h ceiling cs p u v) i))
+      × ((i : ℕ) → i < walk h ceiling cs p u v .kept → metric h cs (walked h cs (walk h ceiling cs p u v)) < metric h cs (prefix h cs (walk h ceiling cs p u v) i))
   first-lowest p u v ok =
       let g = walk-ends p u v ok .going in
       let low = walked-metric p u v ok .1 in

@@ -1,5 +1,5 @@
--- How heavy things get: all weight together is at most 67,107,840 (total-le), a vertex and a block have no more than that, contracted or not
--- (weight-le, blockWeight-le), ⌈W/k⌉ is at most 33,553,920 (average-le), the capacity at most 67,107,840 (capacity-le) and the product before
+-- How heavy things get: a vertex and a block have no more than all loaded weight, contracted or not (weight-le, blockWeight-le), which is at
+-- most 67,107,840 (loaded-le), and so is W (total-le), ⌈W/k⌉ is at most 33,553,920 (average-le), the capacity at most 67,107,840 (capacity-le) and the product before
 -- its division at most 67,107,840,000 (product-le). Rests on Ranges and laws' sums. Assumes nothing.
 use Prim.Native.Nat.{ℕ, zero, suc, _+_, _-_, _*_, _/_, _≤_}
 use native.Mathlib.Nat.{mul-le-mul, mul-le-mul-left, div-mul-le-self, suc-mul}
@@ -9,25 +9,29 @@ use mathlib.Core.Bool.{_&&_, cond}
 use mathlib.Core.List.{List}
 use lib.Dec.{eqb}
 use Rattle.laws.specs.Choice.{cond-le}
-use Rattle.laws.specs.Fold.{sumOver-le}
+use Rattle.laws.specs.Fold.{sumOver, sumOver-le}
 use Rattle.laws.specs.Sum.{sumTo, sumTo-list, sumTo-mono, sumTo-swap, sumTo-once}
-use Rattle.model.specs.Catalogue.{Limits, Hypergraph, vertices, loaded, totalWeight, averageWeight, capacity}
+use Rattle.model.specs.Catalogue.{Limits, Hypergraph, vertices, loaded, averageWeight, capacity}
 use Rattle.model.specs.Measure.{Contraction, onBoard, representative, weight, blockWeight}
 use Rattle.guarantees.specs.Ranges.{Ranges}
 
 module _ (h : Hypergraph) where
-  -- the vertices' loaded weights, summed by number
-  all-loaded : sumTo (vertices h) (loaded h) ≡ totalWeight h
-  unfolding totalWeight
+  -- all loaded weight
+  unfoldable pub loadedWeight : ℕ
+  loadedWeight = sumOver (h .weights) (λ w. w)
+
+  -- the same, summed by number
+  all-loaded : sumTo (vertices h) (loaded h) ≡ loadedWeight
+  unfolding loadedWeight
   all-loaded = sumTo-list (h .weights) 0 (λ w. w)
 
   module _ (cs : List Contraction) where
-    pub weight-le : (u : ℕ) → weight h cs u ≤ totalWeight h
+    pub weight-le : (u : ℕ) → weight h cs u ≤ loadedWeight
     unfolding weight
     weight-le u = omega (arith, all-loaded, sumTo-mono (vertices h) (λ v. cond (eqb (representative cs v) u) (loaded h v) 0) (loaded h) (λ v _ _. cond-le (eqb (representative cs v) u) (loaded h v) (loaded h v) (omega arith)))
 
     -- each vertex is counted with its representative alone
-    all-weights : sumTo (vertices h) (weight h cs) ≤ totalWeight h
+    all-weights : sumTo (vertices h) (weight h cs) ≤ loadedWeight
     unfolding weight
     all-weights = omega (
       arith,
@@ -36,7 +40,7 @@ module _ (h : Hypergraph) where
       sumTo-mono (vertices h) (λ v. sumTo (vertices h) (λ u. cond (eqb (representative cs v) u) (loaded h v) 0)) (loaded h) (λ v _ _. sumTo-once (vertices h) (representative cs v) (loaded h v)),
     )
 
-    pub blockWeight-le : (p : ℕ → ℕ) (b : ℕ) → blockWeight h cs p b ≤ totalWeight h
+    pub blockWeight-le : (p : ℕ → ℕ) (b : ℕ) → blockWeight h cs p b ≤ loadedWeight
     unfolding blockWeight
     blockWeight-le p b = omega (
       arith,
@@ -53,13 +57,17 @@ half w k l = go ((w + (k - 1)) / k) (div-mul-le-self (w + (k - 1)) k)
     go (suc q) e = omega (arith, suc-mul q k, mul-le-mul-left q l)
 
 module _ (limits : Limits) (small : limits .vertexLimit ≤ 1024) (h : Hypergraph) (r : Ranges limits h) where
-  pub total-le : totalWeight h ≤ 67107840
-  unfolding totalWeight
-  total-le = omega (arith, sumOver-le (h .weights) _ (λ w. w) 65535 (r .loaded .weights-in) (λ w i. i .1), r .vertices-high)
+  pub loaded-le : loadedWeight h ≤ 67107840
+  unfolding loadedWeight
+  loaded-le = omega (arith, sumOver-le (h .weights) _ (λ w. w) 65535 (r .loaded .weights-in) (λ w i. i .1), r .vertices-high)
+
+  pub total-le : h .totalWeight ≤ 67107840
+  unfolding loadedWeight
+  total-le = omega (arith, loaded-le, r .loaded .total-is)
 
   pub average-le : averageWeight h ≤ 33553920
   unfolding averageWeight
-  average-le = omega (arith, half (totalWeight h) (h .blocks) (r .loaded .blocks-low), total-le)
+  average-le = omega (arith, half (h .totalWeight) (h .blocks) (r .loaded .blocks-low), total-le)
 
   pub product-le : (1000 + h .imbalance) * averageWeight h ≤ 67107840000
   product-le =

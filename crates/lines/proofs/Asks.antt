@@ -94,7 +94,7 @@ module _ (fs : Fields) where
 -- ---- SALE
 module _ (limits : Limits) (n : ℕ) (fs : Fields) where
   sale-is : (f r : Bool) → isLineOf "SALE" 4 fs ≡ f → (within 1 (limits .vertexLimit) (at fs 1) && within 0 1024 (at fs 2) && within 2 (limits .blockLimit) (at fs 3) && within 0 1000 (at fs 4)) ≡ r
-      → saleLine limits n fs ≡ cond (not f) (stopped 2 n) (cond (not r) (stopped 3 n) (reading (book (at fs 1) (at fs 2) (record { blocks = at fs 3; imbalance = at fs 4; weights = []; draft = []; nets = [] }) 0 [])))
+      → saleLine limits n fs ≡ cond (not f) (stopped 2 n) (cond (not r) (stopped 3 n) (reading (book (at fs 1) (at fs 2) (record { blocks = at fs 3; imbalance = at fs 4; totalWeight = 0; weights = []; draft = []; nets = [] }) 0 [])))
   unfolding saleLine
   sale-is f r p q = rw (← p, ← q)
 
@@ -132,7 +132,7 @@ module _ (limits : Limits) (n : ℕ) (fs : Fields) where
               and3 : (x y z u : Bool) → x ≡ true → y ≡ true → z ≡ true → u ≡ false → (x && y && z && u) ≡ false
               and3 x y z u b c d e = rw (b, c, d, e)
 
-          pub sale-read : within 0 1000 t ≡ true → reading (book l b (record { blocks = k; imbalance = t; weights = []; draft = []; nets = [] }) 0 []) ≡ saleLine limits n fs
+          pub sale-read : within 0 1000 t ≡ true → reading (book l b (record { blocks = k; imbalance = t; totalWeight = 0; weights = []; draft = []; nets = [] }) 0 []) ≡ saleLine limits n fs
           sale-read e = rw (el, eb, ek, et) (sym (sale-is true true is (rw (← el, ← eb, ← ek, ← et) (and3 _ _ _ _ e1 e2 e3 e))))
             where
               and3 : (x y z u : Bool) → x ≡ true → y ≡ true → z ≡ true → u ≡ true → (x && y && z && u) ≡ true

@@ -47,7 +47,7 @@ pub record InRange (limits : Limits) (l b k t : ℕ) : Type 0 where
   pub t-high : t ≤ 1000
 
 abbrev pub opened : ℕ → Head → Reading
-opened n (Sale lots buyers blocks imbalance) = reading (book lots buyers (record { blocks = blocks; imbalance = imbalance; weights = []; draft = []; nets = [] }) 0 [])
+opened n (Sale lots buyers blocks imbalance) = reading (book lots buyers (record { blocks = blocks; imbalance = imbalance; totalWeight = 0; weights = []; draft = []; nets = [] }) 0 [])
 opened n (NoSale q) = stopped q n
 
 pub record SaleRead (limits : Limits) (fs : Fields) (r : Head) : Type 0 where

@@ -11,7 +11,7 @@ use lib.Seq.{length-take-le, getD-take}
 use Rattle.laws.specs.Fold.{sumOver, sumOver-le}
 use Rattle.laws.specs.Occurrence.{occ}
 use Rattle.laws.specs.Choice.{one}
-use Rattle.model.specs.Catalogue.{Limits, Hypergraph, vertices, drafted, capacity}
+use Rattle.model.specs.Catalogue.{Limits, Hypergraph, vertices, drafted, capacity, capacities}
 use Rattle.model.specs.Measure.{pin, size, weight}
 use Rattle.model.specs.Machine.{fresh}
 use Rattle.model.specs.Grammar.{Book, reading, parse}
@@ -137,7 +137,7 @@ module _ (limits : Limits) (file : List ℕ) (l b k t m n : ℕ) (w₀ d₀ a₀
         presentSizes = filled-as b (length (h .nets)) (λ i. getD c i 0) _ pc₀ pc fc (sym known) (λ i u. sym (present-at i u));
       }
 
-      capped : Capped h [] (drafted h)
+      capped : Capped h (capacities h) [] (drafted h)
       unfolding fresh
       capped = held-start limits file k′ (sym says) .capped
 

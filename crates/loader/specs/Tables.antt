@@ -4,7 +4,7 @@ use mathlib.Core.Path.{_≡_}
 use mathlib.Core.List.{List, []}
 use lib.Dec.{ltb}
 use lib.ListN.{length, getD}
-use Rattle.model.specs.Catalogue.{Limits, Hypergraph, vertices, drafted, averageWeight, capacity}
+use Rattle.model.specs.Catalogue.{Limits, Hypergraph, vertices, drafted, averageWeight, capacity, capacities}
 use Rattle.model.specs.Measure.{above, size}
 use Rattle.model.specs.Grammar.{Reading, reading, stopped, parse}
 use Rattle.model.specs.Memory.{Filled, Column, Pins, net, allPins, firstPlace, weightEntry, blockEntry}
@@ -62,7 +62,7 @@ pub record Accepts (limits : Limits) (z : Sizes) (old new : Lists) (nw calls : L
   pub known : length (callsOf (z .calls) calls) ≡ z .calls
   pub average : z .average ≡ averageWeight (graph z new nw)
   pub capacity : z .capacity ≡ capacity (graph z new nw)
-  pub capped : Capped (graph z new nw) [] (drafted (graph z new nw))
+  pub capped : Capped (graph z new nw) (capacities (graph z new nw)) [] (drafted (graph z new nw))
   pub started : Started (graph z new nw) old new
 
 -- the loader's promise: model's grammar on the same bytes, and the tables of an accepted file

@@ -1,10 +1,9 @@
--- The loaded catalogue as a hypergraph with a first partition, the limits of an entry, and the capacity. Rests on laws' sums. Assumes nothing.
+-- The loaded catalogue as a hypergraph with a first partition, the limits of an entry, and the capacity. Assumes nothing.
 use Prim.Native.Nat.{ℕ, _+_, _-_, _*_, _/_}
 use mathlib.Core.Bool.{Bool, _&&_}
 use mathlib.Core.List.{List}
 use lib.Dec.{leb}
 use lib.ListN.{length, getD}
-use Rattle.laws.specs.Fold.{sumOver}
 
 -- the limits of an entry: how many lots and how many sessions a catalogue may have
 pub record Limits : Type 0 where
@@ -21,10 +20,12 @@ pub record Net : Type 0 where
   pub pins : List ℕ
 
 -- vertex: a lot. block: a session. imbalance: the slack in thousandths.
+-- totalWeight: W, the bales that the catalogue's lines announce, all together.
 -- weights: the loaded bales of the lots 1, 2, ..; draft: their sessions in the file; nets: the buyers 1, 2, ..
 pub record Hypergraph : Type 0 where
   pub blocks : ℕ
   pub imbalance : ℕ
+  pub totalWeight : ℕ
   pub weights : List ℕ
   pub draft : List ℕ
   pub nets : List Net
@@ -49,14 +50,14 @@ isVertex h v = leb 1 v && leb v (vertices h)
 abbrev pub isBlock : Hypergraph → ℕ → Bool
 isBlock h b = leb 1 b && leb b (h .blocks)
 
--- W: all bales
-unfoldable pub totalWeight : Hypergraph → ℕ
-totalWeight h = sumOver (h .weights) (λ w. w)
-
 -- ⌈W/k⌉
 unfoldable pub averageWeight : Hypergraph → ℕ
-averageWeight h = (totalWeight h + (h .blocks - 1)) / h .blocks
+averageWeight h = (h .totalWeight + (h .blocks - 1)) / h .blocks
 
 -- cap: (1,000 + slack) × ⌈W/k⌉ / 1,000, rounded down
 unfoldable pub capacity : Hypergraph → ℕ
 capacity h = (1000 + h .imbalance) * averageWeight h / 1000
+
+-- ceiling: the most that each session may hold during a call. That of a sale by itself is its cap, for every session
+abbrev pub capacities : Hypergraph → ℕ → ℕ
+capacities h = λ t. capacity h

@@ -6,11 +6,10 @@ use mathlib.Core.Bool.{Bool, true, false}
 use mathlib.Core.List.{List, [], _∷_, _++_}
 use lib.ListN.{length, getD}
 use Rattle.laws.specs.Occurrence.{occ}
-use Rattle.laws.specs.Place.{place}
-use Rattle.model.specs.Catalogue.{Limits, Hypergraph, vertices, capacity}
-use Rattle.model.specs.Measure.{Contraction, onBoard, blockWeight, metric, hasRoom}
+use Rattle.model.specs.Catalogue.{Limits, Hypergraph, capacities}
+use Rattle.model.specs.Measure.{Contraction, metric}
 use Rattle.model.specs.Machine.{Call, callJ, callS, callM, callB, callW, callP, callA, Answer, Move, State, fresh}
-use Rattle.model.specs.Search.{call}
+use Rattle.model.specs.Search.{call, WithinCeiling, LocallyBest}
 use Rattle.model.specs.Grammar.{Book, reading, parse}
 use Rattle.model.specs.Report.{refusal}
 use Rattle.model.specs.Engine.{after, answers}
@@ -39,13 +38,7 @@ metricIn h s = metric h (s .stack) (s .block)
 
 -- no session is over its cap
 abbrev pub WithinCapacity : Hypergraph → State → Type 0
-WithinCapacity h s = (b : ℕ) → 1 ≤ b → b ≤ h .blocks → blockWeight h (s .stack) (s .block) b ≤ capacity h
-
--- no single move with space lowers the total
-abbrev pub LocallyBest : Hypergraph → State → Type 0
-LocallyBest h s =
-    (v t : ℕ) → 1 ≤ v → v ≤ vertices h → onBoard (s .stack) v ≡ true → 1 ≤ t → t ≤ h .blocks → (s .block v ≡ t → ⊥)
-    → hasRoom h (s .stack) (s .block) v t ≡ true → metricIn h s ≤ metric h (s .stack) (place (s .block) v t)
+WithinCapacity h s = WithinCeiling h (capacities h) s
 
 -- the machine's half: what holds of its own states, from a fresh one on
 pub record MachineHalf (h : Hypergraph) (calls : List Call) : Type 0 where
@@ -55,7 +48,7 @@ pub record MachineHalf (h : Hypergraph) (calls : List Call) : Type 0 where
       → metricIn h (call h (after h (fresh h) before) c .state) ≤ metricIn h (after h (fresh h) before)
   -- and after an accepted A no single move with space lowers the total
   pub locally-best : (before later : List Call) → calls ≡ before ++ (callA ∷ later) → refusal (call h (after h (fresh h) before) callA .answer) ≡ 0
-      → LocallyBest h (call h (after h (fresh h) before) callA .state)
+      → LocallyBest h (capacities h) (call h (after h (fresh h) before) callA .state)
 
 -- ---- a list of calls on lent memory
 -- what stands between two calls: the lent tables, the stack of joins and the record of moves, the latest first

@@ -5,7 +5,7 @@ use mathlib.Core.Path.{_≡_, refl}
 use mathlib.Core.List.{List, [], _∷_, _++_}
 use Rattle.laws.specs.Sum.{sum, sumTo, foldTo}
 use Rattle.laws.specs.Fold.{sumOver, any, all}
-use Rattle.model.specs.Catalogue.{Hypergraph, mainLimits, totalWeight, averageWeight, capacity}
+use Rattle.model.specs.Catalogue.{Hypergraph, mainLimits, averageWeight, capacity}
 use Rattle.model.specs.Measure.{above, climb, representative, weight, blockWeight}
 use Rattle.model.specs.Machine.{callM, callW}
 use Rattle.model.specs.Report.{digitsOf, digits}
@@ -34,7 +34,7 @@ nineMarks = bytes "BUY,1,1,2,3,4,5,6,7,8,9\n"
 
 -- a catalogue of one lot
 abbrev pub oneLot : Hypergraph
-oneLot = record { blocks = 2; imbalance = 0; weights = 1 ∷ []; draft = 1 ∷ []; nets = [] }
+oneLot = record { blocks = 2; imbalance = 0; totalWeight = 1; weights = 1 ∷ []; draft = 1 ∷ []; nets = [] }
 
 pub edges :
     -- 1: 60,001 bytes on line 0; 60,000 are read
@@ -98,16 +98,16 @@ pub edges :
     × (says (bytes "SALE,1,0,2,1000\nLOT,65535,1\n") ≡ reading (record {
       lots = 1;
       buyers = 0;
-      graph = record { blocks = 2; imbalance = 1000; weights = 65535 ∷ []; draft = 1 ∷ []; nets = [] };
+      graph = record { blocks = 2; imbalance = 1000; totalWeight = 65535; weights = 65535 ∷ []; draft = 1 ∷ []; nets = [] };
       marks = 0;
       calls = [];
     }))
     × (says (bytes "SALE,1,1,16,1000\nLOT,1,16\nBUY,1000,1\nM,999999999,0\nW,1,1\n") ≡ reading (record {
       lots = 1;
       buyers = 1;
-      graph = record { blocks = 16; imbalance = 1000; weights = 1 ∷ []; draft = 16 ∷ []; nets = record { weight = 1000; pins = 1 ∷ [] } ∷ [] };
+      graph = record { blocks = 16; imbalance = 1000; totalWeight = 1; weights = 1 ∷ []; draft = 16 ∷ []; nets = record { weight = 1000; pins = 1 ∷ [] } ∷ [] };
       marks = 1;
       calls = callM 999999999 0 ∷ callW 1 1 ∷ [];
     }))
-unfolding many digitsOf digits sum sumTo foldTo sumOver any all totalWeight averageWeight capacity above climb representative weight blockWeight bytes same parts isNumber onward value fields isLine saleLine overfull grown withLot lotLine mark marking withNet netRead buyLine asked withCall callLine line ending lines parse
+unfolding many digitsOf digits sum sumTo foldTo sumOver any all averageWeight capacity above climb representative weight blockWeight bytes same parts isNumber onward value fields isLine saleLine overfull grown withLot lotLine mark marking withNet netRead buyLine asked withCall callLine line ending lines parse
 edges = (refl, refl, refl, refl, refl, refl, refl, refl, refl, refl, refl, refl, refl, refl, refl, refl, refl, refl, refl, refl, refl, refl, refl, refl, refl, refl, refl, refl, refl, refl, refl, refl, refl, refl, refl, refl, refl, refl, refl, refl, refl, refl, refl, refl, refl, refl, refl, refl, refl, refl, refl)

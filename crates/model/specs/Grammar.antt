@@ -104,7 +104,7 @@ saleLine limits n fs =
     (reading (record {
       lots = at fs 1;
       buyers = at fs 2;
-      graph = record { blocks = at fs 3; imbalance = at fs 4; weights = []; draft = []; nets = [] };
+      graph = record { blocks = at fs 3; imbalance = at fs 4; totalWeight = 0; weights = []; draft = []; nets = [] };
       marks = 0;
       calls = [];
     })))
@@ -121,9 +121,9 @@ overfull h = foldTo (h .blocks) (λ b s. b || ltb (capacity h) (blockWeight h []
 unfoldable pub grown : ℕ → Book → Reading
 grown n k = cond (whole k && overfull (k .graph)) (stopped 6 n) (reading k)
 
--- one lot more
+-- one lot more, with its bales
 unfoldable pub withLot : Hypergraph → ℕ → ℕ → Hypergraph
-withLot h w b = record { blocks = h .blocks; imbalance = h .imbalance; weights = h .weights ++ (w ∷ []); draft = h .draft ++ (b ∷ []); nets = h .nets }
+withLot h w b = record { blocks = h .blocks; imbalance = h .imbalance; totalWeight = h .totalWeight + w; weights = h .weights ++ (w ∷ []); draft = h .draft ++ (b ∷ []); nets = h .nets }
 
 -- LOT,bales,session
 unfoldable pub lotLine : ℕ → Book → Fields → Reading
@@ -158,7 +158,7 @@ marking h m (f ∷ fs) = marking h (mark h m (value f)) fs
 
 -- one buyer more
 unfoldable pub withNet : Hypergraph → ℕ → List ℕ → Hypergraph
-withNet h w vs = record { blocks = h .blocks; imbalance = h .imbalance; weights = h .weights; draft = h .draft; nets = h .nets ++ (record { weight = w; pins = vs } ∷ []) }
+withNet h w vs = record { blocks = h .blocks; imbalance = h .imbalance; totalWeight = h .totalWeight; weights = h .weights; draft = h .draft; nets = h .nets ++ (record { weight = w; pins = vs } ∷ []) }
 
 -- a buyer with its marks
 unfoldable pub netRead : ℕ → Book → ℕ → Marking → Reading

@@ -72,20 +72,20 @@ module _ (h : Hypergraph) (s : State) where
   unfoldable pub doesJ : ℕ → ℕ → Step
   doesJ u v = record { state = contract u v; answer = saysJ (weight h (contract u v .stack) u) }
 
-  -- M: 9, 10, 12, 14
-  unfoldable pub refusesM : ℕ → ℕ → ℕ
-  refusesM v t =
-      cond (not (isVertex h v && isBlock h t)) 9
-      (cond (not (onBoard (s .stack) v)) 10
-      (cond (eqb (s .block v) t) 12
-      (cond (not (hasRoom h (s .stack) (s .block) v t)) 14 0)))
+-- M: 9, 10, 12, 14
+unfoldable pub refusesM : Hypergraph → (ℕ → ℕ) → State → ℕ → ℕ → ℕ
+refusesM h ceiling s v t =
+    cond (not (isVertex h v && isBlock h t)) 9
+    (cond (not (onBoard (s .stack) v)) 10
+    (cond (eqb (s .block v) t) 12
+    (cond (not (hasRoom h ceiling (s .stack) (s .block) v t)) 14 0)))
 
-  -- M accepted
-  unfoldable pub doesM : ℕ → ℕ → Step
-  doesM v t = record {
-    state = record { stack = s .stack; block = place (s .block) v t; journal = record { vertex = v; from = s .block v } ∷ s .journal };
-    answer = saysM (gain h (s .stack) (s .block) v t) (metric h (s .stack) (place (s .block) v t));
-  }
+-- M accepted
+unfoldable pub doesM : Hypergraph → State → ℕ → ℕ → Step
+doesM h s v t = record {
+  state = record { stack = s .stack; block = place (s .block) v t; journal = record { vertex = v; from = s .block v } ∷ s .journal };
+  answer = saysM (gain h (s .stack) (s .block) v t) (metric h (s .stack) (place (s .block) v t));
+}
 
 -- S: the parted lot returns in its partner's present session
 unfoldable pub uncontract : (ℕ → ℕ) → Contraction → ℕ → ℕ

@@ -7,7 +7,7 @@ use lib.IntN.{ℤ, pos, _-ℤ_}
 use lib.ListN.{length}
 use Rattle.laws.specs.Sum.{sumTo, countTo}
 use Rattle.laws.specs.Fold.{sumOver, any}
-use Rattle.model.specs.Catalogue.{Net, Hypergraph, vertices, loaded, capacity}
+use Rattle.model.specs.Catalogue.{Net, Hypergraph, vertices, loaded}
 
 -- contraction: a join (u,v). `gone` is v, which left the board; `into` is u, which stands for it
 pub record Contraction : Type 0 where
@@ -82,6 +82,6 @@ module _ (h : Hypergraph) (cs : List Contraction) (block : ℕ → ℕ) where
   unfoldable pub gain : ℕ → ℕ → ℤ
   gain v t = cond (eqb (block v) t) (pos 0) (pos (freed v) -ℤ pos (drawn v t))
 
-  -- there is space for the lot in the session under the cap
-  unfoldable pub hasRoom : ℕ → ℕ → Bool
-  hasRoom v t = leb (blockWeight t + weight h cs v) (capacity h)
+-- there is space for the lot in the session, under the session's ceiling
+unfoldable pub hasRoom : Hypergraph → (ℕ → ℕ) → List Contraction → (ℕ → ℕ) → ℕ → ℕ → Bool
+hasRoom h ceiling cs block v t = leb (blockWeight h cs block t + weight h cs v) (ceiling t)

@@ -1,7 +1,8 @@
 -- Document 01, "The plain machine behind the calls": the best open pair, walks, polish, ratings, the calls W, P and A; and what
--- every call does. Rests on Machine. Assumes nothing.
-use Prim.Native.Nat.{ℕ, zero, suc, _+_, _-_, _*_, _/_}
-use mathlib.Core.Bool.{Bool, not, _&&_, _||_, cond}
+-- every call does, under a ceiling for each session. Rests on Machine. Assumes nothing.
+use Prim.Native.Nat.{ℕ, zero, suc, _+_, _-_, _*_, _/_, _≤_}
+use mathlib.Core.Path.{_≡_}
+use mathlib.Core.Bool.{Bool, true, not, _&&_, _||_, cond}
 use mathlib.Core.List.{List, [], _∷_}
 use lib.Dec.{eqb, leb, ltb}
 use lib.IntN.{ℤ, pos}
@@ -11,8 +12,8 @@ use Rattle.laws.specs.Choice.{one}
 use Rattle.laws.specs.Sum.{countTo, foldTo}
 use Rattle.laws.specs.Fold.{sumOver, any}
 use Rattle.laws.specs.Place.{place}
-use Rattle.model.specs.Catalogue.{Hypergraph, vertices, isVertex, averageWeight}
-use Rattle.model.specs.Measure.{Contraction, onBoard, pin, size, weight, metric, gain, hasRoom, adjacent}
+use Rattle.model.specs.Catalogue.{Hypergraph, vertices, isVertex, averageWeight, capacities}
+use Rattle.model.specs.Measure.{Contraction, onBoard, pin, size, weight, blockWeight, metric, gain, hasRoom, adjacent}
 use Rattle.model.specs.Machine.{Call, callJ, callS, callM, callB, callW, callP, callA, saysW, saysP, saysA, Move, State, Step, settle, refusesJ, doesJ, refusesM, doesM, uncontract, doesS, doesB}
 
 -- the best pair so far: two numbers and what they are valued at
@@ -69,18 +70,6 @@ module _ (h : Hypergraph) (cs : List Contraction) where
   abbrev pub mayMove : ℕ → Bool
   mayMove v = onBoard cs v
 
-  -- a lot may go to a session: not its own, and with space for it
-  unfoldable pub canGo : (ℕ → ℕ) → ℕ → ℕ → Bool
-  canGo block v t = mayMove v && not (eqb (block v) t) && hasRoom h cs block v t
-
-  -- W: the pair is open
-  unfoldable pub isOpen : Walk → ℕ → ℕ → Bool
-  isOpen w v t = w .candidate v && not (any (w .journal) (λ m. eqb (m .vertex) v)) && canGo (w .block) v t
-
-  -- the open pair that a walk takes
-  unfoldable pub walkBest : Walk → Best
-  walkBest w = bestPair (vertices h) (h .blocks) (isOpen w) (gain h cs (w .block))
-
   -- one move of a walk, to a partition whose total is `now`
   unfoldable pub walkMove : Walk → ℕ → ℕ → ℕ → Walk
   walkMove w v t now = record {
@@ -97,11 +86,36 @@ module _ (h : Hypergraph) (cs : List Contraction) where
   walkTurn w on none = w
   walkTurn w on (best v t g) = on (walkMove w v t (metric h cs (place (w .block) v t)))
 
+  -- the partition that a walk leaves
+  unfoldable pub walked : Walk → ℕ → ℕ
+  walked w = reversed (w .tried - w .kept) (w .journal) (w .block)
+
+  -- one turn of P: a move whose gain is at least 1, so above 0
+  unfoldable pub polishTurn : Polish → (Polish → Polish) → Best → Polish
+  polishTurn p on none = p
+  polishTurn p on (best v t g) =
+      let longer : Polish = on (record { block = place (p .block) v t; made = suc (p .made) }) in
+      cond (ltZ (pos 0) g) longer p
+
+-- the same, and the ceiling of each session
+module _ (h : Hypergraph) (ceiling : ℕ → ℕ) (cs : List Contraction) where
+  -- a lot may go to a session: not its own, and with space for it
+  unfoldable pub canGo : (ℕ → ℕ) → ℕ → ℕ → Bool
+  canGo block v t = mayMove h cs v && not (eqb (block v) t) && hasRoom h ceiling cs block v t
+
+  -- W: the pair is open
+  unfoldable pub isOpen : Walk → ℕ → ℕ → Bool
+  isOpen w v t = w .candidate v && not (any (w .journal) (λ m. eqb (m .vertex) v)) && canGo (w .block) v t
+
+  -- the open pair that a walk takes
+  unfoldable pub walkBest : Walk → Best
+  walkBest w = bestPair (vertices h) (h .blocks) (isOpen w) (gain h cs (w .block))
+
   -- a walk to its end: no lot moves twice, so `fuel` is the number of lots
   unfoldable pub walkOn : ℕ → Walk → Walk
   walkOn zero w = w
   walkOn (suc fuel) w =
-      let longer : Walk = walkTurn w (walkOn fuel) (walkBest w) in
+      let longer : Walk = walkTurn h cs w (walkOn fuel) (walkBest w) in
       cond (leb (w .kept + patience) (w .tried)) w longer
 
   -- W: a walk from candidates u and v
@@ -115,30 +129,20 @@ module _ (h : Hypergraph) (cs : List Contraction) where
     lowest = metric h cs block;
   })
 
-  -- the partition that a walk leaves
-  unfoldable pub walked : Walk → ℕ → ℕ
-  walked w = reversed (w .tried - w .kept) (w .journal) (w .block)
-
   -- the pair that P takes
   unfoldable pub polishBest : (ℕ → ℕ) → Best
   polishBest block = bestPair (vertices h) (h .blocks) (canGo block) (gain h cs block)
 
-  -- one turn of P: a move whose gain is at least 1, so above 0
-  unfoldable pub polishTurn : Polish → (Polish → Polish) → Best → Polish
-  polishTurn p on none = p
-  polishTurn p on (best v t g) =
-      let longer : Polish = on (record { block = place (p .block) v t; made = suc (p .made) }) in
-      cond (ltZ (pos 0) g) longer p
-
   -- P: each move lowers the total, so `fuel` is the total
   unfoldable pub polishOn : ℕ → Polish → Polish
   polishOn zero p = p
-  polishOn (suc fuel) p = polishTurn p (polishOn fuel) (polishBest (p .block))
+  polishOn (suc fuel) p = polishTurn h cs p (polishOn fuel) (polishBest (p .block))
 
   -- P from a partition
   unfoldable pub polish : (ℕ → ℕ) → Polish
   polish block = polishOn (metric h cs block) (record { block = block; made = 0 })
 
+module _ (h : Hypergraph) (cs : List Contraction) where
   -- rating of a pair
   unfoldable pub rating : ℕ → ℕ → ℕ
   rating u v = sumOver (h .nets) (λ e. cond (pin cs e u && pin cs e v) (5040 * e .weight / (size h cs e - 1)) 0)
@@ -182,24 +186,30 @@ module _ (h : Hypergraph) where
       let longer : Coarse = joinTurn c (coarsen fuel) (joinBest h (c .stack) (c .block)) in
       cond (ltb (2 * h .blocks) (boardSize h (c .stack))) longer c
 
+-- W: 9, 10
+unfoldable pub refusesW : Hypergraph → State → ℕ → ℕ → ℕ
+refusesW h s u v =
+    cond (not (isVertex h u && isVertex h v)) 9
+    (cond (not (onBoard (s .stack) u && onBoard (s .stack) v)) 10 0)
+
+-- A while a join stands: 16
+unfoldable pub refusesA : Hypergraph → State → List Contraction → ℕ
+refusesA h s [] = 0
+refusesA h s (c ∷ cs) = 16
+
+module _ (h : Hypergraph) (ceiling : ℕ → ℕ) where
   -- A's splits, each with a walk from the parted pair
   unfoldable pub refine : List Contraction → Fine → Fine
   refine [] f = f
   refine (c ∷ cs) f =
-      let w : Walk = walk h cs (uncontract (f .block) c) (c .into) (c .gone) in
+      let w : Walk = walk h ceiling cs (uncontract (f .block) c) (c .into) (c .gone) in
       refine cs (record { block = walked h cs w; tried = f .tried + w .tried; kept = f .kept + w .kept })
 
   module _ (s : State) where
-    -- W: 9, 10
-    unfoldable pub refusesW : ℕ → ℕ → ℕ
-    refusesW u v =
-        cond (not (isVertex h u && isVertex h v)) 9
-        (cond (not (onBoard (s .stack) u && onBoard (s .stack) v)) 10 0)
-
     -- W accepted
     unfoldable pub doesW : ℕ → ℕ → Step
     doesW u v =
-        let w : Walk = walk h (s .stack) (s .block) u v in
+        let w : Walk = walk h ceiling (s .stack) (s .block) u v in
         record {
           state = record { stack = s .stack; block = walked h (s .stack) w; journal = [] };
           answer = saysW (w .tried) (w .kept) (metric h (s .stack) (walked h (s .stack) w));
@@ -208,34 +218,43 @@ module _ (h : Hypergraph) where
     -- P
     unfoldable pub doesP : Step
     doesP =
-        let p : Polish = polish h (s .stack) (s .block) in
+        let p : Polish = polish h ceiling (s .stack) (s .block) in
         record {
           state = record { stack = s .stack; block = p .block; journal = [] };
           answer = saysP (p .made) (metric h (s .stack) (p .block));
         }
 
-    -- A while a join stands: 16
-    unfoldable pub refusesA : List Contraction → ℕ
-    refusesA [] = 0
-    refusesA (c ∷ cs) = 16
-
     -- A accepted
     unfoldable pub doesA : Step
     doesA =
-        let c : Coarse = coarsen (vertices h) (record { stack = []; block = s .block }) in
+        let c : Coarse = coarsen h (vertices h) (record { stack = []; block = s .block }) in
         let f : Fine = refine (c .stack) (record { block = c .block; tried = 0; kept = 0 }) in
-        let p : Polish = polish h [] (f .block) in
+        let p : Polish = polish h ceiling [] (f .block) in
         record {
           state = record { stack = []; block = p .block; journal = [] };
           answer = saysA (length (c .stack)) (f .tried) (f .kept) (p .made) (metric h [] (p .block));
         }
 
--- what a call does
-unfoldable pub call : Hypergraph → State → Call → Step
-call h s (callJ u v) = settle (refusesJ h s u v) s (doesJ h s u v)
-call h s callS = doesS s (s .stack)
-call h s (callM v t) = settle (refusesM h s v t) s (doesM h s v t)
-call h s callB = doesB h s (s .journal)
-call h s (callW u v) = settle (refusesW h s u v) s (doesW h s u v)
-call h s callP = doesP h s
-call h s callA = settle (refusesA h s (s .stack)) s (doesA h s)
+-- what a call does under a ceiling
+unfoldable pub callUnder : Hypergraph → (ℕ → ℕ) → State → Call → Step
+callUnder h ceiling s (callJ u v) = settle (refusesJ h s u v) s (doesJ h s u v)
+callUnder h ceiling s callS = doesS s (s .stack)
+callUnder h ceiling s (callM v t) = settle (refusesM h ceiling s v t) s (doesM h s v t)
+callUnder h ceiling s callB = doesB h s (s .journal)
+callUnder h ceiling s (callW u v) = settle (refusesW h s u v) s (doesW h ceiling s u v)
+callUnder h ceiling s callP = doesP h ceiling s
+callUnder h ceiling s callA = settle (refusesA h s (s .stack)) s (doesA h ceiling s)
+
+-- what a call of a sale by itself does
+abbrev pub call : Hypergraph → State → Call → Step
+call h s c = callUnder h (capacities h) s c
+
+-- no session is above its ceiling
+abbrev pub WithinCeiling : Hypergraph → (ℕ → ℕ) → State → Type 0
+WithinCeiling h ceiling s = (b : ℕ) → 1 ≤ b → b ≤ h .blocks → blockWeight h (s .stack) (s .block) b ≤ ceiling b
+
+-- no single move with space lowers the total
+abbrev pub LocallyBest : Hypergraph → (ℕ → ℕ) → State → Type 0
+LocallyBest h ceiling s =
+    (v t : ℕ) → 1 ≤ v → v ≤ vertices h → mayMove h (s .stack) v ≡ true → 1 ≤ t → t ≤ h .blocks → (s .block v ≡ t → ⊥)
+    → hasRoom h ceiling (s .stack) (s .block) v t ≡ true → metric h (s .stack) (s .block) ≤ metric h (s .stack) (place (s .block) v t)

@@ -6,7 +6,7 @@ use lib.IntN.{pos, negsuc}
 use Rattle.laws.specs.Sum.{sum, sumTo}
 use Rattle.laws.specs.Fold.{sumOver, any}
 use Rattle.laws.specs.Place.{place}
-use Rattle.model.specs.Catalogue.{Hypergraph, totalWeight, averageWeight, capacity, drafted}
+use Rattle.model.specs.Catalogue.{Hypergraph, averageWeight, capacity, drafted}
 use Rattle.model.specs.Measure.{Contraction, above, climb, representative, pin, size, pinCount, connectivity, metric, freed, drawn, gain}
 use Rattle.model.specs.Search.{rating}
 
@@ -15,6 +15,7 @@ abbrev pub five : Hypergraph
 five = record {
   blocks = 2;
   imbalance = 200;
+  totalWeight = 50;
   weights = 10 ∷ 10 ∷ 10 ∷ 10 ∷ 10 ∷ [];
   draft = 1 ∷ 1 ∷ 2 ∷ 2 ∷ 1 ∷ [];
   nets = record { weight = 3; pins = 1 ∷ 3 ∷ [] } ∷ record { weight = 2; pins = 2 ∷ 5 ∷ [] } ∷ record { weight = 1; pins = 3 ∷ 4 ∷ [] } ∷ [];
@@ -26,18 +27,18 @@ joined = record { into = 2; gone = 5 } ∷ []
 
 -- W 51, k 2, slack 100
 abbrev pub fiftyOne : Hypergraph
-fiftyOne = record { blocks = 2; imbalance = 100; weights = 50 ∷ 1 ∷ []; draft = 1 ∷ 2 ∷ []; nets = [] }
+fiftyOne = record { blocks = 2; imbalance = 100; totalWeight = 51; weights = 50 ∷ 1 ∷ []; draft = 1 ∷ 2 ∷ []; nets = [] }
 
 -- a buyer with one mark
 abbrev pub oneMark : Hypergraph
-oneMark = record { blocks = 2; imbalance = 0; weights = 1 ∷ []; draft = 1 ∷ []; nets = record { weight = 7; pins = 1 ∷ [] } ∷ [] }
+oneMark = record { blocks = 2; imbalance = 0; totalWeight = 1; weights = 1 ∷ []; draft = 1 ∷ []; nets = record { weight = 7; pins = 1 ∷ [] } ∷ [] }
 
 -- lot i in session i, and a buyer of weight 1,000 with a mark at each
 abbrev sixteen : List ℕ
 sixteen = 1 ∷ 2 ∷ 3 ∷ 4 ∷ 5 ∷ 6 ∷ 7 ∷ 8 ∷ 9 ∷ 10 ∷ 11 ∷ 12 ∷ 13 ∷ 14 ∷ 15 ∷ 16 ∷ []
 
 abbrev pub spread : Hypergraph
-spread = record { blocks = 16; imbalance = 0; weights = sixteen; draft = sixteen; nets = record { weight = 1000; pins = sixteen } ∷ [] }
+spread = record { blocks = 16; imbalance = 0; totalWeight = 136; weights = sixteen; draft = sixteen; nets = record { weight = 1000; pins = sixteen } ∷ [] }
 
 -- the starred cases in document 01's order
 pub table :
@@ -51,7 +52,7 @@ pub table :
     × (capacity fiftyOne ≡ 28)
     × (metric oneMark [] (drafted oneMark) ≡ 0)
     × (metric spread [] (drafted spread) ≡ 15000)
-unfolding sum sumTo sumOver any totalWeight averageWeight capacity above climb representative pin size pinCount connectivity metric freed drawn gain place rating
+unfolding sum sumTo sumOver any averageWeight capacity above climb representative pin size pinCount connectivity metric freed drawn gain place rating
 table = (refl, refl, refl, refl, refl, refl, refl, refl, refl, refl)
 
 -- stand climbs: 3 was joined into 2, then 2 into 1

@@ -20,7 +20,7 @@ use Rattle.guarantees.specs.Climbs.{Joins, Sound as SoundStack, above-gone, abo
 use Rattle.guarantees.specs.Weights.{weight-into, weight-other, blockWeight-join}
 use Rattle.guarantees.specs.Joins.{metric-join}
 use Rattle.guarantees.specs.Splits.{placed-join, placed-split, metric-split, blockWeight-split, into-on}
-use Rattle.guarantees.specs.WeightBounds.{weight-le, total-le}
+use Rattle.guarantees.specs.WeightBounds.{weight-le, loaded-le}
 use Rattle.pins.specs.Board.{join}
 use Rattle.levels.specs.Running.{running}
 use Rattle.levels.specs.Operations.{ContractNeeds, ContractDoes, UncontractNeeds, UncontractDoes}
@@ -90,7 +90,7 @@ module _ {h : Hypergraph} {cs : List Contraction} {block : ℕ → ℕ} {T : Tab
     own-weight s v (o .v-in) v-on,
     weight-le h cs (u + 1),
     weight-le h cs (v + 1),
-    total-le (s .fit .limits) (s .fit .short) h (s .fit .ranges),
+    loaded-le (s .fit .limits) (s .fit .short) h (s .fit .ranges),
   )
 
   weighs-join : (y : ℕ) → y < T .n → getD (heavier (T .weights) u v) y 0 ≡ weightEntry h (join u v ∷ cs) (place block (v + 1) 0) (y + 1)

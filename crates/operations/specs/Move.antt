@@ -24,7 +24,7 @@ use Rattle.guarantees.specs.Ends.{placed-move}
 use Rattle.guarantees.specs.Weights.{blockWeight-move}
 use Rattle.guarantees.specs.Moves.{metric-gain}
 use Rattle.guarantees.specs.Bounds.{metric-le}
-use Rattle.guarantees.specs.WeightBounds.{weight-le, blockWeight-le, total-le}
+use Rattle.guarantees.specs.WeightBounds.{weight-le, blockWeight-le, loaded-le}
 use Rattle.connectivity.specs.Raised.{at}
 use Rattle.connectivity.specs.Law.{small-of}
 use Rattle.levels.specs.Running.{Running, running}
@@ -308,7 +308,7 @@ module _ {h : Hypergraph} {cs : List Contraction} {block : ℕ → ℕ} {T : Tab
             s .bears (t - 1) (omega (arith, o .t-in .0, o .t-in .1)),
             blockWeight-le h cs block (t - 1 + 1),
             weight-le h cs (u + 1),
-            total-le (s .fit .limits) (s .fit .short) h (s .fit .ranges),
+            loaded-le (s .fit .limits) (s .fit .short) h (s .fit .ranges),
           );
         };
         in-blocks = omega (arith, o .u-in, s .follows .world .lists .blocks-fit);

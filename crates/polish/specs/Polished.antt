@@ -6,15 +6,17 @@ use native.Mathlib.Omega.{arith}
 use mathlib.Core.Path.{_≡_, refl, sym, ap, ap₂, _∙_, subst}
 use mathlib.Core.Bool.{Bool, true, false, not, _&&_, _||_, cond, and-true}
 use mathlib.Core.List.{List}
-use borrow.Author.Tests.{eq-eqb, ne-eqb, eqb-true, lt-ltb, le-ltb}
+use borrow.Author.Tests.{eq-eqb, ne-eqb, lt-ltb, le-ltb}
 use lib.Dec.{ltb}
 use lib.IntN.{ℤ, pos}
 use lib.ListN.{length, getD, replicate, length-replicate}
 use lib.Signed.{ltZ}
 use Rattle.laws.specs.Place.{place}
-use Rattle.model.specs.Catalogue.{Hypergraph, capacity}
+use Rattle.model.specs.Catalogue.{Hypergraph}
 use Rattle.model.specs.Measure.{Contraction, above, onBoard}
-use Rattle.model.specs.Search.{Best, none, best, Polish, polishBest, polishTurn, polishOn, polish}
+use Rattle.model.specs.Search.{Best, none, best, Polish, polishBest, polishTurn, polishOn, polish, mayMove}
+use Rattle.guarantees.specs.Caps.{CeilingIs}
+use Rattle.guarantees.specs.Ends.{may-on}
 use Rattle.operations.specs.Tables.{Tables, Sound, Keeps}
 use Rattle.operations.specs.Move.{Open, CanGo, Went, on-board, own-block, in-range}
 use Rattle.best_move.specs.declared.open.Pick.{Pick}
@@ -26,11 +28,11 @@ use Rattle.search_moves.specs.Tabled.{holds, pair-open}
 use Rattle.operations.specs.Keeping.{keeps-none, keeps-more}
 use Rattle.polish.specs.Polishing.{sits, rise, riseOf, rise-open}
 
--- tables and variables are those of the polish q; the vertices on the board are marked
+-- tables and variables are those of the polish q; the vertices that may move are marked
 pub record PolishAt (h : Hypergraph) (cs : List Contraction) (q : Polish) (T : Tables) (marks : List ℕ) (moves : ℕ) : Type 0 where
   pub sound : Sound h cs (q .block) T
   pub made-is : moves ≡ q .made
-  pub board : (x : ℕ) → x < T .n → candidateBit marks x ≡ onBoard cs (x + 1)
+  pub board : (x : ℕ) → x < T .n → candidateBit marks x ≡ mayMove h cs (x + 1)
   pub marks-fit : length marks ≡ 48
 
 -- what one pass asks: a polish on its way, with `left` passes left at most. It has no use for the vertices above and for the loaded sizes
@@ -45,31 +47,30 @@ pub record PassOk (T : List ℕ → List ℕ → Tables) (marks : List ℕ) (lef
   pub small : moves + left < 2 ^ 32
 
 -- `end` is what becomes, in at most `left` passes more, of the polish that tables and variables now are
-pub record Further (h : Hypergraph) (cs : List Contraction) (end : Polish) (left : ℕ) (T : Tables) (marks : List ℕ) (moves : ℕ) : Type 0 where
+pub record Further (h : Hypergraph) (ceiling : ℕ → ℕ) (cs : List Contraction) (end : Polish) (left : ℕ) (T : Tables) (marks : List ℕ) (moves : ℕ) : Type 0 where
   pub polish : Polish
   pub at : PolishAt h cs polish T marks moves
-  pub same : end ≡ polishOn h cs left polish
+  pub same : end ≡ polishOn h ceiling cs left polish
 
 -- what one pass does
-pub record Passed (T : Tables) (marks : List ℕ) (limit left moves : ℕ) (T′ : Tables) (left′ moves′ : ℕ) : Type 0 where
-  pub is : (h : Hypergraph) (cs : List Contraction) (q : Polish) → limit ≡ capacity h → PolishAt h cs q T marks moves → Further h cs (polishOn h cs left q) left′ T′ marks moves′
+pub record Passed (T : Tables) (marks ceilings : List ℕ) (left moves : ℕ) (T′ : Tables) (left′ moves′ : ℕ) : Type 0 where
+  pub is : (h : Hypergraph) (ceiling : ℕ → ℕ) (cs : List Contraction) (q : Polish) → CeilingIs ceilings h ceiling → PolishAt h cs q T marks moves → Further h ceiling cs (polishOn h ceiling cs left q) left′ T′ marks moves′
   pub less : left′ < left
   pub small : moves′ + left′ ≤ moves + left
   pub keeps : Keeps T T′
 
--- what `polish` asks: sound tables and the model's capacity
-pub record PolishOk (T : List ℕ → List ℕ → Tables) (limit : ℕ) : Type 0 where
+-- what `polish` asks: sound tables
+pub record PolishOk (T : List ℕ → List ℕ → Tables) : Type 0 where
   pub aboves : List ℕ
   pub loaded : List ℕ
   pub h : Hypergraph
   pub cs : List Contraction
   pub block : ℕ → ℕ
   pub sound : Sound h cs block (T aboves loaded)
-  pub limit-is : limit ≡ capacity h
 
 -- the polish after some passes
-pub record Passing (T : Tables) (marks : List ℕ) (limit : ℕ) (T′ : Tables) (left moves : ℕ) : Type 0 where
-  pub is : (h : Hypergraph) (cs : List Contraction) (block : ℕ → ℕ) → limit ≡ capacity h → Sound h cs block T → Further h cs (polish h cs block) left T′ marks moves
+pub record Passing (T : Tables) (marks ceilings : List ℕ) (T′ : Tables) (left moves : ℕ) : Type 0 where
+  pub is : (h : Hypergraph) (ceiling : ℕ → ℕ) (cs : List Contraction) (block : ℕ → ℕ) → CeilingIs ceilings h ceiling → Sound h cs block T → Further h ceiling cs (polish h ceiling cs block) left T′ marks moves
   pub keeps : Keeps T T′
 
 -- tables and number at the end of P: the partition and the number of moves are those of model's polish
@@ -78,8 +79,8 @@ pub record Smooth (h : Hypergraph) (cs : List Contraction) (q : Polish) (T : Tab
   pub moves-is : moves ≡ q .made
 
 -- what `polish` does
-pub record Polishes (T : Tables) (limit : ℕ) (T′ : Tables) (moves : ℕ) : Type 0 where
-  pub is : (h : Hypergraph) (cs : List Contraction) (block : ℕ → ℕ) → limit ≡ capacity h → Sound h cs block T → Smooth h cs (polish h cs block) T′ moves
+pub record Polishes (T : Tables) (ceilings : List ℕ) (T′ : Tables) (moves : ℕ) : Type 0 where
+  pub is : (h : Hypergraph) (ceiling : ℕ → ℕ) (cs : List Contraction) (block : ℕ → ℕ) → CeilingIs ceilings h ceiling → Sound h cs block T → Smooth h cs (polish h ceiling cs block) T′ moves
   pub keeps : Keeps T T′
 
 -- ---- one turn of model's polish
@@ -102,26 +103,27 @@ module _ (h : Hypergraph) (cs : List Contraction) where
       go true e = let a : x ≡ v = cc in let b : y ≡ t = cc in ap₂ (λ (i j : ℕ). next (record { block = place (q .block) i j; made = suc (q .made) })) a b
       go false e = let z : _≡_ {A = ℕ} 0 1 = cc in absurd (omega arith)
 
-  polish-step : (f : ℕ) (q : Polish) → polishOn h cs (suc f) q ≡ polishTurn h cs q (polishOn h cs f) (polishBest h cs (q .block))
+module _ (h : Hypergraph) (ceiling : ℕ → ℕ) (cs : List Contraction) where
+  polish-step : (f : ℕ) (q : Polish) → polishOn h ceiling cs (suc f) q ≡ polishTurn h cs q (polishOn h ceiling cs f) (polishBest h ceiling cs (q .block))
   unfolding polishOn
   polish-step f q = refl
 
-  polish-none : (q : Polish) → polishOn h cs 0 q ≡ q
+  polish-none : (q : Polish) → polishOn h ceiling cs 0 q ≡ q
   unfolding polishOn
   polish-none q = refl
 
 -- ---- one pass
-abbrev riseIn : Tables → List ℕ → ℕ → Best
-riseIn T marks limit = riseOf (T .gains) (T .blocks) (T .weights) (T .loads) marks (T .n) (T .k) limit
+abbrev riseIn : Tables → List ℕ → List ℕ → Best
+riseIn T marks ceilings = riseOf (T .gains) (T .blocks) (T .weights) (T .loads) ceilings marks (T .n) (T .k)
 
 module _ {h : Hypergraph} {cs : List Contraction} {q : Polish} {T : Tables} {marks : List ℕ} {moves : ℕ} (A : PolishAt h cs q T marks moves) where
-  rise-is : (limit : ℕ) → limit ≡ capacity h → riseIn T marks limit ≡ rise (polishBest h cs (q .block))
-  rise-is limit e = ap rise (polish-is h cs (q .block) (T .gains) (T .blocks) (T .weights) (T .loads) marks (T .n) (T .k) limit (holds (A .sound) limit e) (λ v l u.
+  rise-is : (ceiling : ℕ → ℕ) (ceilings : List ℕ) → CeilingIs ceilings h ceiling → riseIn T marks ceilings ≡ rise (polishBest h ceiling cs (q .block))
+  rise-is ceiling ceilings e = ap rise (polish-is h ceiling cs (q .block) (T .gains) (T .blocks) (T .weights) (T .loads) ceilings marks (T .n) (T .k) (holds (A .sound) ceiling ceilings e) (λ v l u.
       let d : v - 1 + 1 ≡ v = omega arith in
-      A .board (v - 1) (omega arith) ∙ ap (λ (z : ℕ). onBoard cs z) d))
+      A .board (v - 1) (omega arith) ∙ ap (λ (z : ℕ). mayMove h cs z) d))
 
-module _ {T : List ℕ → List ℕ → Tables} {marks : List ℕ} {left moves : ℕ} (ok : PassOk T marks left moves) {r : Pick} (limit v b : ℕ)
-    (c : Chosen (gainIn (T (ok .aboves) (ok .loaded) .gains)) (T (ok .aboves) (ok .loaded) .n) (T (ok .aboves) (ok .loaded) .k) r (riseIn (T (ok .aboves) (ok .loaded)) marks limit))
+module _ {T : List ℕ → List ℕ → Tables} {marks : List ℕ} {left moves : ℕ} (ok : PassOk T marks left moves) {r : Pick} (ceilings : List ℕ) (v b : ℕ)
+    (c : Chosen (gainIn (T (ok .aboves) (ok .loaded) .gains)) (T (ok .aboves) (ok .loaded) .n) (T (ok .aboves) (ok .loaded) .k) r (riseIn (T (ok .aboves) (ok .loaded)) marks ceilings))
     (e : r ≡ Step v b) where
   pub pass-in : (1 ≤ v) × (v ≤ T (ok .aboves) (ok .loaded) .n) × (1 ≤ b) × (b ≤ T (ok .aboves) (ok .loaded) .k)
   pass-in = rw e at (c .within)
@@ -129,25 +131,25 @@ module _ {T : List ℕ → List ℕ → Tables} {marks : List ℕ} {left moves :
   pub pass-open : Open (T (ok .aboves) (ok .loaded) .blocks) (T (ok .aboves) (ok .loaded) .n) (T (ok .aboves) (ok .loaded) .k) (v - 1) b
   pass-open =
       let S = T (ok .aboves) (ok .loaded) in
-      pair-open (ok .at .sound) marks limit v b (λ x l q. eqb-true _ _ (sym (ok .at .board x l) ∙ q)) pass-in
-      (rise-open (openIn marks (S .blocks) (S .weights) (S .loads) limit) (gainIn (S .gains)) v b c e)
+      pair-open (ok .at .sound) marks ceilings v b (λ x l q. may-on (ok .h) (ok .cs) (x + 1) (sym (ok .at .board x l) ∙ q)) pass-in
+      (rise-open (openIn marks (S .blocks) (S .weights) (S .loads) ceilings) (gainIn (S .gains)) v b c e)
 
   pub pass-goes : (x : ℕ) → x ≡ v - 1 → CanGo T x b
   pass-goes x d = record { aboves = ok .aboves; loaded = ok .loaded; goes = record { h = ok .h; cs = ok .cs; block = ok .polish .block; sound = ok .at .sound; open-pair = rw d pass-open } }
 
 -- no pair is left whose gain is above 0
-pub pass-none : (T : Tables) (marks : List ℕ) (limit left moves : ℕ) {r : Pick} → 1 ≤ left → Chosen (gainIn (T .gains)) (T .n) (T .k) r (riseIn T marks limit) → r ≡ Nothing → Passed T marks limit left moves T 0 moves
-pass-none T marks limit left moves l c e = record {
-  is = λ h cs q lim A.
+pub pass-none : (T : Tables) (marks ceilings : List ℕ) (left moves : ℕ) {r : Pick} → 1 ≤ left → Chosen (gainIn (T .gains)) (T .n) (T .k) r (riseIn T marks ceilings) → r ≡ Nothing → Passed T marks ceilings left moves T 0 moves
+pass-none T marks ceilings left moves l c e = record {
+  is = λ h ceiling cs q lim A.
       let d : left ≡ suc (left - 1) = omega arith in
       record {
         polish = q;
         at = A;
         same =
-            ap (λ (i : ℕ). polishOn h cs i q) d
-            ∙ polish-step h cs (left - 1) q
-            ∙ turn-rest h cs q (polishOn h cs (left - 1)) (polishBest h cs (q .block)) (sym (ap (bestOf (gainIn (T .gains))) (sym e) ∙ c .same ∙ rise-is A limit lim))
-            ∙ sym (polish-none h cs q);
+            ap (λ (i : ℕ). polishOn h ceiling cs i q) d
+            ∙ polish-step h ceiling cs (left - 1) q
+            ∙ turn-rest h cs q (polishOn h ceiling cs (left - 1)) (polishBest h ceiling cs (q .block)) (sym (ap (bestOf (gainIn (T .gains))) (sym e) ∙ c .same ∙ rise-is A ceiling ceilings lim))
+            ∙ sym (polish-none h ceiling cs q);
       };
   less = l;
   small = omega arith;
@@ -155,10 +157,10 @@ pass-none T marks limit left moves l c e = record {
 }
 
 -- a move
-pub pass-move : {T T′ : Tables} (marks : List ℕ) (limit left moves x v b : ℕ) {r : Pick} → 1 ≤ left → T′ .n ≡ T .n → Chosen (gainIn (T .gains)) (T .n) (T .k) r (riseIn T marks limit) → r ≡ Step v b → x + 1 ≡ v → Went T T′ x b
-    → Passed T marks limit left moves T′ (left - 1) (moves + 1)
-pass-move {T} {T′} marks limit left moves x v b l qn c e d w = record {
-  is = λ h cs q lim A.
+pub pass-move : {T T′ : Tables} (marks ceilings : List ℕ) (left moves x v b : ℕ) {r : Pick} → 1 ≤ left → T′ .n ≡ T .n → Chosen (gainIn (T .gains)) (T .n) (T .k) r (riseIn T marks ceilings) → r ≡ Step v b → x + 1 ≡ v → Went T T′ x b
+    → Passed T marks ceilings left moves T′ (left - 1) (moves + 1)
+pass-move {T} {T′} marks ceilings left moves x v b l qn c e d w = record {
+  is = λ h ceiling cs q lim A.
       let i : left ≡ suc (left - 1) = omega arith in
       record {
         polish = record { block = place (q .block) v b; made = suc (q .made) };
@@ -169,9 +171,9 @@ pass-move {T} {T′} marks limit left moves x v b l qn c e d w = record {
           marks-fit = A .marks-fit;
         };
         same =
-            ap (λ (j : ℕ). polishOn h cs j q) i
-            ∙ polish-step h cs (left - 1) q
-            ∙ turn-go h cs q (polishOn h cs (left - 1)) (polishBest h cs (q .block)) v b (gainIn (T .gains) v b) (sym (ap (bestOf (gainIn (T .gains))) (sym e) ∙ c .same ∙ rise-is A limit lim));
+            ap (λ (j : ℕ). polishOn h ceiling cs j q) i
+            ∙ polish-step h ceiling cs (left - 1) q
+            ∙ turn-go h cs q (polishOn h ceiling cs (left - 1)) (polishBest h ceiling cs (q .block)) v b (gainIn (T .gains) v b) (sym (ap (bestOf (gainIn (T .gains))) (sym e) ∙ c .same ∙ rise-is A ceiling ceilings lim));
       };
   less = omega arith;
   small = omega arith;
@@ -191,10 +193,10 @@ on-table {cs = cs} {T = T} s x l = go (ℕ-discrete (above cs (x + 1)) 0)
         off (yes z) = omega arith
         off (no z) = absurd (q (on-board s x l (omega (arith, z))))
 
-pub passing-none : (T : Tables) (limit : ℕ) {marks : List ℕ} → Marked (replicate 48 0) marks (sits (T .blocks) (T .n)) → Passing T marks limit T (T .total) 0
+pub passing-none : (T : Tables) (ceilings : List ℕ) {marks : List ℕ} → Marked (replicate 48 0) marks (sits (T .blocks) (T .n)) → Passing T marks ceilings T (T .total) 0
 unfolding polish sits
-passing-none T limit {marks} m = record {
-  is = λ h cs block lim s. record {
+passing-none T ceilings {marks} m = record {
+  is = λ h ceiling cs block lim s. record {
     polish = record { block = block; made = 0 };
     at = record {
       sound = s;
@@ -207,31 +209,31 @@ passing-none T limit {marks} m = record {
           ∙ on-table s x l;
       marks-fit = m .len ∙ length-replicate {A = ℕ} 48 0;
     };
-    same = ap (λ (i : ℕ). polishOn h cs i (record { block = block; made = 0 })) (sym (s .total-is));
+    same = ap (λ (i : ℕ). polishOn h ceiling cs i (record { block = block; made = 0 })) (sym (s .total-is));
   };
   keeps = keeps-none T;
 }
 
-pub pass-asks : {T T′ : List ℕ → List ℕ → Tables} {marks : List ℕ} {limit left moves : ℕ} (ok : PolishOk T limit) → ((aboves loaded : List ℕ) → Passing (T aboves loaded) marks limit (T′ aboves loaded) left moves) → 1 ≤ left → moves + left < 2 ^ 32 → PassOk T′ marks left moves
-pass-asks ok f l k =
-    let o = f (ok .aboves) (ok .loaded) .is (ok .h) (ok .cs) (ok .block) (ok .limit-is) (ok .sound) in
+pub pass-asks : {T T′ : List ℕ → List ℕ → Tables} {marks ceilings : List ℕ} {left moves : ℕ} (ok : PolishOk T) → ((aboves loaded : List ℕ) → Passing (T aboves loaded) marks ceilings (T′ aboves loaded) left moves) → 1 ≤ left → moves + left < 2 ^ 32 → PassOk T′ marks left moves
+pass-asks {ceilings = ceilings} ok f l k =
+    let o = f (ok .aboves) (ok .loaded) .is (ok .h) (λ b. getD ceilings (b - 1) 0) (ok .cs) (ok .block) (λ b _ _. refl) (ok .sound) in
     record { aboves = ok .aboves; loaded = ok .loaded; h = ok .h; cs = ok .cs; polish = o .polish; at = o .at; some = l; small = k }
 
-pub passing-more : {T T′ T″ : Tables} {marks : List ℕ} {limit left moves left′ moves′ : ℕ} → T′ .n ≡ T .n → T′ .m ≡ T .m → T′ .k ≡ T .k → T′ .firsts ≡ T .firsts → T′ .loaded ≡ T .loaded
-    → Passing T marks limit T′ left moves → Passed T′ marks limit left moves T″ left′ moves′ → Passing T marks limit T″ left′ moves′
+pub passing-more : {T T′ T″ : Tables} {marks ceilings : List ℕ} {left moves left′ moves′ : ℕ} → T′ .n ≡ T .n → T′ .m ≡ T .m → T′ .k ≡ T .k → T′ .firsts ≡ T .firsts → T′ .loaded ≡ T .loaded
+    → Passing T marks ceilings T′ left moves → Passed T′ marks ceilings left moves T″ left′ moves′ → Passing T marks ceilings T″ left′ moves′
 passing-more qn qm qk qf ql f k = record {
-  is = λ h cs block lim s.
-      let o = f .is h cs block lim s in
-      let t = k .is h cs (o .polish) lim (o .at) in
+  is = λ h ceiling cs block lim s.
+      let o = f .is h ceiling cs block lim s in
+      let t = k .is h ceiling cs (o .polish) lim (o .at) in
       record { polish = t .polish; at = t .at; same = o .same ∙ t .same };
   keeps = keeps-more qn qm qk qf ql (f .keeps) (k .keeps);
 }
 
-pub polishes-all : {T T′ : Tables} {marks : List ℕ} {limit left moves : ℕ} → Passing T marks limit T′ left moves → left ≤ 0 → Polishes T limit T′ moves
+pub polishes-all : {T T′ : Tables} {marks ceilings : List ℕ} {left moves : ℕ} → Passing T marks ceilings T′ left moves → left ≤ 0 → Polishes T ceilings T′ moves
 polishes-all {T′ = T′} {left = left} {moves = moves} f l = record {
-  is = λ h cs block lim s.
-      let o = f .is h cs block lim s in
+  is = λ h ceiling cs block lim s.
+      let o = f .is h ceiling cs block lim s in
       let e : left ≡ 0 = omega arith in
-      subst (λ (q : Polish). Smooth h cs q T′ moves) (sym (o .same ∙ ap (λ (i : ℕ). polishOn h cs i (o .polish)) e ∙ polish-none h cs (o .polish))) (record { sound = o .at .sound; moves-is = o .at .made-is });
+      subst (λ (q : Polish). Smooth h cs q T′ moves) (sym (o .same ∙ ap (λ (i : ℕ). polishOn h ceiling cs i (o .polish)) e ∙ polish-none h ceiling cs (o .polish))) (record { sound = o .at .sound; moves-is = o .at .made-is });
   keeps = f .keeps;
 }

@@ -77,8 +77,8 @@ pub rise-read : (g : List ℤ) (v b v′ b′ : ℕ) {r : Bool} → v′ ≡ v �
 rise-read g v b v′ b′ ev eb f is = is ∙ ap (ltZ (pos 0)) (read32 (gainIn g v′ b′) f ∙ ap₂ (gainIn g) ev eb)
 
 -- what the code finds
-abbrev pub riseOf : (gains : List ℤ) (blocks weights loads marks : List ℕ) (n k limit : ℕ) → Best
-riseOf gains blocks weights loads marks n k limit = rise (bestPair n k (openIn marks blocks weights loads limit) (gainIn gains))
+abbrev pub riseOf : (gains : List ℤ) (blocks weights loads ceilings marks : List ℕ) (n k : ℕ) → Best
+riseOf gains blocks weights loads ceilings marks n k = rise (bestPair n k (openIn marks blocks weights loads ceilings) (gainIn gains))
 
 pub rise-none : (worth : ℕ → ℕ → ℤ) (n k : ℕ) {r : Pick} {b : Best} → Chosen worth n k r b → r ≡ Nothing → Chosen worth n k Nothing (rise b)
 rise-none worth n k c e = record { same = ap rise (ap (bestOf worth) (sym e) ∙ c .same); within = tt }

@@ -75,17 +75,17 @@ fn next_rise(
     blocks: &[u16],
     weights: &[u32],
     loads: &[u64; 16],
+    ceilings: &[u64; 16],
     marks: &[u64],
     peaks: &[i32; 16],
     n: usize,
     k: usize,
-    capacity: u64,
 ) -> Pick
     requires { ⌜ SearchOk (length (now gains)) (length (now blocks)) (length (now weights)) (length (now marks)) n k ⌝ }
     requires { ⌜ Peaked (now gains) (now peaks) n k ⌝ }
-    ensures { λ r. ⌜ Chosen (gainIn (now (gains .entry))) n k r (riseOf (now (gains .entry)) (now (blocks .entry)) (now (weights .entry)) (now (loads .entry)) (now (marks .entry)) n k capacity) ⌝ }
+    ensures { λ r. ⌜ Chosen (gainIn (now (gains .entry))) n k r (riseOf (now (gains .entry)) (now (blocks .entry)) (now (weights .entry)) (now (loads .entry)) (now (ceilings .entry)) (now (marks .entry)) n k) ⌝ }
 {
-    match best_open(gains, blocks, weights, loads, marks, peaks, n, k, capacity) {
+    match best_open(gains, blocks, weights, loads, ceilings, marks, peaks, n, k) {
         Pick::Nothing => Pick::Nothing,
         Pick::Move { vertex, block } => {
             if rises(gains, vertex, block) {
@@ -114,19 +114,19 @@ fn pass(
     weights: &[u32],
     netweights: &[u16],
     firsts: &[u16],
+    ceilings: &[u64; 16],
     n: usize,
     m: usize,
     k: usize,
-    capacity: u64,
     p: Passes,
 ) -> Passes
     requires { ⌜ PassOk (lent (now counts) (now visited) (now gains) (now blocks) (now loads) (now presentpins) (now presentsizes) (now bits) (now weights) (now netweights) (now firsts) n m k (p .total)) (now marks) (p .left) (p .moves) ⌝ }
     requires { ⌜ Peaked (now gains) (now peaks) n k ⌝ }
-    ensures { λ r. ⌜ ((aboves loadedsizes : List ℕ) → Passed (lent (now (counts .entry)) (now (visited .entry)) (now (gains .entry)) (now (blocks .entry)) (now (loads .entry)) (now (presentpins .entry)) (now (presentsizes .entry)) (now (bits .entry)) (now (weights .entry)) (now (netweights .entry)) (now (firsts .entry)) n m k (p .total) aboves loadedsizes) (now (marks .entry)) capacity (p .left) (p .moves)
+    ensures { λ r. ⌜ ((aboves loadedsizes : List ℕ) → Passed (lent (now (counts .entry)) (now (visited .entry)) (now (gains .entry)) (now (blocks .entry)) (now (loads .entry)) (now (presentpins .entry)) (now (presentsizes .entry)) (now (bits .entry)) (now (weights .entry)) (now (netweights .entry)) (now (firsts .entry)) n m k (p .total) aboves loadedsizes) (now (marks .entry)) (now (ceilings .entry)) (p .left) (p .moves)
         (lent (now (counts .exit)) (now (visited .exit)) (now (gains .exit)) (now (blocks .exit)) (now (loads .exit)) (now (presentpins .exit)) (now (presentsizes .exit)) (now (bits .exit)) (now (weights .exit)) (now (netweights .exit)) (now (firsts .exit)) n m k (r .total) aboves loadedsizes) (r .left) (r .moves)) ⌝ }
     ensures { λ _. ⌜ Peaked (now (gains .exit)) (now (peaks .exit)) n k ⌝ }
 {
-    match next_rise(gains, blocks, weights, loads, marks, peaks, n, k, capacity) {
+    match next_rise(gains, blocks, weights, loads, ceilings, marks, peaks, n, k) {
         Pick::Nothing => Passes {
             left: 0,
             moves: p.moves,
@@ -176,14 +176,14 @@ pub fn polish(
     weights: &[u32],
     netweights: &[u16],
     firsts: &[u16],
+    ceilings: &[u64; 16],
     n: usize,
     m: usize,
     k: usize,
-    capacity: u64,
     total: u32,
 ) -> Polished
-    requires { ⌜ PolishOk (lent (now counts) (now visited) (now gains) (now blocks) (now loads) (now presentpins) (now presentsizes) (now bits) (now weights) (now netweights) (now firsts) n m k total) capacity ⌝ }
-    ensures { λ r. ⌜ ((aboves loadedsizes : List ℕ) → Polishes (lent (now (counts .entry)) (now (visited .entry)) (now (gains .entry)) (now (blocks .entry)) (now (loads .entry)) (now (presentpins .entry)) (now (presentsizes .entry)) (now (bits .entry)) (now (weights .entry)) (now (netweights .entry)) (now (firsts .entry)) n m k total aboves loadedsizes) capacity
+    requires { ⌜ PolishOk (lent (now counts) (now visited) (now gains) (now blocks) (now loads) (now presentpins) (now presentsizes) (now bits) (now weights) (now netweights) (now firsts) n m k total) ⌝ }
+    ensures { λ r. ⌜ ((aboves loadedsizes : List ℕ) → Polishes (lent (now (counts .entry)) (now (visited .entry)) (now (gains .entry)) (now (blocks .entry)) (now (loads .entry)) (now (presentpins .entry)) (now (presentsizes .entry)) (now (bits .entry)) (now (weights .entry)) (now (netweights .entry)) (now (firsts .entry)) n m k total aboves loadedsizes) (now (ceilings .entry))
         (lent (now (counts .exit)) (now (visited .exit)) (now (gains .exit)) (now (blocks .exit)) (now (loads .exit)) (now (presentpins .exit)) (now (presentsizes .exit)) (now (bits .exit)) (now (weights .exit)) (now (netweights .exit)) (now (firsts .exit)) n m k (r .total) aboves loadedsizes) (r .moves)) ⌝ }
 {
     let mut marks = [0u64; 48];
@@ -210,10 +210,10 @@ pub fn polish(
             weights,
             netweights,
             firsts,
+            ceilings,
             n,
             m,
             k,
-            capacity,
             p,
         );
     }

@@ -11,7 +11,7 @@ use lib.ListN.{length, getD, take}
 use lib.Seq.{length-take-le, getD-take}
 use Rattle.laws.specs.Fold.{sumOver}
 use Rattle.laws.specs.Sum.{sum, sumTo, foldTo, foldTo-none, foldTo-more, foldTo-found, sum-ext, sum-list, sum-sumTo}
-use Rattle.model.specs.Catalogue.{Net, Hypergraph, vertices, loaded, drafted, totalWeight, averageWeight, capacity}
+use Rattle.model.specs.Catalogue.{Net, Hypergraph, vertices, loaded, drafted, averageWeight, capacity}
 use Rattle.model.specs.Measure.{blockWeight}
 use Rattle.model.specs.Grammar.{overfull}
 use Rattle.guarantees.specs.Splits.{blockWeight-none}
@@ -30,7 +30,7 @@ module _ (l k t : ℕ) (w d : List ℕ) (ns : List Net) where
   graph = withNets (lotsGraph k t l w d) ns
 
   pub average-is : averageWeight graph ≡ averageOf k (take l w)
-  unfolding averageWeight totalWeight
+  unfolding averageWeight
   average-is = refl
 
   pub capacity-is : capacity graph ≡ (1000 + t) * averageOf k (take l w) / 1000

@@ -9,6 +9,7 @@ use lib.ListN.{length, set, take, length-set}
 use lib.Seq.{slice, take-suc-set, length-take-le, getD-set-other}
 use lib.Dec.{eqb, leb}
 use borrow.Author.Tests.{ne-eqb, lt-ltb}
+use Rattle.laws.specs.Fold.{sumOver-more}
 use Rattle.model.specs.Catalogue.{Limits, Hypergraph}
 use Rattle.model.specs.Machine.{Call}
 use Rattle.model.specs.Grammar.{Book, Reading, reading, stopped, parts, fields, whole, overfull, grown, withLot, lotLine, line, ending, lines}
@@ -135,5 +136,5 @@ module _ (s : List ℕ) (at l blocks : ℕ) (w₀ d₀ w d : List ℕ) (i k : �
             let v : take (k + 1) (set d k y) ≡ take k d ++ (y ∷ []) = rw add-one (take-suc-set d k y (omega (arith, on .d-len, on .l-le))) in
             step limits b imbalance
             ∙ ap (λ (r : Lot). lines limits (k + 2 + 1) (lotted (k + 2) (book l b (graph imbalance) 0 []) r) (parts 10 (slice (e + 1) (length s) s))) z
-            ∙ rw (p, q, u, v);
+            ∙ rw (p, q, u, v, sumOver-more (take k w) x (λ n. n));
       }

@@ -8,6 +8,7 @@ use lib.ListN.{length, getD, replicate, take}
 use lib.Seq.{slice, length-take-le, take-length}
 use lib.Dec.{eqb}
 use borrow.Author.Tests.{eq-eqb, lt-ltb, le-ltb}
+use Rattle.laws.specs.Fold.{sumOver}
 use Rattle.model.specs.Catalogue.{Limits, Net}
 use Rattle.model.specs.Grammar.{Reading, reading, stopped, parts, lines, grown, whole, overfull, parse, unread, fields, line, ending}
 use Rattle.text.specs.Field.{FirstAt}
@@ -152,6 +153,7 @@ module _ (limits : Limits) (s w₀ d₀ f₀ c₀ marks₀ : List ℕ) where
 
       module _ (l b k t : ℕ) (is : r ≡ Sale l b k t) (x : Rest) (w d nw f c marks calls : List ℕ) (read : CatalogueRead s (e + 1) l b k t x w₀ d₀ f₀ c₀ marks₀ w d nw f c marks calls) where
         all-read : restSeen l b (lotsGraph k t l w d) x nw f c marks calls ≡ parse limits s
+        unfolding sumOver
         all-read = read .says limits ∙ sym (first-line ∙ ap (λ (h : Head). lines limits 2 (opened 1 h) (parts 10 (slice (e + 1) (length s) s))) is)
 
         pub file-not : (q n : ℕ) → x ≡ Not q n → FileRead limits s (Refused q n) w₀ d₀ f₀ c₀ marks₀ w d nw f c marks calls

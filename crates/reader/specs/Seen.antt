@@ -5,6 +5,7 @@ use mathlib.Core.Bool.{true}
 use mathlib.Core.List.{List, []}
 use lib.ListN.{length, take}
 use lib.Seq.{slice}
+use Rattle.laws.specs.Fold.{sumOver}
 use Rattle.model.specs.Catalogue.{Limits, Hypergraph}
 use Rattle.model.specs.Grammar.{Reading, reading, stopped, grown, whole, lines, parts}
 use Rattle.model.specs.Lent.{callsOf}
@@ -23,9 +24,9 @@ pub record CallsRead (s : List ℕ) (at n : ℕ) (r : Ended) (t : List ℕ) : Ty
   pub known : (c : ℕ) → r ≡ Up c → (c ≤ 512) × (length (callsOf c t) ≡ c)
   pub says : (limits : Limits) (l b m : ℕ) (h : Hypergraph) → whole (book l b h m []) ≡ true → called l b h m r t ≡ lines limits n (reading (book l b h m [])) (parts 10 (slice at (length s) s))
 
--- the catalogue with no buyer yet: the first k lots of the tables
+-- the catalogue with no buyer yet: the first k lots of the tables, and their bales
 abbrev pub lotsGraph : ℕ → ℕ → ℕ → List ℕ → List ℕ → Hypergraph
-lotsGraph blocks imbalance k w d = record { blocks = blocks; imbalance = imbalance; weights = take k w; draft = take k d; nets = [] }
+lotsGraph blocks imbalance k w d = record { blocks = blocks; imbalance = imbalance; totalWeight = sumOver (take k w) (λ x. x); weights = take k w; draft = take k d; nets = [] }
 
 -- the lot lines of a file whose first line is read: what is left to read, from the place where they end
 abbrev pub lotsSeen : Limits → List ℕ → ℕ → ℕ → ℕ → ℕ → Ended → List ℕ → List ℕ → Reading

@@ -1,10 +1,10 @@
 -- A list of calls on tables as loading left them: what it needs, and that it leaves what demand 3 says. Rests on memory and sequence.
 -- Assumes nothing.
-use Prim.Native.Nat.{ℕ, _+_, _*_, _≤_}
+use Prim.Native.Nat.{ℕ, _+_, _-_, _*_, _≤_}
 use native.Mathlib.Omega.{arith}
 use mathlib.Core.Path.{_≡_, refl, sym, _∙_}
 use mathlib.Core.List.{List}
-use lib.ListN.{length, getD, replicate, length-replicate}
+use lib.ListN.{length, getD, replicate, length-replicate, getD-replicate}
 use lib.IntN.{ℤ}
 use Rattle.laws.specs.Fold.{zeros-get}
 use Rattle.model.specs.Catalogue.{Limits, Hypergraph}
@@ -94,21 +94,21 @@ module _ {limits : Limits} {file : List ℕ} {z : Sizes} {old new : Lists} {nw c
     abbrev T₀ : Tables
     T₀ = tables counts′ visited′ gains′ (new .presentPins) (new .presentSizes) bits′ (new .blocks) (new .weights) (new .aboves) loads′ nw (new .firsts) (new .loadedSizes) (z .vertices) (z .nets) (z .blocks) draft
 
-    pub begins : Begins limits h T₀ (z .average) (z .capacity) calls count (length out)
+    pub begins : Begins limits h T₀ (z .average) (replicate 16 (z .capacity)) calls count (length out)
     begins = let a = g .loads .accepts z refl in record {
       narrow = g .narrow;
       short = g .short;
       accepted = is-accepted (g .narrow) (g .short) (g .long) (g .loads);
       sound = let n = none-above (g .narrow) (g .short) (g .long) (g .loads) in o .sound h (new .loadedSizes) (new .aboves) can-open-h (n .0) (n .1);
       average-is = a .average;
-      limit-is = a .capacity;
+      ceiling-is = λ t from to. getD-replicate 16 (t - 1) (z .capacity) 0 (omega (arith, a .range .k-high, g .narrow)) ∙ a .capacity;
       count-le = l .count-le;
       known = l .known;
       calls-fit = l .calls-fit;
       spacious = l .spacious;
     }
 
-    pub can-run : CanRun T₀ (z .average) (z .capacity) calls count (length out)
+    pub can-run : CanRun T₀ (z .average) (replicate 16 (z .capacity)) calls count (length out)
     can-run = record { limits = limits; h = h; begins = begins }
 
     -- what stands in lent memory between two calls is what the machine's state there says

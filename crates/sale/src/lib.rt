@@ -50,6 +50,7 @@ pub fn sell(
     let k = z.blocks as usize;
     let average = z.average as u64;
     let capacity = z.capacity as u64;
+    let ceilings = [capacity; 16];
     let mut bits = [0u64; 16384];
     let mut loads = [0u64; 16];
     let draft = open(
@@ -83,13 +84,13 @@ pub fn sell(
         netweights,
         firsts,
         loadedsizes,
+        &ceilings,
         calls,
         count,
         n,
         m,
         k,
         average,
-        capacity,
         draft,
     );
     let stack = course.stack;

@@ -4,12 +4,13 @@ use native.Mathlib.Omega.{arith}
 use mathlib.Core.Path.{_≡_, refl, sym, ap, _∙_, subst}
 use mathlib.Core.List.{List, [], _∷_}
 use lib.ListN.{getD}
-use Rattle.model.specs.Catalogue.{Hypergraph, averageWeight, capacity}
+use Rattle.model.specs.Catalogue.{Hypergraph, averageWeight}
 use Rattle.model.specs.Measure.{Contraction}
 use Rattle.model.specs.Machine.{callA, saysA, saysNO, State, settle}
 use Rattle.model.specs.Report.{refusal}
-use Rattle.model.specs.Search.{refusesA, doesA, call}
+use Rattle.model.specs.Search.{refusesA, doesA, callUnder}
 use Rattle.model.specs.Lent.{stackOf, Two}
+use Rattle.guarantees.specs.Caps.{CeilingIs}
 use Rattle.operations.specs.Pairs.{pairs-none, pairs-some}
 use Rattle.operations.specs.Tables.{Tables, Sound}
 use Rattle.operations.specs.Keeping.{keeps-none}
@@ -22,19 +23,18 @@ use Rattle.edit_calls.specs.Contracting.{above-none, emptied, cleared-whole}
 abbrev pub AverageIs : ℕ → Hypergraph → Type 0
 AverageIs x h = x ≡ averageWeight h
 
-pub record ReadyA (T : Tables) (S J : Two) (average limit : ℕ) : Type 0 where
+pub record ReadyA (T : Tables) (S J : Two) (average : ℕ) : Type 0 where
   pub ready : Ready T S J
   pub average-is : average ≡ averageWeight (ready .h)
-  pub limit-is : limit ≡ capacity (ready .h)
 
 -- a contraction stands
-pub refused-A : {h : Hypergraph} (T : Tables) {S J : Two} → (S .len ≡ 0 → ⊥) → Called h T T S S J J callA (saysNO 16)
-unfolding call refusesA
-refused-A {h} T {S} n = record {
+pub refused-A : {h : Hypergraph} {ceiling : ℕ → ℕ} (T : Tables) {S J : Two} → (S .len ≡ 0 → ⊥) → Called h ceiling T T S S J J callA (saysNO 16)
+unfolding callUnder refusesA
+refused-A {h} {ceiling} T {S} n = record {
   steps = λ s r.
       let top : Contraction = record { into = getD (S .xs) (S .len - 1) 0; gone = getD (S .ys) (S .len - 1) 0 } in
       let some : s .stack ≡ top ∷ stackOf (S .xs) (S .ys) (S .len - 1) = sym (r .stack-is) ∙ pairs-some (λ u v. record { into = u; gone = v }) (S .xs) (S .ys) (S .len) (above-none (S .len) n) in
-      refused callA (ap (λ (l : List Contraction). settle (refusesA h s l) s (doesA h s)) some ∙ settle-no 16 s (doesA h s) (saysNO 16) (λ z. omega arith)) r;
+      refused callA (ap (λ (l : List Contraction). settle (refusesA h s l) s (doesA h ceiling s)) some ∙ settle-no 16 s (doesA h ceiling s) (saysNO 16) (λ z. omega arith)) r;
   keeps = λ s r. keeps-none T;
   unchanged = λ _. (refl, refl, refl);
 }
@@ -47,28 +47,27 @@ module _ {h : Hypergraph} {s : State} {T : Tables} {S J : Two} (r : Runs h s T S
   sound-none : Sound h [] (s .block) T
   sound-none = subst (λ (cs : List Contraction). Sound h cs (s .block) T) stack-none (r .sound)
 
-pub cycle-asks : {T : Tables} {S J : Two} {average limit : ℕ} → ReadyA T S J average limit → S .len ≡ 0 → CycleOk T average limit
+pub cycle-asks : {T : Tables} {S J : Two} {average : ℕ} → ReadyA T S J average → S .len ≡ 0 → CycleOk T average
 cycle-asks g z = record {
   h = g .ready .h;
   block = g .ready .s .block;
   sound = sound-none (g .ready .runs) z;
   average-is = g .average-is;
-  limit-is = g .limit-is;
 }
 
-pub accepted-A : (h : Hypergraph) (T T′ : Tables) (S J J′ : Two) (average limit : ℕ) {joins tried kept moves : ℕ} → average ≡ averageWeight h → limit ≡ capacity h → S .len ≡ 0 → Does T average limit T′ joins tried kept moves → Cleared J J′
-    → Called h T T′ S S J J′ callA (saysA joins tried kept moves (T′ .total))
-unfolding call refusesA doesA refusal
-accepted-A h T T′ S J J′ average limit qa qc z d c = record {
+pub accepted-A : (h : Hypergraph) (ceiling : ℕ → ℕ) (T T′ : Tables) (S J J′ : Two) (average : ℕ) (ceilings : List ℕ) {joins tried kept moves : ℕ} → average ≡ averageWeight h → CeilingIs ceilings h ceiling → S .len ≡ 0 → Does T average ceilings T′ joins tried kept moves → Cleared J J′
+    → Called h ceiling T T′ S S J J′ callA (saysA joins tried kept moves (T′ .total))
+unfolding callUnder refusesA doesA refusal
+accepted-A h ceiling T T′ S J J′ average ceilings qa qc z d c = record {
   steps = λ s r.
-      let e = d .is h s qa qc (sound-none r z) in
-      stepped callA (doesA h s) (settle-yes (refusesA h s (s .stack)) s (doesA h s) (ap (refusesA h s) (stack-none r z))) r (record {
+      let e = d .is h ceiling s qa qc (sound-none r z) in
+      stepped callA (doesA h ceiling s) (settle-yes (refusesA h s (s .stack)) s (doesA h ceiling s) (ap (refusesA h s) (stack-none r z))) r (record {
         sound = e .sound;
         stack-is = r .stack-is ∙ stack-none r z;
         journal-is = emptied c;
         stack-whole = r .stack-whole;
         journal-whole = cleared-whole c (r .journal-whole);
       }) (sym (e .answer-is)) (omega (arith, c .len-is));
-  keeps = λ s r. d .keeps h (s .block) qa qc (sound-none r z);
+  keeps = λ s r. d .keeps h ceiling (s .block) qa qc (sound-none r z);
   unchanged = λ l. absurd (omega arith);
 }

@@ -9,11 +9,12 @@ use borrow.Author.Tests.{eqb-false, not-true, not-false}
 use lib.Dec.{eqb}
 use lib.ListN.{getD}
 use Rattle.laws.specs.Choice.{cond-zero, and-left, and-right}
-use Rattle.model.specs.Catalogue.{Hypergraph, capacity}
+use Rattle.model.specs.Catalogue.{Hypergraph}
 use Rattle.model.specs.Machine.{callW, callP, saysW, saysP, State, settle}
 use Rattle.model.specs.Report.{refusal}
-use Rattle.model.specs.Search.{walk, refusesW, doesW, doesP, call}
+use Rattle.model.specs.Search.{walk, refusesW, doesW, doesP, callUnder}
 use Rattle.model.specs.Lent.{Two}
+use Rattle.guarantees.specs.Caps.{CeilingIs}
 use Rattle.guarantees.specs.SearchBounds.{tried-le, walk-counts}
 use Rattle.operations.specs.Tables.{Tables}
 use Rattle.operations.specs.Keeping.{keeps-none}
@@ -21,17 +22,8 @@ use Rattle.walk.specs.Steps.{WalkOk, Ended, Walks}
 use Rattle.polish.specs.Polished.{PolishOk, Polishes}
 use Rattle.edit_calls.specs.Refusal.{known, here, refusalW, refusalW-is, known-range}
 use Rattle.edit_calls.specs.Steps.{Runs, Ready, told}
-use Rattle.edit_calls.specs.Called.{Called, Cleared, stepped, refused, settle-no, settle-yes}
+use Rattle.edit_calls.specs.Called.{ReadyM, Called, Cleared, stepped, refused, settle-no, settle-yes}
 use Rattle.edit_calls.specs.Contracting.{above-none, emptied, cleared-whole}
-
--- W and P have no use for the vertices above, the loaded sizes and the stack, whatever these are; the capacity that they are told is the
--- catalogue's
-pub record ReadyW (T : List ℕ → List ℕ → Tables) (J : Two) (limit : ℕ) : Type 0 where
-  pub aboves : List ℕ
-  pub loaded : List ℕ
-  pub stack : Two
-  pub ready : Ready (T aboves loaded) stack J
-  pub limit-is : limit ≡ capacity (ready .h)
 
 -- ---- W
 -- two vertices on the board
@@ -63,7 +55,7 @@ both-of blocks n u v q =
       v-on = here-on blocks v (and-right (here blocks u) (here blocks v) on);
     }
 
-pub walk-asks : {T : List ℕ → List ℕ → Tables} {J : Two} {limit : ℕ} (u v : ℕ) (g : ReadyW T J limit) → refusalW (T (g .aboves) (g .loaded) .blocks) (T (g .aboves) (g .loaded) .n) u v ≡ 0 → WalkOk T limit (u - 1) (v - 1)
+pub walk-asks : {T : List ℕ → List ℕ → Tables} {J : Two} (u v : ℕ) (g : ReadyM T J) → refusalW (T (g .aboves) (g .loaded) .blocks) (T (g .aboves) (g .loaded) .n) u v ≡ 0 → WalkOk T (u - 1) (v - 1)
 walk-asks {T} u v g e =
     let b = both-of (T (g .aboves) (g .loaded) .blocks) (T (g .aboves) (g .loaded) .n) u v e in
     record {
@@ -73,7 +65,6 @@ walk-asks {T} u v g e =
       cs = g .ready .s .stack;
       block = g .ready .s .block;
       sound = g .ready .runs .sound;
-      limit-is = g .limit-is;
       u-in = omega (arith, b .u-from, b .u-to);
       u-on = b .u-on;
       v-in = omega (arith, b .v-from, b .v-to);
@@ -81,52 +72,53 @@ walk-asks {T} u v g e =
     }
 
 -- a walk's numbers are small
-pub walk-few : {T T′ : List ℕ → List ℕ → Tables} {J : Two} {limit u v tried kept : ℕ} (g : ReadyW T J limit) → ((aboves loaded : List ℕ) → Walks (T aboves loaded) limit u v (T′ aboves loaded) tried kept) → (tried < 65536) × (kept < 65536)
-walk-few {u = u} {v = v} g f =
+pub walk-few : {T T′ : List ℕ → List ℕ → Tables} {J : Two} {ceilings : List ℕ} {u v tried kept : ℕ} (g : ReadyM T J) → ((aboves loaded : List ℕ) → Walks (T aboves loaded) ceilings u v (T′ aboves loaded) tried kept) → (tried < 65536) × (kept < 65536)
+walk-few {ceilings = ceilings} {u} {v} g f =
+    let ceiling : ℕ → ℕ = λ b. getD ceilings (b - 1) 0 in
     let s = g .ready .runs .sound in
     let cs = g .ready .s .stack in
     let block = g .ready .s .block in
-    let e = f (g .aboves) (g .loaded) .is (g .ready .h) cs block (g .limit-is) s in
-    let l = tried-le (g .ready .h) cs block (u + 1) (v + 1) in (
+    let e = f (g .aboves) (g .loaded) .is (g .ready .h) ceiling cs block (λ b _ _. refl) s in
+    let l = tried-le (g .ready .h) ceiling cs block (u + 1) (v + 1) in (
       omega (arith, e .tried-is, l, s .follows .says .all-vertices, s .follows .room .few-vertices),
-      omega (arith, e .kept-is, walk-counts (g .ready .h) cs block (u + 1) (v + 1) .kept-le, l, s .follows .says .all-vertices, s .follows .room .few-vertices),
+      omega (arith, e .kept-is, walk-counts (g .ready .h) ceiling cs block (u + 1) (v + 1) .kept-le, l, s .follows .says .all-vertices, s .follows .room .few-vertices),
     )
 
-pub refused-W : {h : Hypergraph} (T : Tables) {S J : Two} (u v q tried kept total : ℕ) → q ≡ refusalW (T .blocks) (T .n) u v → (q ≡ 0 → ⊥) → Called h T T S S J J (callW u v) (told q (saysW tried kept total))
-unfolding call
-refused-W {h} T u v q tried kept total e n = record {
-  steps = λ s r. refused (callW u v) (ap (λ (z : ℕ). settle z s (doesW h s u v)) (sym (e ∙ refusalW-is (r .sound) s refl u v)) ∙ settle-no q s (doesW h s u v) (saysW tried kept total) n) r;
+pub refused-W : {h : Hypergraph} {ceiling : ℕ → ℕ} (T : Tables) {S J : Two} (u v q tried kept total : ℕ) → q ≡ refusalW (T .blocks) (T .n) u v → (q ≡ 0 → ⊥) → Called h ceiling T T S S J J (callW u v) (told q (saysW tried kept total))
+unfolding callUnder
+refused-W {h} {ceiling} T u v q tried kept total e n = record {
+  steps = λ s r. refused (callW u v) (ap (λ (z : ℕ). settle z s (doesW h ceiling s u v)) (sym (e ∙ refusalW-is (r .sound) s refl u v)) ∙ settle-no q s (doesW h ceiling s u v) (saysW tried kept total) n) r;
   keeps = λ s r. keeps-none T;
   unchanged = λ _. (refl, refl, refl);
 }
 
-module _ (h : Hypergraph) (T T′ : Tables) (S J J′ : Two) (limit u v : ℕ) {tried kept : ℕ} (lim : limit ≡ capacity h) (e : refusalW (T .blocks) (T .n) u v ≡ 0) (w : Walks T limit (u - 1) (v - 1) T′ tried kept) (c : Cleared J J′) where
-  ended : (s : State) → Runs h s T S J → Ended h (s .stack) (walk h (s .stack) (s .block) u v) T′ tried kept
+module _ (h : Hypergraph) (ceiling : ℕ → ℕ) (T T′ : Tables) (S J J′ : Two) (ceilings : List ℕ) (u v : ℕ) {tried kept : ℕ} (lim : CeilingIs ceilings h ceiling) (e : refusalW (T .blocks) (T .n) u v ≡ 0) (w : Walks T ceilings (u - 1) (v - 1) T′ tried kept) (c : Cleared J J′) where
+  ended : (s : State) → Runs h s T S J → Ended h (s .stack) (walk h ceiling (s .stack) (s .block) u v) T′ tried kept
   ended s r =
       let b = both-of (T .blocks) (T .n) u v e in
       let u-is : u - 1 + 1 ≡ u = omega (arith, b .u-from) in
       let v-is : v - 1 + 1 ≡ v = omega (arith, b .v-from) in
-      subst (λ (x : ℕ). Ended h (s .stack) (walk h (s .stack) (s .block) x v) T′ tried kept) u-is
-      (subst (λ (y : ℕ). Ended h (s .stack) (walk h (s .stack) (s .block) (u - 1 + 1) y) T′ tried kept) v-is (w .is h (s .stack) (s .block) lim (r .sound)))
+      subst (λ (x : ℕ). Ended h (s .stack) (walk h ceiling (s .stack) (s .block) x v) T′ tried kept) u-is
+      (subst (λ (y : ℕ). Ended h (s .stack) (walk h ceiling (s .stack) (s .block) (u - 1 + 1) y) T′ tried kept) v-is (w .is h ceiling (s .stack) (s .block) lim (r .sound)))
 
-  pub accepted-W : (x y : ℕ) → x ≡ tried → y ≡ kept → Called h T T′ S S J J′ (callW u v) (saysW x y (T′ .total))
-  unfolding call doesW refusal
+  pub accepted-W : (x y : ℕ) → x ≡ tried → y ≡ kept → Called h ceiling T T′ S S J J′ (callW u v) (saysW x y (T′ .total))
+  unfolding callUnder doesW refusal
   accepted-W x y qx qy = record {
     steps = λ s r.
         let d = ended s r in
-        stepped (callW u v) (doesW h s u v) (settle-yes (refusesW h s u v) s (doesW h s u v) (sym (refusalW-is (r .sound) s refl u v) ∙ e)) r (record {
+        stepped (callW u v) (doesW h ceiling s u v) (settle-yes (refusesW h s u v) s (doesW h ceiling s u v) (sym (refusalW-is (r .sound) s refl u v) ∙ e)) r (record {
           sound = d .sound;
           stack-is = r .stack-is;
           journal-is = emptied c;
           stack-whole = r .stack-whole;
           journal-whole = cleared-whole c (r .journal-whole);
-        }) (ap₂ (λ (a b : ℕ). saysW a b (T′ .total)) (qx ∙ d .tried-is) (qy ∙ d .kept-is) ∙ ap (saysW (walk h (s .stack) (s .block) u v .tried) (walk h (s .stack) (s .block) u v .kept)) (d .sound .total-is)) (omega (arith, c .len-is));
+        }) (ap₂ (λ (a b : ℕ). saysW a b (T′ .total)) (qx ∙ d .tried-is) (qy ∙ d .kept-is) ∙ ap (saysW (walk h ceiling (s .stack) (s .block) u v .tried) (walk h ceiling (s .stack) (s .block) u v .kept)) (d .sound .total-is)) (omega (arith, c .len-is));
     keeps = λ s r. w .keeps;
     unchanged = λ l. absurd (omega arith);
   }
 
 -- ---- P
-pub polish-asks : {T : List ℕ → List ℕ → Tables} {J : Two} {limit : ℕ} → ReadyW T J limit → PolishOk T limit
+pub polish-asks : {T : List ℕ → List ℕ → Tables} {J : Two} → ReadyM T J → PolishOk T
 polish-asks g = record {
   aboves = g .aboves;
   loaded = g .loaded;
@@ -134,15 +126,14 @@ polish-asks g = record {
   cs = g .ready .s .stack;
   block = g .ready .s .block;
   sound = g .ready .runs .sound;
-  limit-is = g .limit-is;
 }
 
-pub accepted-P : (h : Hypergraph) (T T′ : Tables) (S J J′ : Two) (limit : ℕ) {moves : ℕ} → limit ≡ capacity h → Polishes T limit T′ moves → Cleared J J′ → Called h T T′ S S J J′ callP (saysP moves (T′ .total))
-unfolding call doesP refusal
-accepted-P h T T′ S J J′ limit lim p c = record {
+pub accepted-P : (h : Hypergraph) (ceiling : ℕ → ℕ) (T T′ : Tables) (S J J′ : Two) (ceilings : List ℕ) {moves : ℕ} → CeilingIs ceilings h ceiling → Polishes T ceilings T′ moves → Cleared J J′ → Called h ceiling T T′ S S J J′ callP (saysP moves (T′ .total))
+unfolding callUnder doesP refusal
+accepted-P h ceiling T T′ S J J′ ceilings lim p c = record {
   steps = λ s r.
-      let d = p .is h (s .stack) (s .block) lim (r .sound) in
-      stepped callP (doesP h s) refl r (record {
+      let d = p .is h ceiling (s .stack) (s .block) lim (r .sound) in
+      stepped callP (doesP h ceiling s) refl r (record {
         sound = d .sound;
         stack-is = r .stack-is;
         journal-is = emptied c;

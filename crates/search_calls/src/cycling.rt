@@ -1,10 +1,12 @@
 // The call A: refused while a contraction stands, or done, with the numbers of the answer.
+ghost use Prim.Native.Nat.{ℕ};
 ghost use Rattle.model.specs.Catalogue.{Hypergraph};
 ghost use Rattle.model.specs.Machine.{callA, saysA};
 ghost use Rattle.model.specs.Lent.{two};
+ghost use Rattle.guarantees.specs.Caps.{CeilingIs};
 ghost use Rattle.operations.specs.Tables.{tables};
 ghost use Rattle.edit_calls.specs.Steps.{told};
-ghost use Rattle.edit_calls.specs.Called.{CapacityIs, Called};
+ghost use Rattle.edit_calls.specs.Called.{Called};
 ghost use Rattle.search_calls.specs.Cycling.{AverageIs, ReadyA};
 use cycle::whole::run;
 use operations::pairs::Journal;
@@ -37,17 +39,17 @@ pub fn call_all(
     netweights: &[u16],
     firsts: &[u16],
     loadedsizes: &[u16],
+    ceilings: &[u64; 16],
     n: usize,
     m: usize,
     k: usize,
     average: u64,
-    capacity: u64,
     total: u32,
     stack: Stack,
     journal: Journal,
 ) -> AllTurn
-    requires { ⌜ ReadyA (tables (now counts) (now visited) (now gains) (now presentpins) (now presentsizes) (now bits) (now blocks) (now weights) (now aboves) (now loads) (now netweights) (now firsts) (now loadedsizes) n m k total) (two (stack .into) (stack .gone) (stack .len)) (two (journal .vertices) (journal .blocks) (journal .len)) average capacity ⌝ }
-    ensures { λ r. ⌜ ((h : Hypergraph) → AverageIs average h → CapacityIs capacity h → Called h (tables (now (counts .entry)) (now (visited .entry)) (now (gains .entry)) (now (presentpins .entry)) (now (presentsizes .entry)) (now (bits .entry)) (now (blocks .entry)) (now (weights .entry)) (now (aboves .entry)) (now (loads .entry)) (now (netweights .entry)) (now (firsts .entry)) (now (loadedsizes .entry)) n m k total)
+    requires { ⌜ ReadyA (tables (now counts) (now visited) (now gains) (now presentpins) (now presentsizes) (now bits) (now blocks) (now weights) (now aboves) (now loads) (now netweights) (now firsts) (now loadedsizes) n m k total) (two (stack .into) (stack .gone) (stack .len)) (two (journal .vertices) (journal .blocks) (journal .len)) average ⌝ }
+    ensures { λ r. ⌜ ((h : Hypergraph) (ceiling : ℕ → ℕ) → AverageIs average h → CeilingIs (now (ceilings .entry)) h ceiling → Called h ceiling (tables (now (counts .entry)) (now (visited .entry)) (now (gains .entry)) (now (presentpins .entry)) (now (presentsizes .entry)) (now (bits .entry)) (now (blocks .entry)) (now (weights .entry)) (now (aboves .entry)) (now (loads .entry)) (now (netweights .entry)) (now (firsts .entry)) (now (loadedsizes .entry)) n m k total)
         (tables (now (counts .exit)) (now (visited .exit)) (now (gains .exit)) (now (presentpins .exit)) (now (presentsizes .exit)) (now (bits .exit)) (now (blocks .exit)) (now (weights .exit)) (now (aboves .exit)) (now (loads .exit)) (now (netweights .exit)) (now (firsts .exit)) (now (loadedsizes .exit)) n m k (r .total)) (two (stack .into) (stack .gone) (stack .len)) (two (r .stack .into) (r .stack .gone) (r .stack .len)) (two (journal .vertices) (journal .blocks) (journal .len)) (two (r .journal .vertices) (r .journal .blocks) (r .journal .len)) callA (told (r .no) (saysA (r .joins) (r .tried) (r .kept) (r .moves) (r .total)))) ⌝ }
 {
     let at = stack.len;
@@ -78,11 +80,11 @@ pub fn call_all(
         netweights,
         firsts,
         loadedsizes,
+        ceilings,
         n,
         m,
         k,
         average,
-        capacity,
         total,
     );
     AllTurn {

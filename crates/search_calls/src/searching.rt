@@ -4,10 +4,10 @@ ghost use mathlib.Core.List.{List};
 ghost use Rattle.model.specs.Catalogue.{Hypergraph};
 ghost use Rattle.model.specs.Machine.{callW, callP, saysW, saysP};
 ghost use Rattle.model.specs.Lent.{Two, two};
+ghost use Rattle.guarantees.specs.Caps.{CeilingIs};
 ghost use Rattle.search_moves.specs.Lent.{lent};
 ghost use Rattle.edit_calls.specs.Steps.{told};
-ghost use Rattle.edit_calls.specs.Called.{CapacityIs, Called};
-ghost use Rattle.search_calls.specs.Searching.{ReadyW};
+ghost use Rattle.edit_calls.specs.Called.{ReadyM, Called};
 use edit_calls::refusals::refuses_walk;
 use edit_calls::widths::short;
 use edit_calls::widths::wide;
@@ -44,17 +44,17 @@ pub fn call_walk(
     weights: &[u32],
     netweights: &[u16],
     firsts: &[u16],
+    ceilings: &[u64; 16],
     n: usize,
     m: usize,
     k: usize,
-    capacity: u64,
     total: u32,
     journal: Journal,
     u: usize,
     v: usize,
 ) -> WalkTurn
-    requires { ⌜ ReadyW (lent (now counts) (now visited) (now gains) (now blocks) (now loads) (now presentpins) (now presentsizes) (now bits) (now weights) (now netweights) (now firsts) n m k total) (two (journal .vertices) (journal .blocks) (journal .len)) capacity ⌝ }
-    ensures { λ r. ⌜ ((aboves loadedsizes : List ℕ) (S : Two) (h : Hypergraph) → CapacityIs capacity h → Called h (lent (now (counts .entry)) (now (visited .entry)) (now (gains .entry)) (now (blocks .entry)) (now (loads .entry)) (now (presentpins .entry)) (now (presentsizes .entry)) (now (bits .entry)) (now (weights .entry)) (now (netweights .entry)) (now (firsts .entry)) n m k total aboves loadedsizes)
+    requires { ⌜ ReadyM (lent (now counts) (now visited) (now gains) (now blocks) (now loads) (now presentpins) (now presentsizes) (now bits) (now weights) (now netweights) (now firsts) n m k total) (two (journal .vertices) (journal .blocks) (journal .len)) ⌝ }
+    ensures { λ r. ⌜ ((aboves loadedsizes : List ℕ) (S : Two) (h : Hypergraph) (ceiling : ℕ → ℕ) → CeilingIs (now (ceilings .entry)) h ceiling → Called h ceiling (lent (now (counts .entry)) (now (visited .entry)) (now (gains .entry)) (now (blocks .entry)) (now (loads .entry)) (now (presentpins .entry)) (now (presentsizes .entry)) (now (bits .entry)) (now (weights .entry)) (now (netweights .entry)) (now (firsts .entry)) n m k total aboves loadedsizes)
         (lent (now (counts .exit)) (now (visited .exit)) (now (gains .exit)) (now (blocks .exit)) (now (loads .exit)) (now (presentpins .exit)) (now (presentsizes .exit)) (now (bits .exit)) (now (weights .exit)) (now (netweights .exit)) (now (firsts .exit)) n m k (r .total) aboves loadedsizes) S S (two (journal .vertices) (journal .blocks) (journal .len)) (two (r .journal .vertices) (r .journal .blocks) (r .journal .len)) (callW u v) (told (r .no) (saysW (r .tried) (r .kept) (r .total)))) ⌝ }
 {
     let no = refuses_walk(blocks, n, u, v);
@@ -80,10 +80,10 @@ pub fn call_walk(
         weights,
         netweights,
         firsts,
+        ceilings,
         n,
         m,
         k,
-        capacity,
         total,
         u - 1,
         v - 1,
@@ -110,15 +110,15 @@ pub fn call_polish(
     weights: &[u32],
     netweights: &[u16],
     firsts: &[u16],
+    ceilings: &[u64; 16],
     n: usize,
     m: usize,
     k: usize,
-    capacity: u64,
     total: u32,
     journal: Journal,
 ) -> PolishTurn
-    requires { ⌜ ReadyW (lent (now counts) (now visited) (now gains) (now blocks) (now loads) (now presentpins) (now presentsizes) (now bits) (now weights) (now netweights) (now firsts) n m k total) (two (journal .vertices) (journal .blocks) (journal .len)) capacity ⌝ }
-    ensures { λ r. ⌜ ((aboves loadedsizes : List ℕ) (S : Two) (h : Hypergraph) → CapacityIs capacity h → Called h (lent (now (counts .entry)) (now (visited .entry)) (now (gains .entry)) (now (blocks .entry)) (now (loads .entry)) (now (presentpins .entry)) (now (presentsizes .entry)) (now (bits .entry)) (now (weights .entry)) (now (netweights .entry)) (now (firsts .entry)) n m k total aboves loadedsizes)
+    requires { ⌜ ReadyM (lent (now counts) (now visited) (now gains) (now blocks) (now loads) (now presentpins) (now presentsizes) (now bits) (now weights) (now netweights) (now firsts) n m k total) (two (journal .vertices) (journal .blocks) (journal .len)) ⌝ }
+    ensures { λ r. ⌜ ((aboves loadedsizes : List ℕ) (S : Two) (h : Hypergraph) (ceiling : ℕ → ℕ) → CeilingIs (now (ceilings .entry)) h ceiling → Called h ceiling (lent (now (counts .entry)) (now (visited .entry)) (now (gains .entry)) (now (blocks .entry)) (now (loads .entry)) (now (presentpins .entry)) (now (presentsizes .entry)) (now (bits .entry)) (now (weights .entry)) (now (netweights .entry)) (now (firsts .entry)) n m k total aboves loadedsizes)
         (lent (now (counts .exit)) (now (visited .exit)) (now (gains .exit)) (now (blocks .exit)) (now (loads .exit)) (now (presentpins .exit)) (now (presentsizes .exit)) (now (bits .exit)) (now (weights .exit)) (now (netweights .exit)) (now (firsts .exit)) n m k (r .total) aboves loadedsizes) S S (two (journal .vertices) (journal .blocks) (journal .len)) (two (r .journal .vertices) (r .journal .blocks) (r .journal .len)) callP (saysP (r .moves) (r .total))) ⌝ }
 {
     let cleared = journal.clear();
@@ -134,10 +134,10 @@ pub fn call_polish(
         weights,
         netweights,
         firsts,
+        ceilings,
         n,
         m,
         k,
-        capacity,
         total,
     );
     PolishTurn {

@@ -11,7 +11,7 @@ use lib.Dec.{eqb}
 use lib.ListN.{length, getD}
 use Rattle.laws.specs.Choice.{one, one-eqb, and-left, and-right}
 use Rattle.laws.specs.Fold.{any, any-at, any-not}
-use Rattle.model.specs.Catalogue.{Hypergraph, vertices, capacity}
+use Rattle.model.specs.Catalogue.{Hypergraph, vertices}
 use Rattle.model.specs.Measure.{Contraction, above, pin, weight, blockWeight, gain, adjacent}
 use Rattle.model.specs.Memory.{noNet}
 use Rattle.pins.specs.Stack.{present-off, present-pin, loadedPin, row-pin}
@@ -19,6 +19,7 @@ use Rattle.incidence.specs.On.{on}
 use Rattle.connectivity.specs.Listed.{has}
 use Rattle.levels.specs.Running.{netAt}
 use Rattle.levels.specs.Reading.{has-pin, reads}
+use Rattle.guarantees.specs.Caps.{CeilingIs}
 use Rattle.operations.specs.Tables.{Tables, Sound}
 use Rattle.operations.specs.Move.{back, Open, own-block, own-weight, in-range}
 use Rattle.best_move.specs.Open.{SearchOk, mayGo, roomFor, isCandidate, openIn}
@@ -83,11 +84,11 @@ module _ {h : Hypergraph} {cs : List Contraction} {block : ℕ → ℕ} {T : Tab
     in-candidates = l;
   }
 
-  pub holds : (limit : ℕ) → limit ≡ capacity h → Holds h cs block (T .gains) (T .blocks) (T .weights) (T .loads) (T .n) (T .k) limit
-  holds limit q = record {
+  pub holds : (ceiling : ℕ → ℕ) (ceilings : List ℕ) → CeilingIs ceilings h ceiling → Holds h ceiling cs block (T .gains) (T .blocks) (T .weights) (T .loads) ceilings (T .n) (T .k)
+  holds ceiling ceilings q = record {
     n-is = s .follows .says .all-vertices;
     k-is = s .follows .says .all-blocks;
-    limit-is = q;
+    ceiling-is = λ b l u. q b l (omega (arith, s .follows .says .all-blocks));
     block-is = λ v l u o. own-block s (v - 1) (omega arith) ∙ ap block (back v l);
     weight-is = λ v l u o. own-weight s (v - 1) (omega arith) (at-one v l (eqb-true _ _ o)) ∙ ap (weight h cs) (back v l);
     load-is = λ b l u. s .bears (b - 1) (omega arith) ∙ ap (blockWeight h cs block) (back b l);
@@ -100,15 +101,15 @@ module _ {h : Hypergraph} {cs : List Contraction} {block : ℕ → ℕ} {T : Tab
       at-one v l q = ap (above cs) (back v l) ∙ q
 
   -- an open pair of candidates on the board can be moved
-  pub pair-open : (marks : List ℕ) (limit v b : ℕ) → ((x : ℕ) → x < T .n → candidateBit marks x ≡ true → above cs (x + 1) ≡ 0) → (1 ≤ v) × (v ≤ T .n) × (1 ≤ b) × (b ≤ T .k)
-      → openIn marks (T .blocks) (T .weights) (T .loads) limit v b ≡ true → Open (T .blocks) (T .n) (T .k) (v - 1) b
-  pair-open marks limit v b bd i o =
+  pub pair-open : (marks ceilings : List ℕ) (v b : ℕ) → ((x : ℕ) → x < T .n → candidateBit marks x ≡ true → above cs (x + 1) ≡ 0) → (1 ≤ v) × (v ≤ T .n) × (1 ≤ b) × (b ≤ T .k)
+      → openIn marks (T .blocks) (T .weights) (T .loads) ceilings v b ≡ true → Open (T .blocks) (T .n) (T .k) (v - 1) b
+  pair-open marks ceilings v b bd i o =
       let u-in : v - 1 < T .n = omega (arith, i .0, i .1) in
-      let c = bd (v - 1) u-in (and-left (isCandidate marks v) (mayGo (getD (T .loads) (b - 1) 0) (getD (T .blocks) (v - 1) 0) (getD (T .weights) (v - 1) 0) limit b) o) in
-      let m = and-right (isCandidate marks v) (mayGo (getD (T .loads) (b - 1) 0) (getD (T .blocks) (v - 1) 0) (getD (T .weights) (v - 1) 0) limit b) o in
+      let c = bd (v - 1) u-in (and-left (isCandidate marks v) (mayGo (getD (T .loads) (b - 1) 0) (getD (T .blocks) (v - 1) 0) (getD (T .weights) (v - 1) 0) (getD ceilings (b - 1) 0) b) o) in
+      let m = and-right (isCandidate marks v) (mayGo (getD (T .loads) (b - 1) 0) (getD (T .blocks) (v - 1) 0) (getD (T .weights) (v - 1) 0) (getD ceilings (b - 1) 0) b) o in
       record {
         u-in = u-in;
         on = omega (arith, own-block s (v - 1) u-in, in-range s (v - 1) u-in c .0);
         t-in = (i .2, i .3);
-        away = eqb-false _ _ (not-true _ (and-left (not (eqb (getD (T .blocks) (v - 1) 0) b)) (roomFor (getD (T .loads) (b - 1) 0) (getD (T .weights) (v - 1) 0) limit) m));
+        away = eqb-false _ _ (not-true _ (and-left (not (eqb (getD (T .blocks) (v - 1) 0) b)) (roomFor (getD (T .loads) (b - 1) 0) (getD (T .weights) (v - 1) 0) (getD ceilings (b - 1) 0)) m));
       }

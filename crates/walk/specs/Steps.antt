@@ -8,10 +8,11 @@ use lib.Dec.{leb}
 use lib.IntN.{ℤ}
 use lib.ListN.{length, getD}
 use Rattle.laws.specs.Place.{place}
-use Rattle.model.specs.Catalogue.{Hypergraph, capacity}
-use Rattle.model.specs.Measure.{Contraction, onBoard, metric}
-use Rattle.model.specs.Search.{Best, none, Walk, bestPair, walkMove, walkOn, walk, walked, patience}
+use Rattle.model.specs.Catalogue.{Hypergraph}
+use Rattle.model.specs.Measure.{Contraction, metric}
+use Rattle.model.specs.Search.{Best, none, Walk, bestPair, walkMove, walkOn, walk, walked, patience, mayMove}
 use Rattle.model.specs.Lent.{journalOf}
+use Rattle.guarantees.specs.Caps.{CeilingIs}
 use Rattle.guarantees.specs.Walks.{moved}
 use Rattle.operations.specs.Tables.{Tables, tables, Sound, Keeps}
 use Rattle.operations.specs.Move.{Open}
@@ -31,10 +32,10 @@ pub record Locals : Type 0 where
 abbrev pub locals : List ℕ → List ℕ → List ℕ → ℕ → ℕ → ℕ → Locals
 locals marks vertices blocks tried kept low = record { marks = marks; vertices = vertices; blocks = blocks; tried = tried; kept = kept; low = low }
 
--- tables and variables are those of the walk w. A candidate that has moved, or is off the board, is not marked
+-- tables and variables are those of the walk w. A candidate that has moved, or may not move, is not marked
 pub record At (h : Hypergraph) (cs : List Contraction) (w : Walk) (T : Tables) (L : Locals) : Type 0 where
   pub sound : Sound h cs (w .block) T
-  pub chosen : (x : ℕ) → x < T .n → candidateBit (L .marks) x ≡ (w .candidate (x + 1) && not (moved h cs w (x + 1)) && onBoard cs (x + 1))
+  pub chosen : (x : ℕ) → x < T .n → candidateBit (L .marks) x ≡ (w .candidate (x + 1) && not (moved h cs w (x + 1)) && mayMove h cs (x + 1))
   pub spent : (x : ℕ) → x < T .n → movedBit (L .marks) x ≡ moved h cs w (x + 1)
   pub covered : Covered (L .marks) (T .pins) (T .firsts) (T .sizes)
   pub journal-is : w .journal ≡ journalOf (L .vertices) (L .blocks) (L .tried)
@@ -48,8 +49,8 @@ pub record At (h : Hypergraph) (cs : List Contraction) (w : Walk) (T : Tables) (
   pub blocks-fit : length (L .blocks) ≡ 1024
 
 -- the next move: none once so many have been made since the kept prefix, else the best open pair
-abbrev pub nextOf : (gains : List ℤ) (blocks weights loads marks : List ℕ) (n k limit tried kept : ℕ) → Best
-nextOf gains blocks weights loads marks n k limit tried kept = cond (leb (kept + patience) tried) none (bestPair n k (openIn marks blocks weights loads limit) (gainIn gains))
+abbrev pub nextOf : (gains : List ℤ) (blocks weights loads ceilings marks : List ℕ) (n k tried kept : ℕ) → Best
+nextOf gains blocks weights loads ceilings marks n k tried kept = cond (leb (kept + patience) tried) none (bestPair n k (openIn marks blocks weights loads ceilings) (gainIn gains))
 
 -- ---- one move
 
@@ -76,26 +77,25 @@ pub record Took (T : Tables) (L : Locals) (turn v b : ℕ) (T′ : Tables) (L′
 -- ---- one turn
 
 -- what `advance` asks: a walk on its way, with at least one turn left
-pub record TurnOk (T : List ℕ → List ℕ → Tables) (L : Locals) (limit turn : ℕ) : Type 0 where
+pub record TurnOk (T : List ℕ → List ℕ → Tables) (L : Locals) (turn : ℕ) : Type 0 where
   pub aboves : List ℕ
   pub loaded : List ℕ
   pub h : Hypergraph
   pub cs : List Contraction
   pub walk : Walk
   pub at : At h cs walk (T aboves loaded) L
-  pub limit-is : limit ≡ capacity h
   pub turn-to : turn < T aboves loaded .n
   pub tried-to : L .tried ≤ turn
 
 -- `end` is what becomes, in `search_calls` turns more, of the walk that tables and variables now are
-pub record Onward (h : Hypergraph) (cs : List Contraction) (end : Walk) (turns : ℕ) (T : Tables) (L : Locals) : Type 0 where
+pub record Onward (h : Hypergraph) (ceiling : ℕ → ℕ) (cs : List Contraction) (end : Walk) (turns : ℕ) (T : Tables) (L : Locals) : Type 0 where
   pub walk : Walk
   pub at : At h cs walk T L
-  pub same : end ≡ walkOn h cs turns walk
+  pub same : end ≡ walkOn h ceiling cs turns walk
 
 -- what a turn does
-pub record Turned (T : Tables) (L : Locals) (limit turn : ℕ) (T′ : Tables) (L′ : Locals) (turn′ : ℕ) : Type 0 where
-  pub is : (h : Hypergraph) (cs : List Contraction) (w : Walk) → limit ≡ capacity h → At h cs w T L → Onward h cs (walkOn h cs (T .n - turn) w) (T .n - turn′) T′ L′
+pub record Turned (T : Tables) (L : Locals) (ceilings : List ℕ) (turn : ℕ) (T′ : Tables) (L′ : Locals) (turn′ : ℕ) : Type 0 where
+  pub is : (h : Hypergraph) (ceiling : ℕ → ℕ) (cs : List Contraction) (w : Walk) → CeilingIs ceilings h ceiling → At h cs w T L → Onward h ceiling cs (walkOn h ceiling cs (T .n - turn) w) (T .n - turn′) T′ L′
   pub on : turn < turn′
   pub to : turn′ ≤ T .n
   pub tried-to : L′ .tried ≤ turn′
@@ -103,23 +103,22 @@ pub record Turned (T : Tables) (L : Locals) (limit turn : ℕ) (T′ : Tables) (
 
 -- ---- the whole walk
 
--- what `walk` asks: sound tables, the model's capacity, and two vertices on the board, counted from 0
-pub record WalkOk (T : List ℕ → List ℕ → Tables) (limit u v : ℕ) : Type 0 where
+-- what `walk` asks: sound tables, and two vertices on the board, counted from 0
+pub record WalkOk (T : List ℕ → List ℕ → Tables) (u v : ℕ) : Type 0 where
   pub aboves : List ℕ
   pub loaded : List ℕ
   pub h : Hypergraph
   pub cs : List Contraction
   pub block : ℕ → ℕ
   pub sound : Sound h cs block (T aboves loaded)
-  pub limit-is : limit ≡ capacity h
   pub u-in : u < T aboves loaded .n
   pub u-on : 1 ≤ getD (T aboves loaded .blocks) u 0
   pub v-in : v < T aboves loaded .n
   pub v-on : 1 ≤ getD (T aboves loaded .blocks) v 0
 
 -- the walk after some turns
-pub record Going (T : Tables) (limit u v turn : ℕ) (T′ : Tables) (L : Locals) : Type 0 where
-  pub is : (h : Hypergraph) (cs : List Contraction) (block : ℕ → ℕ) → limit ≡ capacity h → Sound h cs block T → Onward h cs (walk h cs block (u + 1) (v + 1)) (T .n - turn) T′ L
+pub record Going (T : Tables) (ceilings : List ℕ) (u v turn : ℕ) (T′ : Tables) (L : Locals) : Type 0 where
+  pub is : (h : Hypergraph) (ceiling : ℕ → ℕ) (cs : List Contraction) (block : ℕ → ℕ) → CeilingIs ceilings h ceiling → Sound h cs block T → Onward h ceiling cs (walk h ceiling cs block (u + 1) (v + 1)) (T .n - turn) T′ L
   pub keeps : Keeps T T′
 
 -- tables and numbers at the end of W: the partition, tried and kept are those of model's walk
@@ -129,6 +128,6 @@ pub record Ended (h : Hypergraph) (cs : List Contraction) (w : Walk) (T : Tables
   pub kept-is : kept ≡ w .kept
 
 -- what `walk` does
-pub record Walks (T : Tables) (limit u v : ℕ) (T′ : Tables) (tried kept : ℕ) : Type 0 where
-  pub is : (h : Hypergraph) (cs : List Contraction) (block : ℕ → ℕ) → limit ≡ capacity h → Sound h cs block T → Ended h cs (walk h cs block (u + 1) (v + 1)) T′ tried kept
+pub record Walks (T : Tables) (ceilings : List ℕ) (u v : ℕ) (T′ : Tables) (tried kept : ℕ) : Type 0 where
+  pub is : (h : Hypergraph) (ceiling : ℕ → ℕ) (cs : List Contraction) (block : ℕ → ℕ) → CeilingIs ceilings h ceiling → Sound h cs block T → Ended h cs (walk h ceiling cs block (u + 1) (v + 1)) T′ tried kept
   pub keeps : Keeps T T′

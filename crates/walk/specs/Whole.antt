@@ -57,7 +57,7 @@ module _ {l l′ : List ℕ} (u v : ℕ) (a : Marked (replicate 48 0) l (λ y. e
   first-moved : (x : ℕ) → x < 1024 → movedBit l′ x ≡ false
   first-moved x k = marked-more a b .moved x k ∙ blank-bit 1 x
 
-  module _ (T : Tables) (limit : ℕ) (u-in : u < T .n) (u-on : 1 ≤ getD (T .blocks) u 0) (v-in : v < T .n) (v-on : 1 ≤ getD (T .blocks) v 0) where
+  module _ (T : Tables) (ceilings : List ℕ) (u-in : u < T .n) (u-on : 1 ≤ getD (T .blocks) u 0) (v-in : v < T .n) (v-on : 1 ≤ getD (T .blocks) v 0) where
     start-at : {h : Hypergraph} {cs : List Contraction} {block : ℕ → ℕ} {vs bs : List ℕ} {tried : ℕ} → Sound h cs block T → length vs ≡ 1024 → length bs ≡ 1024 → tried ≡ 0
         → At h cs (record { block = block; journal = []; candidate = λ x. eqb x (u + 1) || eqb x (v + 1); tried = 0; kept = 0; lowest = metric h cs block }) T (locals l′ vs bs tried 0 (T .total))
     unfolding any
@@ -80,43 +80,43 @@ module _ {l l′ : List ℕ} (u v : ℕ) (a : Marked (replicate 48 0) l (λ y. e
       blocks-fit = lb;
     }
 
-    pub going-none : {vs bs : List ℕ} {tried : ℕ} → length vs ≡ 1024 → length bs ≡ 1024 → tried ≡ 0 → Going T limit u v 0 T (locals l′ vs bs tried 0 (T .total))
+    pub going-none : {vs bs : List ℕ} {tried : ℕ} → length vs ≡ 1024 → length bs ≡ 1024 → tried ≡ 0 → Going T ceilings u v 0 T (locals l′ vs bs tried 0 (T .total))
     unfolding walk
     going-none lv lb q = record {
-      is = λ h cs block e s. record {
+      is = λ h ceiling cs block e s. record {
         walk = record { block = block; journal = []; candidate = λ x. eqb x (u + 1) || eqb x (v + 1); tried = 0; kept = 0; lowest = metric h cs block };
         at = start-at s lv lb q;
-        same = ap (λ (i : ℕ). walkOn h cs i (record { block = block; journal = []; candidate = λ x. eqb x (u + 1) || eqb x (v + 1); tried = 0; kept = 0; lowest = metric h cs block })) (let z : vertices h ≡ T .n - 0 = omega (arith, s .follows .says .all-vertices) in z);
+        same = ap (λ (i : ℕ). walkOn h ceiling cs i (record { block = block; journal = []; candidate = λ x. eqb x (u + 1) || eqb x (v + 1); tried = 0; kept = 0; lowest = metric h cs block })) (let z : vertices h ≡ T .n - 0 = omega (arith, s .follows .says .all-vertices) in z);
       };
       keeps = keeps-none T;
     }
 
 -- ---- its turns
-pub turn-asks : {T T′ : List ℕ → List ℕ → Tables} {L : Locals} {limit u v turn : ℕ} (ok : WalkOk T limit u v) → ((aboves loaded : List ℕ) → Going (T aboves loaded) limit u v turn (T′ aboves loaded) L)
-    → turn < T′ (ok .aboves) (ok .loaded) .n → L .tried ≤ turn → TurnOk T′ L limit turn
-turn-asks ok f on to =
-    let o = f (ok .aboves) (ok .loaded) .is (ok .h) (ok .cs) (ok .block) (ok .limit-is) (ok .sound) in
-    record { aboves = ok .aboves; loaded = ok .loaded; h = ok .h; cs = ok .cs; walk = o .walk; at = o .at; limit-is = ok .limit-is; turn-to = on; tried-to = to }
+pub turn-asks : {T T′ : List ℕ → List ℕ → Tables} {L : Locals} {ceilings : List ℕ} {u v turn : ℕ} (ok : WalkOk T u v) → ((aboves loaded : List ℕ) → Going (T aboves loaded) ceilings u v turn (T′ aboves loaded) L)
+    → turn < T′ (ok .aboves) (ok .loaded) .n → L .tried ≤ turn → TurnOk T′ L turn
+turn-asks {ceilings = ceilings} ok f on to =
+    let o = f (ok .aboves) (ok .loaded) .is (ok .h) (λ b. getD ceilings (b - 1) 0) (ok .cs) (ok .block) (λ b _ _. refl) (ok .sound) in
+    record { aboves = ok .aboves; loaded = ok .loaded; h = ok .h; cs = ok .cs; walk = o .walk; at = o .at; turn-to = on; tried-to = to }
 
-pub going-more : {T T′ T″ : Tables} {L L′ : Locals} {limit u v turn turn′ : ℕ} → T′ .n ≡ T .n → T′ .m ≡ T .m → T′ .k ≡ T .k → T′ .firsts ≡ T .firsts → T′ .loaded ≡ T .loaded
-    → Going T limit u v turn T′ L → Turned T′ L limit turn T″ L′ turn′ → Going T limit u v turn′ T″ L′
+pub going-more : {T T′ T″ : Tables} {L L′ : Locals} {ceilings : List ℕ} {u v turn turn′ : ℕ} → T′ .n ≡ T .n → T′ .m ≡ T .m → T′ .k ≡ T .k → T′ .firsts ≡ T .firsts → T′ .loaded ≡ T .loaded
+    → Going T ceilings u v turn T′ L → Turned T′ L ceilings turn T″ L′ turn′ → Going T ceilings u v turn′ T″ L′
 going-more {T} {T′} {turn = turn} {turn′ = turn′} qn qm qk qf ql f k = record {
-  is = λ h cs block q s.
-      let o = f .is h cs block q s in
-      let t = k .is h cs (o .walk) q (o .at) in
+  is = λ h ceiling cs block q s.
+      let o = f .is h ceiling cs block q s in
+      let t = k .is h ceiling cs (o .walk) q (o .at) in
       record {
         walk = t .walk;
         at = t .at;
-        same = o .same ∙ ap (λ (i : ℕ). walkOn h cs (i - turn) (o .walk)) (sym qn) ∙ t .same ∙ ap (λ (i : ℕ). walkOn h cs (i - turn′) (t .walk)) qn;
+        same = o .same ∙ ap (λ (i : ℕ). walkOn h ceiling cs (i - turn) (o .walk)) (sym qn) ∙ t .same ∙ ap (λ (i : ℕ). walkOn h ceiling cs (i - turn′) (t .walk)) qn;
       };
   keeps = keeps-more qn qm qk qf ql (f .keeps) (k .keeps);
 }
 
 -- ---- its end
-pub end-asks : {T T′ : List ℕ → List ℕ → Tables} {L : Locals} {limit u v turn : ℕ} (ok : WalkOk T limit u v) → ((aboves loaded : List ℕ) → Going (T aboves loaded) limit u v turn (T′ aboves loaded) L)
+pub end-asks : {T T′ : List ℕ → List ℕ → Tables} {L : Locals} {ceilings : List ℕ} {u v turn : ℕ} (ok : WalkOk T u v) → ((aboves loaded : List ℕ) → Going (T aboves loaded) ceilings u v turn (T′ aboves loaded) L)
     → turn ≤ T (ok .aboves) (ok .loaded) .n → L .tried ≤ turn → RewindOk T′ (L .vertices) (L .blocks) (L .tried) (L .kept)
-end-asks ok f on to =
-    let o = f (ok .aboves) (ok .loaded) .is (ok .h) (ok .cs) (ok .block) (ok .limit-is) (ok .sound) in
+end-asks {ceilings = ceilings} ok f on to =
+    let o = f (ok .aboves) (ok .loaded) .is (ok .h) (λ b. getD ceilings (b - 1) 0) (ok .cs) (ok .block) (λ b _ _. refl) (ok .sound) in
     record {
       aboves = ok .aboves;
       loaded = ok .loaded;
@@ -141,12 +141,12 @@ ended {h} {cs} {w} {T′ = T′} {L = L} A r = record {
   kept-is = A .kept-is;
 }
 
-pub walks-all : {T T′ T″ : Tables} {L : Locals} {limit u v turn : ℕ} → T′ .n ≡ T .n → T′ .m ≡ T .m → T′ .k ≡ T .k → T′ .firsts ≡ T .firsts → T′ .loaded ≡ T .loaded
-    → Going T limit u v turn T′ L → T .n ≤ turn → Rewinds T′ (L .vertices) (L .blocks) (L .tried) (L .kept) T″ → Walks T limit u v T″ (L .tried) (L .kept)
+pub walks-all : {T T′ T″ : Tables} {L : Locals} {ceilings : List ℕ} {u v turn : ℕ} → T′ .n ≡ T .n → T′ .m ≡ T .m → T′ .k ≡ T .k → T′ .firsts ≡ T .firsts → T′ .loaded ≡ T .loaded
+    → Going T ceilings u v turn T′ L → T .n ≤ turn → Rewinds T′ (L .vertices) (L .blocks) (L .tried) (L .kept) T″ → Walks T ceilings u v T″ (L .tried) (L .kept)
 walks-all {T} {T″ = T″} {L = L} {turn = turn} qn qm qk qf ql f l r = record {
-  is = λ h cs block q s.
-      let o = f .is h cs block q s in
+  is = λ h ceiling cs block q s.
+      let o = f .is h ceiling cs block q s in
       let e : T .n - turn ≡ 0 = omega arith in
-      subst (λ (w : Walk). Ended h cs w T″ (L .tried) (L .kept)) (sym (o .same ∙ ap (λ (i : ℕ). walkOn h cs i (o .walk)) e ∙ on-none h cs (o .walk))) (ended (o .at) r);
+      subst (λ (w : Walk). Ended h cs w T″ (L .tried) (L .kept)) (sym (o .same ∙ ap (λ (i : ℕ). walkOn h ceiling cs i (o .walk)) e ∙ on-none h ceiling cs (o .walk))) (ended (o .at) r);
   keeps = keeps-more qn qm qk qf ql (f .keeps) (r .keeps);
 }

@@ -64,22 +64,22 @@ fn next_move(
     blocks: &[u16],
     weights: &[u32],
     loads: &[u64; 16],
+    ceilings: &[u64; 16],
     marks: &[u64; 48],
     peaks: &[i32; 16],
     n: usize,
     k: usize,
-    capacity: u64,
     tried: usize,
     kept: usize,
 ) -> Pick
     requires { ⌜ (kept ≤ tried) × (tried ≤ 1024) × SearchOk (length (now gains)) (length (now blocks)) (length (now weights)) (length (now marks)) n k ⌝ }
     requires { ⌜ Peaked (now gains) (now peaks) n k ⌝ }
-    ensures { λ r. ⌜ Chosen (gainIn (now (gains .entry))) n k r (nextOf (now (gains .entry)) (now (blocks .entry)) (now (weights .entry)) (now (loads .entry)) (now (marks .entry)) n k capacity tried kept) ⌝ }
+    ensures { λ r. ⌜ Chosen (gainIn (now (gains .entry))) n k r (nextOf (now (gains .entry)) (now (blocks .entry)) (now (weights .entry)) (now (loads .entry)) (now (ceilings .entry)) (now (marks .entry)) n k tried kept) ⌝ }
 {
     if kept + 25 <= tried {
         return Pick::Nothing;
     }
-    best_open(gains, blocks, weights, loads, marks, peaks, n, k, capacity)
+    best_open(gains, blocks, weights, loads, ceilings, marks, peaks, n, k)
 }
 
 // One more move, put on the journal: `movers[i]` left the block `origins[i]`. The journal is lent, since to copy it with each move takes time.
@@ -165,15 +165,15 @@ fn advance(
     weights: &[u32],
     netweights: &[u16],
     firsts: &[u16],
+    ceilings: &[u64; 16],
     n: usize,
     m: usize,
     k: usize,
-    capacity: u64,
     s: Steps,
 ) -> Steps
-    requires { ⌜ TurnOk (lent (now counts) (now visited) (now gains) (now blocks) (now loads) (now presentpins) (now presentsizes) (now bits) (now weights) (now netweights) (now firsts) n m k (s .total)) (locals (now marks) (now movers) (now origins) (s .tried) (s .kept) (s .low)) capacity (s .turn) ⌝ }
+    requires { ⌜ TurnOk (lent (now counts) (now visited) (now gains) (now blocks) (now loads) (now presentpins) (now presentsizes) (now bits) (now weights) (now netweights) (now firsts) n m k (s .total)) (locals (now marks) (now movers) (now origins) (s .tried) (s .kept) (s .low)) (s .turn) ⌝ }
     requires { ⌜ Peaked (now gains) (now peaks) n k ⌝ }
-    ensures { λ r. ⌜ ((aboves loadedsizes : List ℕ) → Turned (lent (now (counts .entry)) (now (visited .entry)) (now (gains .entry)) (now (blocks .entry)) (now (loads .entry)) (now (presentpins .entry)) (now (presentsizes .entry)) (now (bits .entry)) (now (weights .entry)) (now (netweights .entry)) (now (firsts .entry)) n m k (s .total) aboves loadedsizes) (locals (now (marks .entry)) (now (movers .entry)) (now (origins .entry)) (s .tried) (s .kept) (s .low)) capacity (s .turn)
+    ensures { λ r. ⌜ ((aboves loadedsizes : List ℕ) → Turned (lent (now (counts .entry)) (now (visited .entry)) (now (gains .entry)) (now (blocks .entry)) (now (loads .entry)) (now (presentpins .entry)) (now (presentsizes .entry)) (now (bits .entry)) (now (weights .entry)) (now (netweights .entry)) (now (firsts .entry)) n m k (s .total) aboves loadedsizes) (locals (now (marks .entry)) (now (movers .entry)) (now (origins .entry)) (s .tried) (s .kept) (s .low)) (now (ceilings .entry)) (s .turn)
         (lent (now (counts .exit)) (now (visited .exit)) (now (gains .exit)) (now (blocks .exit)) (now (loads .exit)) (now (presentpins .exit)) (now (presentsizes .exit)) (now (bits .exit)) (now (weights .exit)) (now (netweights .exit)) (now (firsts .exit)) n m k (r .total) aboves loadedsizes) (locals (now (marks .exit)) (now (movers .exit)) (now (origins .exit)) (r .tried) (r .kept) (r .low)) (r .turn)) ⌝ }
     ensures { λ _. ⌜ Peaked (now (gains .exit)) (now (peaks .exit)) n k ⌝ }
 {
@@ -182,11 +182,11 @@ fn advance(
         blocks,
         weights,
         loads,
+        ceilings,
         marks,
         peaks,
         n,
         k,
-        capacity,
         s.tried,
         s.kept,
     ) {
@@ -290,16 +290,16 @@ pub fn walk(
     weights: &[u32],
     netweights: &[u16],
     firsts: &[u16],
+    ceilings: &[u64; 16],
     n: usize,
     m: usize,
     k: usize,
-    capacity: u64,
     total: u32,
     u: usize,
     v: usize,
 ) -> Walked
-    requires { ⌜ WalkOk (lent (now counts) (now visited) (now gains) (now blocks) (now loads) (now presentpins) (now presentsizes) (now bits) (now weights) (now netweights) (now firsts) n m k total) capacity u v ⌝ }
-    ensures { λ r. ⌜ ((aboves loadedsizes : List ℕ) → Walks (lent (now (counts .entry)) (now (visited .entry)) (now (gains .entry)) (now (blocks .entry)) (now (loads .entry)) (now (presentpins .entry)) (now (presentsizes .entry)) (now (bits .entry)) (now (weights .entry)) (now (netweights .entry)) (now (firsts .entry)) n m k total aboves loadedsizes) capacity u v
+    requires { ⌜ WalkOk (lent (now counts) (now visited) (now gains) (now blocks) (now loads) (now presentpins) (now presentsizes) (now bits) (now weights) (now netweights) (now firsts) n m k total) u v ⌝ }
+    ensures { λ r. ⌜ ((aboves loadedsizes : List ℕ) → Walks (lent (now (counts .entry)) (now (visited .entry)) (now (gains .entry)) (now (blocks .entry)) (now (loads .entry)) (now (presentpins .entry)) (now (presentsizes .entry)) (now (bits .entry)) (now (weights .entry)) (now (netweights .entry)) (now (firsts .entry)) n m k total aboves loadedsizes) (now (ceilings .entry)) u v
         (lent (now (counts .exit)) (now (visited .exit)) (now (gains .exit)) (now (blocks .exit)) (now (loads .exit)) (now (presentpins .exit)) (now (presentsizes .exit)) (now (bits .exit)) (now (weights .exit)) (now (netweights .exit)) (now (firsts .exit)) n m k (r .total) aboves loadedsizes) (r .tried) (r .kept)) ⌝ }
 {
     let mut marks = [0u64; 48];
@@ -333,10 +333,10 @@ pub fn walk(
             weights,
             netweights,
             firsts,
+            ceilings,
             n,
             m,
             k,
-            capacity,
             s,
         );
     }

@@ -35,7 +35,7 @@ slice-aggregate-run-calls c = search needs
 
 run-calls-requires : tie.Need-run-calls-requires
 run-calls-requires c κs =
-    let state = c .before .before .before .before .before .before .before .before .before .before .before .before .before .before .before .before .before in
+    let state = c .before .before .before .before .before .before .before .before .before .before .before .before .before .before .before .before .before .before in
     let start = state .before .before .before .before .before .before .before .before .before .before .before .before .before .before .before .before .before .before .before .before .before .before .before .before .before .before .before in
     can-run (start .pre .catalogued) (blank 16384 refl) (state .«open» .ensures) (start .pre .listed)
 
@@ -58,18 +58,18 @@ same-length-6 : tie.Need-same-length-6
 same-length-6 c = search needs
 
 same-length-7 : tie.Need-same-length-7
-same-length-7 c = omega (arith, c .before .before .before .before .before .before .before .before .before .before .before .before .before .before .before .before .before .before .before .before .before .before .before .before .before .before .before .before .before .before .before .before .before .before .before .before .before .before .«open» .kept, c .before .before .before .before .before .before .before .before .before .before .before .before .before .before .before .before .before .before .before .before .run-calls .kept)
+same-length-7 c = omega (arith, c .before .before .before .before .before .before .before .before .before .before .before .before .before .before .before .before .before .before .before .before .before .before .before .before .before .before .before .before .before .before .before .before .before .before .before .before .before .before .before .«open» .kept, c .before .before .before .before .before .before .before .before .before .before .before .before .before .before .before .before .before .before .before .before .run-calls .kept)
 
 same-length-8 : tie.Need-same-length-8
-same-length-8 c = omega (arith, c .before .before .before .before .before .before .before .before .before .before .before .before .before .before .before .before .before .before .before .before .before .before .before .before .before .before .before .before .before .before .before .before .before .before .before .before .before .before .«open» .kept, c .before .before .before .before .before .before .before .before .before .before .before .before .before .before .before .before .before .before .before .before .run-calls .kept)
+same-length-8 c = omega (arith, c .before .before .before .before .before .before .before .before .before .before .before .before .before .before .before .before .before .before .before .before .before .before .before .before .before .before .before .before .before .before .before .before .before .before .before .before .before .before .before .«open» .kept, c .before .before .before .before .before .before .before .before .before .before .before .before .before .before .before .before .before .before .before .before .run-calls .kept)
 
 same-length-9 : tie.Need-same-length-9
-same-length-9 c = omega (arith, c .before .before .before .before .before .before .before .before .before .before .before .before .before .before .before .before .before .before .before .before .before .before .before .before .before .before .before .before .before .before .before .before .before .before .before .before .before .before .«open» .kept, c .before .before .before .before .before .before .before .before .before .before .before .before .before .before .before .before .before .before .before .before .run-calls .kept)
+same-length-9 c = omega (arith, c .before .before .before .before .before .before .before .before .before .before .before .before .before .before .before .before .before .before .before .before .before .before .before .before .before .before .before .before .before .before .before .before .before .before .before .before .before .before .before .«open» .kept, c .before .before .before .before .before .before .before .before .before .before .before .before .before .before .before .before .before .before .before .before .run-calls .kept)
 
 returns : tie.Need-returns
 returns c =
     let at-run-calls = c .before .before .before .before .before .before .before .before .before .before .before .before .before .before .before .before .before .before .before .before in
-    let state = at-run-calls .before .before .before .before .before .before .before .before .before .before .before .before .before .before .before .before .before .before in
+    let state = at-run-calls .before .before .before .before .before .before .before .before .before .before .before .before .before .before .before .before .before .before .before in
     λ limits file pins old g l. sold g (blank 16384 refl) (state .«open» .ensures) l (at-run-calls .run-calls .ensures limits _ (begins g (blank 16384 refl) (state .«open» .ensures) l))
 
 pub sell-spec : {M : Type 1} → statement M

@@ -44,7 +44,7 @@ returns c =
     let at-call-join = c .before .before .before .before .before .before .before .before .before .before .before .before .before .before .before .before .before .before .before .before in
     let at-if1 = at-call-join .before .before .before .before .before .before .before .before .before .before in
     let start = at-if1 .before .before .before .before .before .before .before .before .before .before .before .before in
-    λ loads h. called-as (is-J (start .args .letter) (start .args .x) (start .args .y) (at-if1 .if1 .taken)) (c .answer .ensures) (at-call-join .call-join .ensures loads (now (start .args .loadedsizes)) h)
+    λ loads h ceiling. called-as (is-J (start .args .letter) (start .args .x) (start .args .y) (at-if1 .if1 .taken)) (c .answer .ensures) (at-call-join .call-join .ensures loads (now (start .args .loadedsizes)) h ceiling)
 
 call-split-requires : tie.Need-call-split-requires
 call-split-requires c κs = search needs
@@ -84,7 +84,7 @@ returns-2 c =
     let at-call-split = c .before .before .before .before .before .before .before .before .before .before .before .before .before .before .before .before .before .before .before .before in
     let at-if1 = at-call-split .before .before .before .before .before .before .before .before .before .before in
     let start = at-if1 .before .before .before .before .before .before .before .before .before .before .before .before in
-    λ loads h. called-as (is-S (start .args .letter) (start .args .x) (start .args .y) (at-if1 .if1 .left)) (c .answer2 .ensures) (at-call-split .call-split .ensures loads h)
+    λ loads h ceiling. called-as (is-S (start .args .letter) (start .args .x) (start .args .y) (at-if1 .if1 .left)) (c .answer2 .ensures) (at-call-split .call-split .ensures loads h ceiling)
 
 pub contracting-spec : {M : Type 1} → statement M
 contracting-spec =

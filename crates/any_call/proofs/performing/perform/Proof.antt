@@ -46,7 +46,7 @@ returns c =
     let at-if1 = at-contracting .before .before .before .before .before .before .before .before .before .before in
     let at-is-contracting = at-if1 .before in
     let start = at-is-contracting .before .before .before .before .before .before .before .before .before .before .before .before in
-    λ h p q. called-as (any-contracting (start .args .letter) (start .args .x) (start .args .y) (at-is-contracting .is-contracting .ensures) (at-if1 .if1 .taken)) refl (at-contracting .contracting .ensures (now (start .args .loads)) h)
+    λ h ceiling p q. called-as (any-contracting (start .args .letter) (start .args .x) (start .args .y) (at-is-contracting .is-contracting .ensures) (at-if1 .if1 .taken)) refl (at-contracting .contracting .ensures (now (start .args .loads)) h ceiling)
 
 is-moving-requires : tie.Need-is-moving-requires
 is-moving-requires c κs = search needs
@@ -54,7 +54,7 @@ is-moving-requires c κs = search needs
 moving-requires : tie.Need-moving-requires
 moving-requires c κs =
     let start = c .before .before .before .before .before .before .before .before .before .before .before .before .before .before .before .before .before .before .before .before .before .before .before .before in
-    record { aboves = now (start .args .aboves); loaded = now (start .args .loadedsizes); stack = _; ready = start .pre .ready; limit-is = start .pre .limit-is }
+    record { aboves = now (start .args .aboves); loaded = now (start .args .loadedsizes); stack = _; ready = start .pre .ready }
 
 same-length-10 : tie.Need-same-length-10
 same-length-10 c = search needs
@@ -88,7 +88,7 @@ returns-2 c =
     let at-if1 = at-is-moving .before in
     let at-is-contracting = at-if1 .before in
     let start = at-is-contracting .before .before .before .before .before .before .before .before .before .before .before .before in
-    λ h p q. called-as (any-moving (start .args .letter) (start .args .x) (start .args .y) (at-is-contracting .is-contracting .ensures) (at-if1 .if1 .left) (at-is-moving .is-moving .ensures) (at-if2 .if2 .taken)) refl (at-moving .moving .ensures (now (start .args .aboves)) (now (start .args .loadedsizes)) _ h q)
+    λ h ceiling p q. called-as (any-moving (start .args .letter) (start .args .x) (start .args .y) (at-is-contracting .is-contracting .ensures) (at-if1 .if1 .left) (at-is-moving .is-moving .ensures) (at-if2 .if2 .taken)) refl (at-moving .moving .ensures (now (start .args .aboves)) (now (start .args .loadedsizes)) _ h ceiling q)
 
 call-all-requires : tie.Need-call-all-requires
 call-all-requires c κs = search needs
@@ -131,7 +131,7 @@ returns-3 c =
     let at-if1 = at-is-moving .before in
     let at-is-contracting = at-if1 .before in
     let start = at-is-contracting .before .before .before .before .before .before .before .before .before .before .before .before in
-    λ h p q. called-as (any-all (start .args .letter) (start .args .x) (start .args .y) (at-is-contracting .is-contracting .ensures) (at-if1 .if1 .left) (at-is-moving .is-moving .ensures) (at-if2 .if2 .left)) (c .answer .ensures) (at-call-all .call-all .ensures h p q)
+    λ h ceiling p q. called-as (any-all (start .args .letter) (start .args .x) (start .args .y) (at-is-contracting .is-contracting .ensures) (at-if1 .if1 .left) (at-is-moving .is-moving .ensures) (at-if2 .if2 .left)) (c .answer .ensures) (at-call-all .call-all .ensures h ceiling p q)
 
 pub perform-spec : {M : Type 1} → statement M
 perform-spec =

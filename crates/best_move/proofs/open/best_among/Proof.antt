@@ -11,11 +11,11 @@ use Rattle.best_move.proofs.open.best_among.Statement.{statement}
 use Rattle.best_move.proofs.open.best_among.Tie as tie
 
 abbrev Inv-loop : tie.InvT-loop
-Inv-loop gains blocks weights loads rooms candidates c size k capacity first word best₀ j₀ best j =
-    Among candidates blocks weights loads rooms capacity gains c size k best₀ best j
+Inv-loop gains blocks weights loads ceilings rooms candidates c size k first word best₀ j₀ best j =
+    Among candidates blocks weights loads ceilings rooms gains c size k best₀ best j
 
 abbrev μ-loop : tie.MeasureT-loop
-μ-loop gains blocks weights loads rooms candidates c size k capacity first word best₀ j₀ best j = 64 - j
+μ-loop gains blocks weights loads ceilings rooms candidates c size k first word best₀ j₀ best j = 64 - j
 
 mul-first : tie.Need-mul-first Inv-loop μ-loop
 mul-first c = omega arith
@@ -37,7 +37,7 @@ loop-holds c =
     let p = c .before in
     let s = p .before .before .before .before .before .before in
     let a = s .args in
-    among-begins (now (a .candidates)) (now (a .blocks)) (now (a .weights)) (now (a .loads)) (now (a .rooms)) (a .capacity) (now (a .gains)) (a .c) (a .size) (a .k) (s .pre .0 .1) (s .pre .1) _ _ (c .next-rising .result)
+    among-begins (now (a .candidates)) (now (a .blocks)) (now (a .weights)) (now (a .loads)) (now (a .ceilings)) (now (a .rooms)) (now (a .gains)) (a .c) (a .size) (a .k) (s .pre .0 .1) (s .pre .1) _ _ (c .next-rising .result)
     (read64 (a .before .top) (p .before .struct-told .given .1 .0 .1)) (read32 (p .least-better .result) (p .least-better .ok)) (p .least-better .ensures) refl (c .next-rising .ensures)
 
 add-best-with : tie.Need-add-best-with Inv-loop μ-loop
@@ -65,14 +65,14 @@ loop-again c =
     let l = w .before .before in
     let s = l .before .before .before .before .before .before .before .before in
     let a = s .args in
-    among-more (now (a .candidates)) (now (a .blocks)) (now (a .weights)) (now (a .loads)) (now (a .rooms)) (a .capacity) (now (a .gains)) (a .c) (a .size) (a .k) (s .pre .0 .1) (s .pre .1) _ _ (c .next-rising2 .result)
+    among-more (now (a .candidates)) (now (a .blocks)) (now (a .weights)) (now (a .loads)) (now (a .ceilings)) (now (a .rooms)) (now (a .gains)) (a .c) (a .size) (a .k) (s .pre .0 .1) (s .pre .1) _ _ (c .next-rising2 .result)
     (read64 (w .best-with .result .top) (p .before .struct-told2 .given .1 .0 .1)) (read32 (p .least-better2 .result) (p .least-better2 .ok)) (p .least-better2 .ensures) (l .loop .best) (l .loop .j) (omega arith) (l .loop .inv) (w .best-with .ensures) (c .next-rising2 .ensures)
 
 returns : tie.Need-returns Inv-loop μ-loop
 returns c =
     let l = c .before .loop in
     let a = c .before .before .before .before .before .before .before .before .before .args in
-    among-ends (now (a .candidates)) (now (a .blocks)) (now (a .weights)) (now (a .loads)) (now (a .rooms)) (a .capacity) (now (a .gains)) (a .c) (a .size) (a .k) _ (l .best) (l .j) (omega arith) (l .inv)
+    among-ends (now (a .candidates)) (now (a .blocks)) (now (a .weights)) (now (a .loads)) (now (a .ceilings)) (now (a .rooms)) (now (a .gains)) (a .c) (a .size) (a .k) _ (l .best) (l .j) (omega arith) (l .inv)
 
 pub best-among-spec : {M : Type 1} → statement M
 best-among-spec =

@@ -53,7 +53,7 @@ returns c =
     λ h.
     let a = start .args in
     let e : 64 * a .c + c .before .least .result ≡ lesser (64 * a .c + 64) (a .n) = omega (arith, c .before .least .ensures, start .pre .1 .0 .1) in
-    subst (λ (to : ℕ). Leads (c .best-among .result) (bestTo (openIn (now (a .candidates)) (now (a .blocks)) (now (a .weights)) (now (a .loads)) (a .capacity)) (gainIn (now (a .gains))) (a .k) to)) e (c .best-among .ensures h)
+    subst (λ (to : ℕ). Leads (c .best-among .result) (bestTo (openIn (now (a .candidates)) (now (a .blocks)) (now (a .weights)) (now (a .loads)) (now (a .ceilings))) (gainIn (now (a .gains))) (a .k) to)) e (c .best-among .ensures h)
 
 returns-2 : tie.Need-returns-2
 returns-2 c =
@@ -62,7 +62,7 @@ returns-2 c =
     let p = state in
     let s = p .before .before .before .before in
     let a = s .args in
-    passed-over (openIn (now (a .candidates)) (now (a .blocks)) (now (a .weights)) (now (a .loads)) (a .capacity)) (now (a .gains)) (now (a .peaks)) (a .n) (a .k) (a .c) (a .before) (s .pre .1 .0 .0) (s .pre .1 .0 .1) (p .peak .given)
+    passed-over (openIn (now (a .candidates)) (now (a .blocks)) (now (a .weights)) (now (a .loads)) (now (a .ceilings))) (now (a .gains)) (now (a .peaks)) (a .n) (a .k) (a .c) (a .before) (s .pre .1 .0 .0) (s .pre .1 .0 .1) (p .peak .given)
     (sym (ap₂ (λ (x y : ℤ). ltZ x y) (read64 (a .before .top) (c .before .before .struct-told .given .1 .0 .1)) (read64 _ (cast-peak p .sfits) ∙ read32 _ (p .peak .given))) ∙ sym (c .before .less .ensures) ∙ c .if1 .left) h
 
 pub best-in-part-spec : {M : Type 1} → statement M

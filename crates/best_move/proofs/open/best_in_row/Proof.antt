@@ -13,11 +13,11 @@ use Rattle.best_move.proofs.open.best_in_row.Statement.{statement}
 use Rattle.best_move.proofs.open.best_in_row.Tie as tie
 
 abbrev Inv-loop : tie.InvT-loop
-Inv-loop gains loads own weight capacity i k row lead₀ j₀ lead j =
-    (j ≤ k) × ((c : Best) → Leads lead₀ c → Leads lead (bestInRow (gainIn gains) (λ b. mayGo (getD loads (b - 1) 0) own weight capacity b) (i + 1) j c))
+Inv-loop gains loads ceilings own weight i k row lead₀ j₀ lead j =
+    (j ≤ k) × ((c : Best) → Leads lead₀ c → Leads lead (bestInRow (gainIn gains) (λ b. mayGo (getD loads (b - 1) 0) own weight (getD ceilings (b - 1) 0) b) (i + 1) j c))
 
 abbrev μ-loop : tie.MeasureT-loop
-μ-loop gains loads own weight capacity i k row lead₀ j₀ lead j = k - j
+μ-loop gains loads ceilings own weight i k row lead₀ j₀ lead j = k - j
 
 mul-row : tie.Need-mul-row Inv-loop μ-loop
 mul-row c = omega arith
@@ -25,7 +25,7 @@ mul-row c = omega arith
 loop-holds : tie.Need-loop-holds Inv-loop μ-loop
 loop-holds c =
     let a = c .args in
-    (omega arith, λ b h. subst (Leads (a .before)) (row-none (gainIn (now (a .gains))) (λ b. mayGo (getD (now (a .loads)) (b - 1) 0) (a .own) (a .weight) (a .capacity) b) (a .i + 1) b) h)
+    (omega arith, λ b h. subst (Leads (a .before)) (row-none (gainIn (now (a .gains))) (λ b. mayGo (getD (now (a .loads)) (b - 1) 0) (a .own) (a .weight) (getD (now (a .ceilings)) (b - 1) 0) b) (a .i + 1) b) h)
 
 mul-may-go : tie.Need-mul-may-go Inv-loop μ-loop
 mul-may-go c = omega arith
@@ -65,7 +65,7 @@ loop-less c = omega arith
 
 loop-again : tie.Need-loop-again Inv-loop μ-loop
 loop-again c =
-    let l = c .before .before .before .before .before in
+    let l = c .before .before .before .before .before .before in
     let a = l .before .args in
     let j = l .loop .j in
     let ev : (16 * a .i + j + 1 - 1) / 16 + 1 ≡ a .i + 1 = omega arith in
@@ -74,8 +74,8 @@ loop-again c =
     let eg : 16 * a .i + j ≡ 16 * (a .i + 1 - 1) + (j + 1 - 1) = omega arith in (
       omega arith,
       λ b h. subst (Leads (c .weigh .result))
-          (row-more (gainIn (now (a .gains))) (λ b. mayGo (getD (now (a .loads)) (b - 1) 0) (a .own) (a .weight) (a .capacity) b) (a .i + 1) j (16 * a .i + j + 1) _ _ b ev eb
-          (c .before .before .may-go .ensures ∙ ap (λ (x : ℕ). mayGo (getD (now (a .loads)) x 0) (a .own) (a .weight) (a .capacity) (j + 1)) ej)
+          (row-more (gainIn (now (a .gains))) (λ b. mayGo (getD (now (a .loads)) (b - 1) 0) (a .own) (a .weight) (getD (now (a .ceilings)) (b - 1) 0) b) (a .i + 1) j (16 * a .i + j + 1) _ _ b ev eb
+          (c .before .before .may-go .ensures ∙ ap (λ (x : ℕ). mayGo (getD (now (a .loads)) x 0) (a .own) (a .weight) (getD (now (a .ceilings)) x 0) (j + 1)) ej)
           (read32 _ (c .before .weigh-arg .given) ∙ ap (λ (x : ℕ). getD (now (a .gains)) x (pos 0)) eg))
           (c .weigh .ensures _ (l .loop .inv .1 b h)),
     )
@@ -84,8 +84,14 @@ returns : tie.Need-returns Inv-loop μ-loop
 returns c =
     let a = c .before .before .args in
     let e : c .before .loop .j ≡ a .k = omega arith in
-    λ b h. subst (λ (j : ℕ). Leads (c .before .loop .lead) (bestInRow (gainIn (now (a .gains))) (λ b. mayGo (getD (now (a .loads)) (b - 1) 0) (a .own) (a .weight) (a .capacity) b) (a .i + 1) j b)) e
+    λ b h. subst (λ (j : ℕ). Leads (c .before .loop .lead) (bestInRow (gainIn (now (a .gains))) (λ b. mayGo (getD (now (a .loads)) (b - 1) 0) (a .own) (a .weight) (getD (now (a .ceilings)) (b - 1) 0) b) (a .i + 1) j b)) e
     (c .before .loop .inv .1 b h)
+
+mul-may-go-2 : tie.Need-mul-may-go-2 Inv-loop μ-loop
+mul-may-go-2 c = omega arith
+
+element-copy-out-may-go-2 : tie.Need-element-copy-out-may-go-2 Inv-loop μ-loop
+element-copy-out-may-go-2 c = omega arith
 
 pub best-in-row-spec : {M : Type 1} → statement M
 best-in-row-spec =
@@ -97,6 +103,8 @@ best-in-row-spec =
     loop-holds
     mul-may-go
     element-copy-out-may-go
+    mul-may-go-2
+    element-copy-out-may-go-2
     add-may-go
     may-go-requires
     add-weigh

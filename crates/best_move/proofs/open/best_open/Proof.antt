@@ -14,11 +14,11 @@ use Rattle.best_move.proofs.open.best_open.Statement.{statement}
 use Rattle.best_move.proofs.open.best_open.Tie as tie
 
 abbrev Inv-loop : tie.InvT-loop
-Inv-loop gains blocks weights loads candidates peaks n k capacity best₀ rooms c₀ best c =
-    (c ≤ 16) × Rooms loads capacity k rooms × Leads best (bestTo (openIn candidates blocks weights loads capacity) (gainIn gains) k (lesser (64 * c) n))
+Inv-loop gains blocks weights loads ceilings candidates peaks n k best₀ rooms c₀ best c =
+    (c ≤ 16) × Rooms loads ceilings k rooms × Leads best (bestTo (openIn candidates blocks weights loads ceilings) (gainIn gains) k (lesser (64 * c) n))
 
 abbrev μ-loop : tie.MeasureT-loop
-μ-loop gains blocks weights loads candidates peaks n k capacity best₀ rooms c₀ best c = n - 64 * c
+μ-loop gains blocks weights loads ceilings candidates peaks n k best₀ rooms c₀ best c = n - 64 * c
 
 measure-requires : tie.Need-measure-requires Inv-loop μ-loop
 measure-requires c κs = search needs
@@ -29,8 +29,8 @@ loop-holds c =
     let e : 0 ≡ lesser (64 * 0) (a .n) = omega arith in (
       omega arith,
       c .measure .ensures,
-      subst (Leads _) (none-seen (now (a .candidates)) (now (a .blocks)) (now (a .weights)) (now (a .loads)) (a .capacity) (gainIn (now (a .gains))) (a .n) (a .k)
-          ∙ ap (bestTo (openIn (now (a .candidates)) (now (a .blocks)) (now (a .weights)) (now (a .loads)) (a .capacity)) (gainIn (now (a .gains))) (a .k)) e) no-lead,
+      subst (Leads _) (none-seen (now (a .candidates)) (now (a .blocks)) (now (a .weights)) (now (a .loads)) (now (a .ceilings)) (gainIn (now (a .gains))) (a .n) (a .k)
+          ∙ ap (bestTo (openIn (now (a .candidates)) (now (a .blocks)) (now (a .weights)) (now (a .loads)) (now (a .ceilings))) (gainIn (now (a .gains))) (a .k)) e) no-lead,
     )
 
 mul-loop : tie.Need-mul-loop Inv-loop μ-loop
@@ -54,8 +54,8 @@ loop-again c =
     let d : lesser (64 * l .loop .c + 64) (a .n) ≡ lesser (64 * (l .loop .c + 1)) (a .n) = omega arith in (
       omega (arith, s .pre .0 .n-to),
       l .loop .inv .1,
-      subst (λ (i : ℕ). Leads (c .best-in-part .result) (bestTo (openIn (now (a .candidates)) (now (a .blocks)) (now (a .weights)) (now (a .loads)) (a .capacity)) (gainIn (now (a .gains))) (a .k) i)) d
-          (c .best-in-part .ensures (subst (λ (i : ℕ). Leads (l .loop .best) (bestTo (openIn (now (a .candidates)) (now (a .blocks)) (now (a .weights)) (now (a .loads)) (a .capacity)) (gainIn (now (a .gains))) (a .k) i)) e (l .loop .inv .2))),
+      subst (λ (i : ℕ). Leads (c .best-in-part .result) (bestTo (openIn (now (a .candidates)) (now (a .blocks)) (now (a .weights)) (now (a .loads)) (now (a .ceilings))) (gainIn (now (a .gains))) (a .k) i)) d
+          (c .best-in-part .ensures (subst (λ (i : ℕ). Leads (l .loop .best) (bestTo (openIn (now (a .candidates)) (now (a .blocks)) (now (a .weights)) (now (a .loads)) (now (a .ceilings))) (gainIn (now (a .gains))) (a .k) i)) e (l .loop .inv .2))),
     )
 
 pair-at-requires : tie.Need-pair-at-requires Inv-loop μ-loop
@@ -63,14 +63,14 @@ pair-at-requires c κs =
     let l = c .before .loop in
     let s = c .before .before .before .before .before .before .before in
     let a = s .args in
-    omega (arith, s .pre .0 .n-to, lead-in (now (a .candidates)) (now (a .blocks)) (now (a .weights)) (now (a .loads)) (a .capacity) (gainIn (now (a .gains))) (a .n) (a .k) (lesser (64 * l .c) (a .n)) (l .best) (omega arith) (omega arith) (l .inv .2))
+    omega (arith, s .pre .0 .n-to, lead-in (now (a .candidates)) (now (a .blocks)) (now (a .weights)) (now (a .loads)) (now (a .ceilings)) (gainIn (now (a .gains))) (a .n) (a .k) (lesser (64 * l .c) (a .n)) (l .best) (omega arith) (omega arith) (l .inv .2))
 
 returns : tie.Need-returns Inv-loop μ-loop
 returns c =
     let l = c .before .before .loop in
     let a = c .before .before .before .before .before .before .before .before .args in
-    subst (λ (r : Pick). Chosen (gainIn (now (a .gains))) (a .n) (a .k) r (bestPair (a .n) (a .k) (openIn (now (a .candidates)) (now (a .blocks)) (now (a .weights)) (now (a .loads)) (a .capacity)) (gainIn (now (a .gains))))) (sym (c .pair-at .ensures))
-    (all-candidates (now (a .candidates)) (now (a .blocks)) (now (a .weights)) (now (a .loads)) (a .capacity) (gainIn (now (a .gains))) (a .n) (a .k) (lesser (64 * l .c) (a .n)) (l .best) (omega arith) (omega arith) (l .inv .2))
+    subst (λ (r : Pick). Chosen (gainIn (now (a .gains))) (a .n) (a .k) r (bestPair (a .n) (a .k) (openIn (now (a .candidates)) (now (a .blocks)) (now (a .weights)) (now (a .loads)) (now (a .ceilings))) (gainIn (now (a .gains))))) (sym (c .pair-at .ensures))
+    (all-candidates (now (a .candidates)) (now (a .blocks)) (now (a .weights)) (now (a .loads)) (now (a .ceilings)) (gainIn (now (a .gains))) (a .n) (a .k) (lesser (64 * l .c) (a .n)) (l .best) (omega arith) (omega arith) (l .inv .2))
 
 pub best-open-spec : {M : Type 1} → statement M
 best-open-spec =

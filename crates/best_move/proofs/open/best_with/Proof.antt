@@ -1,11 +1,9 @@
-use native.Mathlib.Omega.{arith}
-use mathlib.Core.Path.{sym, subst}
+use mathlib.Core.Path.{subst}
 use denote.Ref.{now}
 use borrow.Author.Needs.{needs}
 use Prim.Native.Nat.{ℕ, _-_, _+_}
 use lib.ListN.{getD}
 use Rattle.best_move.specs.Open.{Leads, bestInRow, gainIn, mayGo}
-use Rattle.best_move.specs.OpenLaw.{row-heavy}
 use Rattle.best_move.proofs.open.best_with.Statement.{statement}
 use Rattle.best_move.proofs.open.best_with.Tie as tie
 
@@ -17,13 +15,6 @@ shared-slice-read-wide32 c = search needs
 
 wide32-requires : tie.Need-wide32-requires
 wide32-requires c κs = search needs
-
-returns : tie.Need-returns
-returns c = λ b h.
-    let a = c .before .before .before .before .before .args in
-    subst (Leads (a .before))
-    (sym (row-heavy (gainIn (now (a .gains))) (now (a .loads)) (getD (now (a .blocks)) (a .i) 0) (getD (now (a .weights)) (a .i) 0) (a .capacity) (a .i + 1) (a .k) b
-    (omega (arith, c .if1 .taken, c .before .wide32 .ensures)))) h
 
 mul-wide : tie.Need-mul-wide
 mul-wide c = search needs
@@ -37,27 +28,26 @@ wide-requires c κs = search needs
 best-in-row-requires : tie.Need-best-in-row-requires
 best-in-row-requires c κs = search needs
 
-returns-2 : tie.Need-returns-2
-returns-2 c =
-    let at-wide32 = c .before .before .before .before in
-    let start = at-wide32 .before .before .before .before in
+returns : tie.Need-returns
+returns c =
+    let at-wide = c .before .before .before in
+    let start = at-wide .before .before .before .before in
     λ b h.
     let a = start .args in
-    subst (λ (x : ℕ). Leads (c .best-in-row .result) (bestInRow (gainIn (now (a .gains))) (λ b. mayGo (getD (now (a .loads)) (b - 1) 0) (getD (now (a .blocks)) (a .i) 0) x (a .capacity) b) (a .i + 1) (a .k) b))
-    (at-wide32 .wide32 .ensures)
-    (subst (λ (x : ℕ). Leads (c .best-in-row .result) (bestInRow (gainIn (now (a .gains))) (λ b. mayGo (getD (now (a .loads)) (b - 1) 0) x (at-wide32 .wide32 .result) (a .capacity) b) (a .i + 1) (a .k) b))
-    (c .before .wide .ensures) (c .best-in-row .ensures b h))
+    subst (λ (x : ℕ). Leads (c .best-in-row .result) (bestInRow (gainIn (now (a .gains))) (λ b. mayGo (getD (now (a .loads)) (b - 1) 0) (getD (now (a .blocks)) (a .i) 0) x (getD (now (a .ceilings)) (b - 1) 0) b) (a .i + 1) (a .k) b))
+    (c .before .wide32 .ensures)
+    (subst (λ (x : ℕ). Leads (c .best-in-row .result) (bestInRow (gainIn (now (a .gains))) (λ b. mayGo (getD (now (a .loads)) (b - 1) 0) x (c .before .wide32 .result) (getD (now (a .ceilings)) (b - 1) 0) b) (a .i + 1) (a .k) b))
+    (at-wide .wide .ensures) (c .best-in-row .ensures b h))
 
 pub best-with-spec : {M : Type 1} → statement M
 best-with-spec =
     tie.close
     (tie.spec
-    mul-wide32
-    shared-slice-read-wide32
-    wide32-requires
-    returns
     mul-wide
     shared-slice-read-wide
     wide-requires
+    mul-wide32
+    shared-slice-read-wide32
+    wide32-requires
     best-in-row-requires
-    returns-2)
+    returns)

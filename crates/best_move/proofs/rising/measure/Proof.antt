@@ -10,13 +10,13 @@ use Rattle.best_move.proofs.rising.measure.Statement.{statement}
 use Rattle.best_move.proofs.rising.measure.Tie as tie
 
 abbrev Inv-loop : tie.InvT-loop
-Inv-loop rooms₀ loads k capacity b₀ rooms b = (b ≤ k) × (k ≤ 16) × Rooms loads capacity b rooms
+Inv-loop rooms₀ loads ceilings k b₀ rooms b = (b ≤ k) × (k ≤ 16) × Rooms loads ceilings b rooms
 
 abbrev μ-loop : tie.MeasureT-loop
-μ-loop rooms₀ loads k capacity b₀ rooms b = k - b
+μ-loop rooms₀ loads ceilings k b₀ rooms b = k - b
 
 loop-holds : tie.Need-loop-holds Inv-loop μ-loop
-loop-holds c = (omega arith, omega arith, rooms-none (now (c .args .loads)) (c .args .capacity) (now (c .args .rooms)) (c .pre .0))
+loop-holds c = (omega arith, omega arith, rooms-none (now (c .args .loads)) (now (c .args .ceilings)) (now (c .args .rooms)) (c .pre .0))
 
 mul-room-of : tie.Need-mul-room-of Inv-loop μ-loop
 mul-room-of c = omega arith
@@ -41,16 +41,22 @@ loop-less c = omega arith
 
 loop-again : tie.Need-loop-again Inv-loop μ-loop
 loop-again c =
-    let l = c .before .before .before in
+    let l = c .before .before .before .before in
     let a = l .before .args in
-    (omega arith, omega arith, rooms-more (now (a .loads)) (a .capacity) (l .loop .b) (l .loop .rooms) (c .room-of .result) (omega arith) (l .loop .inv .2) (c .room-of .ensures))
+    (omega arith, omega arith, rooms-more (now (a .loads)) (now (a .ceilings)) (l .loop .b) (l .loop .rooms) (c .room-of .result) (omega arith) (l .loop .inv .2) (c .room-of .ensures))
 
 returns : tie.Need-returns Inv-loop μ-loop
 returns c =
     let l = c .before .loop in
     let a = c .before .before .args in
     let e : l .b ≡ a .k = omega (arith, l .inv) in
-    subst (λ (b : ℕ). Rooms (now (a .loads)) (a .capacity) b (l .rooms)) e (l .inv .2)
+    subst (λ (b : ℕ). Rooms (now (a .loads)) (now (a .ceilings)) b (l .rooms)) e (l .inv .2)
+
+mul-room-of-2 : tie.Need-mul-room-of-2 Inv-loop μ-loop
+mul-room-of-2 c = omega arith
+
+element-copy-out-room-of-2 : tie.Need-element-copy-out-room-of-2 Inv-loop μ-loop
+element-copy-out-room-of-2 c = omega arith
 
 pub measure-spec : {M : Type 1} → statement M
 measure-spec =
@@ -61,6 +67,8 @@ measure-spec =
     loop-holds
     mul-room-of
     element-copy-out-room-of
+    mul-room-of-2
+    element-copy-out-room-of-2
     room-of-requires
     mul-rooms
     element-write-rooms

@@ -1,4 +1,5 @@
 -- `refine_once`: the undo, then the walk from the parted pair, which is on the board.
+use native.Mathlib.Omega.{arith}
 use mathlib.Core.Path.{refl}
 use borrow.Author.Needs.{needs}
 use Rattle.cycle.specs.Refine.{walk-asks, parts}
@@ -17,7 +18,10 @@ walk-requires c κs =
     walk-asks _ _ _ (start .pre) (at-split .split .ensures _)
 
 same-length : tie.Need-same-length
-same-length c = search needs
+same-length c =
+    let at-walk = c .before .before .before .before .before .before .before in
+    let at-split = at-walk .before .before .before .before .before .before .before .before .before .before .before .before .before .before .before .before .before .before .before .before .before .before .before .before .before .before .before in
+    omega (arith, at-split .split .kept, at-walk .walk .kept)
 
 same-length-2 : tie.Need-same-length-2
 same-length-2 c = search needs

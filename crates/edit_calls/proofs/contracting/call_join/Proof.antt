@@ -16,7 +16,7 @@ same-length : tie.Need-same-length
 same-length c = search needs
 
 returns : tie.Need-returns
-returns c = λ loads loaded h. refused-J _ _ _ _ _ (c .before .refuses-join .ensures) (c .if1 .taken)
+returns c = λ loads loaded h ceiling. refused-J _ _ _ _ _ (c .before .refuses-join .ensures) (c .if1 .taken)
 
 short-requires : tie.Need-short-requires
 short-requires c κs = omega (arith, (pair-of (now (c .before .before .before .before .before .before .before .before .before .before .before .before .before .args .blocks)) (c .before .before .before .before .before .before .before .before .before .before .before .before .before .args .n) (c .before .before .before .before .before .before .before .before .before .before .before .before .before .args .u) (c .before .before .before .before .before .before .before .before .before .before .before .before .before .args .v) (sym (c .before .refuses-join .ensures) ∙ c .if1 .left)) .1 .u-in, roomy (c .before .before .before .before .before .before .before .before .before .before .before .before .before .pre .ready) .few-vertices)
@@ -91,7 +91,7 @@ returns-2 c =
     let at-if1 = at-short .before in
     let at-refuses-join = at-if1 .before in
     let start = at-refuses-join .before .before .before .before .before .before .before .before .before .before .before .before in
-    λ loads loaded h. accepted-J h _ _ _ _ _ _ (start .args .u) (start .args .v) (sym (at-refuses-join .refuses-join .ensures) ∙ at-if1 .if1 .left) refl (at-join .join .ensures loads loaded) (pushed-as (at-push .push .ensures) (at-short .short .ensures) (at-short2 .short2 .ensures)) (record { xs-same = at-clear .clear .ensures .0; ys-same = at-clear .clear .ensures .1; len-is = at-clear .clear .ensures .2 }) _ refl
+    λ loads loaded h ceiling. accepted-J h _ _ _ _ _ _ (start .args .u) (start .args .v) (sym (at-refuses-join .refuses-join .ensures) ∙ at-if1 .if1 .left) refl (at-join .join .ensures loads loaded) (pushed-as (at-push .push .ensures) (at-short .short .ensures) (at-short2 .short2 .ensures)) (record { xs-same = at-clear .clear .ensures .0; ys-same = at-clear .clear .ensures .1; len-is = at-clear .clear .ensures .2 }) _ refl
 
 pub call-join-spec : {M : Type 1} → statement M
 call-join-spec =

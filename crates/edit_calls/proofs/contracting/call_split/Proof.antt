@@ -6,7 +6,7 @@ use Rattle.edit_calls.proofs.contracting.call_split.Statement.{statemen
 use Rattle.edit_calls.proofs.contracting.call_split.Tie as tie
 
 returns : tie.Need-returns
-returns c = λ loads h. refused-S _ (c .if1 .taken)
+returns c = λ loads h ceiling. refused-S _ (c .if1 .taken)
 
 sub-into : tie.Need-sub-into
 sub-into c = omega (arith, above-none _ (c .if1 .left))
@@ -93,7 +93,7 @@ returns-2 c =
     let at-index2 = at-pop .before in
     let at-index = at-index2 .before in
     let at-if1 = at-index .before .before .before in
-    λ loads h. accepted-S h _ _ _ _ _ _ (above-none _ (at-if1 .if1 .left)) (at-index .index .result) (at-index2 .index2 .result) (at-index .index .ensures) (at-index2 .index2 .ensures) (at-split .split .ensures loads) (record { xs-same = at-pop .pop .ensures .0; ys-same = at-pop .pop .ensures .1; len-is = at-pop .pop .ensures .2 }) (record { xs-same = at-clear .clear .ensures .0; ys-same = at-clear .clear .ensures .1; len-is = at-clear .clear .ensures .2 }) (c .before .wide .result) (c .wide2 .result) (c .before .wide .ensures) (c .wide2 .ensures)
+    λ loads h ceiling. accepted-S h _ _ _ _ _ _ (above-none _ (at-if1 .if1 .left)) (at-index .index .result) (at-index2 .index2 .result) (at-index .index .ensures) (at-index2 .index2 .ensures) (at-split .split .ensures loads) (record { xs-same = at-pop .pop .ensures .0; ys-same = at-pop .pop .ensures .1; len-is = at-pop .pop .ensures .2 }) (record { xs-same = at-clear .clear .ensures .0; ys-same = at-clear .clear .ensures .1; len-is = at-clear .clear .ensures .2 }) (c .before .wide .result) (c .wide2 .result) (c .before .wide .ensures) (c .wide2 .ensures)
 
 pub call-split-spec : {M : Type 1} → statement M
 call-split-spec =

@@ -7,7 +7,7 @@ use Rattle.edit_calls.proofs.moving.call_back.Statement.{statement}
 use Rattle.edit_calls.proofs.moving.call_back.Tie as tie
 
 returns : tie.Need-returns
-returns c = λ aboves loaded S h. refused-B _ (c .if1 .taken)
+returns c = λ aboves loaded S h ceiling. refused-B _ (c .if1 .taken)
 
 sub-v : tie.Need-sub-v
 sub-v c = omega (arith, above-none _ (c .if1 .left))
@@ -67,7 +67,7 @@ returns-2 c =
     let at-pop = at-back .before .before .before .before .before .before in
     let at-index = at-pop .before in
     let at-if1 = at-index .before .before .before in
-    λ aboves loaded S h. accepted-B h _ _ _ _ _ (above-none _ (at-if1 .if1 .left)) (at-index .index .result) (at-index .index .ensures) (at-back .back .ensures aboves loaded) (record { xs-same = at-pop .pop .ensures .0; ys-same = at-pop .pop .ensures .1; len-is = at-pop .pop .ensures .2 }) (c .before .wide .result) (c .wide2 .result) (c .before .wide .ensures) (c .wide2 .ensures)
+    λ aboves loaded S h ceiling. accepted-B h _ _ _ _ _ (above-none _ (at-if1 .if1 .left)) (at-index .index .result) (at-index .index .ensures) (at-back .back .ensures aboves loaded) (record { xs-same = at-pop .pop .ensures .0; ys-same = at-pop .pop .ensures .1; len-is = at-pop .pop .ensures .2 }) (c .before .wide .result) (c .wide2 .result) (c .before .wide .ensures) (c .wide2 .ensures)
 
 pub call-back-spec : {M : Type 1} → statement M
 call-back-spec =

@@ -20,37 +20,37 @@ same-length c = search needs
 returns : tie.Need-returns
 returns c =
     let start = c .before .before .before .before .before .before .before .before .before .before .before .before .before in
-    λ aboves loaded S h q. refused-M _ (start .args .capacity) _ _ _ _ _ q (c .before .refuses-move .ensures) (c .if1 .taken)
+    λ aboves loaded S h ceiling q. refused-M _ (now (start .args .ceilings)) _ _ _ _ _ q (c .before .refuses-move .ensures) (c .if1 .taken)
 
 sub-gain : tie.Need-sub-gain
-sub-gain c = omega (arith, (open-of (now (c .before .before .before .before .before .before .before .before .before .before .before .before .before .args .blocks)) (now (c .before .before .before .before .before .before .before .before .before .before .before .before .before .args .loads)) (now (c .before .before .before .before .before .before .before .before .before .before .before .before .before .args .weights)) (c .before .before .before .before .before .before .before .before .before .before .before .before .before .args .n) (c .before .before .before .before .before .before .before .before .before .before .before .before .before .args .k) (c .before .before .before .before .before .before .before .before .before .before .before .before .before .args .capacity) (c .before .before .before .before .before .before .before .before .before .before .before .before .before .args .u) (c .before .before .before .before .before .before .before .before .before .before .before .before .before .args .t) (sym (c .before .refuses-move .ensures) ∙ c .if1 .left)) .0)
+sub-gain c = omega (arith, (open-of (now (c .before .before .before .before .before .before .before .before .before .before .before .before .before .args .blocks)) (now (c .before .before .before .before .before .before .before .before .before .before .before .before .before .args .loads)) (now (c .before .before .before .before .before .before .before .before .before .before .before .before .before .args .ceilings)) (now (c .before .before .before .before .before .before .before .before .before .before .before .before .before .args .weights)) (c .before .before .before .before .before .before .before .before .before .before .before .before .before .args .n) (c .before .before .before .before .before .before .before .before .before .before .before .before .before .args .k) (c .before .before .before .before .before .before .before .before .before .before .before .before .before .args .u) (c .before .before .before .before .before .before .before .before .before .before .before .before .before .args .t) (sym (c .before .refuses-move .ensures) ∙ c .if1 .left)) .0)
 
 mul-gain : tie.Need-mul-gain
-mul-gain c = omega (arith, (open-of (now (c .before .before .before .before .before .before .before .before .before .before .before .before .before .args .blocks)) (now (c .before .before .before .before .before .before .before .before .before .before .before .before .before .args .loads)) (now (c .before .before .before .before .before .before .before .before .before .before .before .before .before .args .weights)) (c .before .before .before .before .before .before .before .before .before .before .before .before .before .args .n) (c .before .before .before .before .before .before .before .before .before .before .before .before .before .args .k) (c .before .before .before .before .before .before .before .before .before .before .before .before .before .args .capacity) (c .before .before .before .before .before .before .before .before .before .before .before .before .before .args .u) (c .before .before .before .before .before .before .before .before .before .before .before .before .before .args .t) (sym (c .before .refuses-move .ensures) ∙ c .if1 .left)) .1 .u-in, roomy (c .before .before .before .before .before .before .before .before .before .before .before .before .before .pre .ready) .few-vertices)
+mul-gain c = omega (arith, (open-of (now (c .before .before .before .before .before .before .before .before .before .before .before .before .before .args .blocks)) (now (c .before .before .before .before .before .before .before .before .before .before .before .before .before .args .loads)) (now (c .before .before .before .before .before .before .before .before .before .before .before .before .before .args .ceilings)) (now (c .before .before .before .before .before .before .before .before .before .before .before .before .before .args .weights)) (c .before .before .before .before .before .before .before .before .before .before .before .before .before .args .n) (c .before .before .before .before .before .before .before .before .before .before .before .before .before .args .k) (c .before .before .before .before .before .before .before .before .before .before .before .before .before .args .u) (c .before .before .before .before .before .before .before .before .before .before .before .before .before .args .t) (sym (c .before .refuses-move .ensures) ∙ c .if1 .left)) .1 .u-in, roomy (c .before .before .before .before .before .before .before .before .before .before .before .before .before .pre .ready) .few-vertices)
 
 sub-gain-2 : tie.Need-sub-gain-2
-sub-gain-2 c = omega (arith, (open-of (now (c .before .before .before .before .before .before .before .before .before .before .before .before .before .args .blocks)) (now (c .before .before .before .before .before .before .before .before .before .before .before .before .before .args .loads)) (now (c .before .before .before .before .before .before .before .before .before .before .before .before .before .args .weights)) (c .before .before .before .before .before .before .before .before .before .before .before .before .before .args .n) (c .before .before .before .before .before .before .before .before .before .before .before .before .before .args .k) (c .before .before .before .before .before .before .before .before .before .before .before .before .before .args .capacity) (c .before .before .before .before .before .before .before .before .before .before .before .before .before .args .u) (c .before .before .before .before .before .before .before .before .before .before .before .before .before .args .t) (sym (c .before .refuses-move .ensures) ∙ c .if1 .left)) .1 .t-in)
+sub-gain-2 c = omega (arith, (open-of (now (c .before .before .before .before .before .before .before .before .before .before .before .before .before .args .blocks)) (now (c .before .before .before .before .before .before .before .before .before .before .before .before .before .args .loads)) (now (c .before .before .before .before .before .before .before .before .before .before .before .before .before .args .ceilings)) (now (c .before .before .before .before .before .before .before .before .before .before .before .before .before .args .weights)) (c .before .before .before .before .before .before .before .before .before .before .before .before .before .args .n) (c .before .before .before .before .before .before .before .before .before .before .before .before .before .args .k) (c .before .before .before .before .before .before .before .before .before .before .before .before .before .args .u) (c .before .before .before .before .before .before .before .before .before .before .before .before .before .args .t) (sym (c .before .refuses-move .ensures) ∙ c .if1 .left)) .1 .t-in)
 
 add-gain : tie.Need-add-gain
-add-gain c = omega (arith, (open-of (now (c .before .before .before .before .before .before .before .before .before .before .before .before .before .args .blocks)) (now (c .before .before .before .before .before .before .before .before .before .before .before .before .before .args .loads)) (now (c .before .before .before .before .before .before .before .before .before .before .before .before .before .args .weights)) (c .before .before .before .before .before .before .before .before .before .before .before .before .before .args .n) (c .before .before .before .before .before .before .before .before .before .before .before .before .before .args .k) (c .before .before .before .before .before .before .before .before .before .before .before .before .before .args .capacity) (c .before .before .before .before .before .before .before .before .before .before .before .before .before .args .u) (c .before .before .before .before .before .before .before .before .before .before .before .before .before .args .t) (sym (c .before .refuses-move .ensures) ∙ c .if1 .left)) .1 .u-in, roomy (c .before .before .before .before .before .before .before .before .before .before .before .before .before .pre .ready) .few-vertices, (open-of (now (c .before .before .before .before .before .before .before .before .before .before .before .before .before .args .blocks)) (now (c .before .before .before .before .before .before .before .before .before .before .before .before .before .args .loads)) (now (c .before .before .before .before .before .before .before .before .before .before .before .before .before .args .weights)) (c .before .before .before .before .before .before .before .before .before .before .before .before .before .args .n) (c .before .before .before .before .before .before .before .before .before .before .before .before .before .args .k) (c .before .before .before .before .before .before .before .before .before .before .before .before .before .args .capacity) (c .before .before .before .before .before .before .before .before .before .before .before .before .before .args .u) (c .before .before .before .before .before .before .before .before .before .before .before .before .before .args .t) (sym (c .before .refuses-move .ensures) ∙ c .if1 .left)) .1 .t-in, roomy (c .before .before .before .before .before .before .before .before .before .before .before .before .before .pre .ready) .few-blocks)
+add-gain c = omega (arith, (open-of (now (c .before .before .before .before .before .before .before .before .before .before .before .before .before .args .blocks)) (now (c .before .before .before .before .before .before .before .before .before .before .before .before .before .args .loads)) (now (c .before .before .before .before .before .before .before .before .before .before .before .before .before .args .ceilings)) (now (c .before .before .before .before .before .before .before .before .before .before .before .before .before .args .weights)) (c .before .before .before .before .before .before .before .before .before .before .before .before .before .args .n) (c .before .before .before .before .before .before .before .before .before .before .before .before .before .args .k) (c .before .before .before .before .before .before .before .before .before .before .before .before .before .args .u) (c .before .before .before .before .before .before .before .before .before .before .before .before .before .args .t) (sym (c .before .refuses-move .ensures) ∙ c .if1 .left)) .1 .u-in, roomy (c .before .before .before .before .before .before .before .before .before .before .before .before .before .pre .ready) .few-vertices, (open-of (now (c .before .before .before .before .before .before .before .before .before .before .before .before .before .args .blocks)) (now (c .before .before .before .before .before .before .before .before .before .before .before .before .before .args .loads)) (now (c .before .before .before .before .before .before .before .before .before .before .before .before .before .args .ceilings)) (now (c .before .before .before .before .before .before .before .before .before .before .before .before .before .args .weights)) (c .before .before .before .before .before .before .before .before .before .before .before .before .before .args .n) (c .before .before .before .before .before .before .before .before .before .before .before .before .before .args .k) (c .before .before .before .before .before .before .before .before .before .before .before .before .before .args .u) (c .before .before .before .before .before .before .before .before .before .before .before .before .before .args .t) (sym (c .before .refuses-move .ensures) ∙ c .if1 .left)) .1 .t-in, roomy (c .before .before .before .before .before .before .before .before .before .before .before .before .before .pre .ready) .few-blocks)
 
 mul-gain-2 : tie.Need-mul-gain-2
-mul-gain-2 c = omega (arith, (open-of (now (c .before .before .before .before .before .before .before .before .before .before .before .before .before .args .blocks)) (now (c .before .before .before .before .before .before .before .before .before .before .before .before .before .args .loads)) (now (c .before .before .before .before .before .before .before .before .before .before .before .before .before .args .weights)) (c .before .before .before .before .before .before .before .before .before .before .before .before .before .args .n) (c .before .before .before .before .before .before .before .before .before .before .before .before .before .args .k) (c .before .before .before .before .before .before .before .before .before .before .before .before .before .args .capacity) (c .before .before .before .before .before .before .before .before .before .before .before .before .before .args .u) (c .before .before .before .before .before .before .before .before .before .before .before .before .before .args .t) (sym (c .before .refuses-move .ensures) ∙ c .if1 .left)) .1 .u-in, roomy (c .before .before .before .before .before .before .before .before .before .before .before .before .before .pre .ready) .few-vertices, (open-of (now (c .before .before .before .before .before .before .before .before .before .before .before .before .before .args .blocks)) (now (c .before .before .before .before .before .before .before .before .before .before .before .before .before .args .loads)) (now (c .before .before .before .before .before .before .before .before .before .before .before .before .before .args .weights)) (c .before .before .before .before .before .before .before .before .before .before .before .before .before .args .n) (c .before .before .before .before .before .before .before .before .before .before .before .before .before .args .k) (c .before .before .before .before .before .before .before .before .before .before .before .before .before .args .capacity) (c .before .before .before .before .before .before .before .before .before .before .before .before .before .args .u) (c .before .before .before .before .before .before .before .before .before .before .before .before .before .args .t) (sym (c .before .refuses-move .ensures) ∙ c .if1 .left)) .1 .t-in, roomy (c .before .before .before .before .before .before .before .before .before .before .before .before .before .pre .ready) .few-blocks)
+mul-gain-2 c = omega (arith, (open-of (now (c .before .before .before .before .before .before .before .before .before .before .before .before .before .args .blocks)) (now (c .before .before .before .before .before .before .before .before .before .before .before .before .before .args .loads)) (now (c .before .before .before .before .before .before .before .before .before .before .before .before .before .args .ceilings)) (now (c .before .before .before .before .before .before .before .before .before .before .before .before .before .args .weights)) (c .before .before .before .before .before .before .before .before .before .before .before .before .before .args .n) (c .before .before .before .before .before .before .before .before .before .before .before .before .before .args .k) (c .before .before .before .before .before .before .before .before .before .before .before .before .before .args .u) (c .before .before .before .before .before .before .before .before .before .before .before .before .before .args .t) (sym (c .before .refuses-move .ensures) ∙ c .if1 .left)) .1 .u-in, roomy (c .before .before .before .before .before .before .before .before .before .before .before .before .before .pre .ready) .few-vertices, (open-of (now (c .before .before .before .before .before .before .before .before .before .before .before .before .before .args .blocks)) (now (c .before .before .before .before .before .before .before .before .before .before .before .before .before .args .loads)) (now (c .before .before .before .before .before .before .before .before .before .before .before .before .before .args .ceilings)) (now (c .before .before .before .before .before .before .before .before .before .before .before .before .before .args .weights)) (c .before .before .before .before .before .before .before .before .before .before .before .before .before .args .n) (c .before .before .before .before .before .before .before .before .before .before .before .before .before .args .k) (c .before .before .before .before .before .before .before .before .before .before .before .before .before .args .u) (c .before .before .before .before .before .before .before .before .before .before .before .before .before .args .t) (sym (c .before .refuses-move .ensures) ∙ c .if1 .left)) .1 .t-in, roomy (c .before .before .before .before .before .before .before .before .before .before .before .before .before .pre .ready) .few-blocks)
 
 slice-copy-out-gain : tie.Need-slice-copy-out-gain
-slice-copy-out-gain c = omega (arith, (open-of (now (c .before .before .before .before .before .before .before .before .before .before .before .before .before .args .blocks)) (now (c .before .before .before .before .before .before .before .before .before .before .before .before .before .args .loads)) (now (c .before .before .before .before .before .before .before .before .before .before .before .before .before .args .weights)) (c .before .before .before .before .before .before .before .before .before .before .before .before .before .args .n) (c .before .before .before .before .before .before .before .before .before .before .before .before .before .args .k) (c .before .before .before .before .before .before .before .before .before .before .before .before .before .args .capacity) (c .before .before .before .before .before .before .before .before .before .before .before .before .before .args .u) (c .before .before .before .before .before .before .before .before .before .before .before .before .before .args .t) (sym (c .before .refuses-move .ensures) ∙ c .if1 .left)) .1 .u-in, roomy (c .before .before .before .before .before .before .before .before .before .before .before .before .before .pre .ready) .few-vertices, (open-of (now (c .before .before .before .before .before .before .before .before .before .before .before .before .before .args .blocks)) (now (c .before .before .before .before .before .before .before .before .before .before .before .before .before .args .loads)) (now (c .before .before .before .before .before .before .before .before .before .before .before .before .before .args .weights)) (c .before .before .before .before .before .before .before .before .before .before .before .before .before .args .n) (c .before .before .before .before .before .before .before .before .before .before .before .before .before .args .k) (c .before .before .before .before .before .before .before .before .before .before .before .before .before .args .capacity) (c .before .before .before .before .before .before .before .before .before .before .before .before .before .args .u) (c .before .before .before .before .before .before .before .before .before .before .before .before .before .args .t) (sym (c .before .refuses-move .ensures) ∙ c .if1 .left)) .1 .t-in, roomy (c .before .before .before .before .before .before .before .before .before .before .before .before .before .pre .ready) .few-blocks, roomy (c .before .before .before .before .before .before .before .before .before .before .before .before .before .pre .ready) .gains-fit)
+slice-copy-out-gain c = omega (arith, (open-of (now (c .before .before .before .before .before .before .before .before .before .before .before .before .before .args .blocks)) (now (c .before .before .before .before .before .before .before .before .before .before .before .before .before .args .loads)) (now (c .before .before .before .before .before .before .before .before .before .before .before .before .before .args .ceilings)) (now (c .before .before .before .before .before .before .before .before .before .before .before .before .before .args .weights)) (c .before .before .before .before .before .before .before .before .before .before .before .before .before .args .n) (c .before .before .before .before .before .before .before .before .before .before .before .before .before .args .k) (c .before .before .before .before .before .before .before .before .before .before .before .before .before .args .u) (c .before .before .before .before .before .before .before .before .before .before .before .before .before .args .t) (sym (c .before .refuses-move .ensures) ∙ c .if1 .left)) .1 .u-in, roomy (c .before .before .before .before .before .before .before .before .before .before .before .before .before .pre .ready) .few-vertices, (open-of (now (c .before .before .before .before .before .before .before .before .before .before .before .before .before .args .blocks)) (now (c .before .before .before .before .before .before .before .before .before .before .before .before .before .args .loads)) (now (c .before .before .before .before .before .before .before .before .before .before .before .before .before .args .ceilings)) (now (c .before .before .before .before .before .before .before .before .before .before .before .before .before .args .weights)) (c .before .before .before .before .before .before .before .before .before .before .before .before .before .args .n) (c .before .before .before .before .before .before .before .before .before .before .before .before .before .args .k) (c .before .before .before .before .before .before .before .before .before .before .before .before .before .args .u) (c .before .before .before .before .before .before .before .before .before .before .before .before .before .args .t) (sym (c .before .refuses-move .ensures) ∙ c .if1 .left)) .1 .t-in, roomy (c .before .before .before .before .before .before .before .before .before .before .before .before .before .pre .ready) .few-blocks, roomy (c .before .before .before .before .before .before .before .before .before .before .before .before .before .pre .ready) .gains-fit)
 
 short-requires : tie.Need-short-requires
-short-requires c κs = omega (arith, (open-of (now (c .before .before .before .before .before .before .before .before .before .before .before .before .before .before .args .blocks)) (now (c .before .before .before .before .before .before .before .before .before .before .before .before .before .before .args .loads)) (now (c .before .before .before .before .before .before .before .before .before .before .before .before .before .before .args .weights)) (c .before .before .before .before .before .before .before .before .before .before .before .before .before .before .args .n) (c .before .before .before .before .before .before .before .before .before .before .before .before .before .before .args .k) (c .before .before .before .before .before .before .before .before .before .before .before .before .before .before .args .capacity) (c .before .before .before .before .before .before .before .before .before .before .before .before .before .before .args .u) (c .before .before .before .before .before .before .before .before .before .before .before .before .before .before .args .t) (sym (c .before .before .refuses-move .ensures) ∙ c .before .if1 .left)) .1 .u-in, roomy (c .before .before .before .before .before .before .before .before .before .before .before .before .before .before .pre .ready) .few-vertices)
+short-requires c κs = omega (arith, (open-of (now (c .before .before .before .before .before .before .before .before .before .before .before .before .before .before .args .blocks)) (now (c .before .before .before .before .before .before .before .before .before .before .before .before .before .before .args .loads)) (now (c .before .before .before .before .before .before .before .before .before .before .before .before .before .before .args .ceilings)) (now (c .before .before .before .before .before .before .before .before .before .before .before .before .before .before .args .weights)) (c .before .before .before .before .before .before .before .before .before .before .before .before .before .before .args .n) (c .before .before .before .before .before .before .before .before .before .before .before .before .before .before .args .k) (c .before .before .before .before .before .before .before .before .before .before .before .before .before .before .args .u) (c .before .before .before .before .before .before .before .before .before .before .before .before .before .before .args .t) (sym (c .before .before .refuses-move .ensures) ∙ c .before .if1 .left)) .1 .u-in, roomy (c .before .before .before .before .before .before .before .before .before .before .before .before .before .before .pre .ready) .few-vertices)
 
 sub-push : tie.Need-sub-push
-sub-push c = omega (arith, (open-of (now (c .before .before .before .before .before .before .before .before .before .before .before .before .before .before .before .args .blocks)) (now (c .before .before .before .before .before .before .before .before .before .before .before .before .before .before .before .args .loads)) (now (c .before .before .before .before .before .before .before .before .before .before .before .before .before .before .before .args .weights)) (c .before .before .before .before .before .before .before .before .before .before .before .before .before .before .before .args .n) (c .before .before .before .before .before .before .before .before .before .before .before .before .before .before .before .args .k) (c .before .before .before .before .before .before .before .before .before .before .before .before .before .before .before .args .capacity) (c .before .before .before .before .before .before .before .before .before .before .before .before .before .before .before .args .u) (c .before .before .before .before .before .before .before .before .before .before .before .before .before .before .before .args .t) (sym (c .before .before .before .refuses-move .ensures) ∙ c .before .before .if1 .left)) .0)
+sub-push c = omega (arith, (open-of (now (c .before .before .before .before .before .before .before .before .before .before .before .before .before .before .before .args .blocks)) (now (c .before .before .before .before .before .before .before .before .before .before .before .before .before .before .before .args .loads)) (now (c .before .before .before .before .before .before .before .before .before .before .before .before .before .before .before .args .ceilings)) (now (c .before .before .before .before .before .before .before .before .before .before .before .before .before .before .before .args .weights)) (c .before .before .before .before .before .before .before .before .before .before .before .before .before .before .before .args .n) (c .before .before .before .before .before .before .before .before .before .before .before .before .before .before .before .args .k) (c .before .before .before .before .before .before .before .before .before .before .before .before .before .before .before .args .u) (c .before .before .before .before .before .before .before .before .before .before .before .before .before .before .before .args .t) (sym (c .before .before .before .refuses-move .ensures) ∙ c .before .before .if1 .left)) .0)
 
 mul-push : tie.Need-mul-push
-mul-push c = omega (arith, (open-of (now (c .before .before .before .before .before .before .before .before .before .before .before .before .before .before .before .args .blocks)) (now (c .before .before .before .before .before .before .before .before .before .before .before .before .before .before .before .args .loads)) (now (c .before .before .before .before .before .before .before .before .before .before .before .before .before .before .before .args .weights)) (c .before .before .before .before .before .before .before .before .before .before .before .before .before .before .before .args .n) (c .before .before .before .before .before .before .before .before .before .before .before .before .before .before .before .args .k) (c .before .before .before .before .before .before .before .before .before .before .before .before .before .before .before .args .capacity) (c .before .before .before .before .before .before .before .before .before .before .before .before .before .before .before .args .u) (c .before .before .before .before .before .before .before .before .before .before .before .before .before .before .before .args .t) (sym (c .before .before .before .refuses-move .ensures) ∙ c .before .before .if1 .left)) .1 .u-in, roomy (c .before .before .before .before .before .before .before .before .before .before .before .before .before .before .before .pre .ready) .few-vertices)
+mul-push c = omega (arith, (open-of (now (c .before .before .before .before .before .before .before .before .before .before .before .before .before .before .before .args .blocks)) (now (c .before .before .before .before .before .before .before .before .before .before .before .before .before .before .before .args .loads)) (now (c .before .before .before .before .before .before .before .before .before .before .before .before .before .before .before .args .ceilings)) (now (c .before .before .before .before .before .before .before .before .before .before .before .before .before .before .before .args .weights)) (c .before .before .before .before .before .before .before .before .before .before .before .before .before .before .before .args .n) (c .before .before .before .before .before .before .before .before .before .before .before .before .before .before .before .args .k) (c .before .before .before .before .before .before .before .before .before .before .before .before .before .before .before .args .u) (c .before .before .before .before .before .before .before .before .before .before .before .before .before .before .before .args .t) (sym (c .before .before .before .refuses-move .ensures) ∙ c .before .before .if1 .left)) .1 .u-in, roomy (c .before .before .before .before .before .before .before .before .before .before .before .before .before .before .before .pre .ready) .few-vertices)
 
 slice-read-push : tie.Need-slice-read-push
-slice-read-push c = omega (arith, (open-of (now (c .before .before .before .before .before .before .before .before .before .before .before .before .before .before .before .before .args .blocks)) (now (c .before .before .before .before .before .before .before .before .before .before .before .before .before .before .before .before .args .loads)) (now (c .before .before .before .before .before .before .before .before .before .before .before .before .before .before .before .before .args .weights)) (c .before .before .before .before .before .before .before .before .before .before .before .before .before .before .before .before .args .n) (c .before .before .before .before .before .before .before .before .before .before .before .before .before .before .before .before .args .k) (c .before .before .before .before .before .before .before .before .before .before .before .before .before .before .before .before .args .capacity) (c .before .before .before .before .before .before .before .before .before .before .before .before .before .before .before .before .args .u) (c .before .before .before .before .before .before .before .before .before .before .before .before .before .before .before .before .args .t) (sym (c .before .before .before .before .refuses-move .ensures) ∙ c .before .before .before .if1 .left)) .1 .u-in, roomy (c .before .before .before .before .before .before .before .before .before .before .before .before .before .before .before .before .pre .ready) .blocks-fit)
+slice-read-push c = omega (arith, (open-of (now (c .before .before .before .before .before .before .before .before .before .before .before .before .before .before .before .before .args .blocks)) (now (c .before .before .before .before .before .before .before .before .before .before .before .before .before .before .before .before .args .loads)) (now (c .before .before .before .before .before .before .before .before .before .before .before .before .before .before .before .before .args .ceilings)) (now (c .before .before .before .before .before .before .before .before .before .before .before .before .before .before .before .before .args .weights)) (c .before .before .before .before .before .before .before .before .before .before .before .before .before .before .before .before .args .n) (c .before .before .before .before .before .before .before .before .before .before .before .before .before .before .before .before .args .k) (c .before .before .before .before .before .before .before .before .before .before .before .before .before .before .before .before .args .u) (c .before .before .before .before .before .before .before .before .before .before .before .before .before .before .before .before .args .t) (sym (c .before .before .before .before .refuses-move .ensures) ∙ c .before .before .before .if1 .left)) .1 .u-in, roomy (c .before .before .before .before .before .before .before .before .before .before .before .before .before .before .before .before .pre .ready) .blocks-fit)
 
 push-requires : tie.Need-push-requires
 push-requires c κs =
@@ -58,17 +58,17 @@ push-requires c κs =
     (roomy (start .pre .ready) .journal-short, roomy (start .pre .ready) .journal-whole .xs-whole, roomy (start .pre .ready) .journal-whole .ys-whole)
 
 sub-go : tie.Need-sub-go
-sub-go c = omega (arith, (open-of (now (c .before .before .before .before .before .before .before .before .before .before .before .before .before .before .before .before .before .before .before .before .before .before .args .blocks)) (now (c .before .before .before .before .before .before .before .before .before .before .before .before .before .before .before .before .before .before .before .before .before .before .args .loads)) (now (c .before .before .before .before .before .before .before .before .before .before .before .before .before .before .before .before .before .before .before .before .before .before .args .weights)) (c .before .before .before .before .before .before .before .before .before .before .before .before .before .before .before .before .before .before .before .before .before .before .args .n) (c .before .before .before .before .before .before .before .before .before .before .before .before .before .before .before .before .before .before .before .before .before .before .args .k) (c .before .before .before .before .before .before .before .before .before .before .before .before .before .before .before .before .before .before .before .before .before .before .args .capacity) (c .before .before .before .before .before .before .before .before .before .before .before .before .before .before .before .before .before .before .before .before .before .before .args .u) (c .before .before .before .before .before .before .before .before .before .before .before .before .before .before .before .before .before .before .before .before .before .before .args .t) (sym (c .before .before .before .before .before .before .before .before .before .before .refuses-move .ensures) ∙ c .before .before .before .before .before .before .before .before .before .if1 .left)) .0)
+sub-go c = omega (arith, (open-of (now (c .before .before .before .before .before .before .before .before .before .before .before .before .before .before .before .before .before .before .before .before .before .before .args .blocks)) (now (c .before .before .before .before .before .before .before .before .before .before .before .before .before .before .before .before .before .before .before .before .before .before .args .loads)) (now (c .before .before .before .before .before .before .before .before .before .before .before .before .before .before .before .before .before .before .before .before .before .before .args .ceilings)) (now (c .before .before .before .before .before .before .before .before .before .before .before .before .before .before .before .before .before .before .before .before .before .before .args .weights)) (c .before .before .before .before .before .before .before .before .before .before .before .before .before .before .before .before .before .before .before .before .before .before .args .n) (c .before .before .before .before .before .before .before .before .before .before .before .before .before .before .before .before .before .before .before .before .before .before .args .k) (c .before .before .before .before .before .before .before .before .before .before .before .before .before .before .before .before .before .before .before .before .before .before .args .u) (c .before .before .before .before .before .before .before .before .before .before .before .before .before .before .before .before .before .before .before .before .before .before .args .t) (sym (c .before .before .before .before .before .before .before .before .before .before .refuses-move .ensures) ∙ c .before .before .before .before .before .before .before .before .before .if1 .left)) .0)
 
 short-requires-2 : tie.Need-short-requires-2
-short-requires-2 c κs = omega (arith, (open-of (now (c .before .before .before .before .before .before .before .before .before .before .before .before .before .before .before .before .before .before .before .before .before .before .args .blocks)) (now (c .before .before .before .before .before .before .before .before .before .before .before .before .before .before .before .before .before .before .before .before .before .before .args .loads)) (now (c .before .before .before .before .before .before .before .before .before .before .before .before .before .before .before .before .before .before .before .before .before .before .args .weights)) (c .before .before .before .before .before .before .before .before .before .before .before .before .before .before .before .before .before .before .before .before .before .before .args .n) (c .before .before .before .before .before .before .before .before .before .before .before .before .before .before .before .before .before .before .before .before .before .before .args .k) (c .before .before .before .before .before .before .before .before .before .before .before .before .before .before .before .before .before .before .before .before .before .before .args .capacity) (c .before .before .before .before .before .before .before .before .before .before .before .before .before .before .before .before .before .before .before .before .before .before .args .u) (c .before .before .before .before .before .before .before .before .before .before .before .before .before .before .before .before .before .before .before .before .before .before .args .t) (sym (c .before .before .before .before .before .before .before .before .before .before .refuses-move .ensures) ∙ c .before .before .before .before .before .before .before .before .before .if1 .left)) .1 .t-in, roomy (c .before .before .before .before .before .before .before .before .before .before .before .before .before .before .before .before .before .before .before .before .before .before .pre .ready) .few-blocks)
+short-requires-2 c κs = omega (arith, (open-of (now (c .before .before .before .before .before .before .before .before .before .before .before .before .before .before .before .before .before .before .before .before .before .before .args .blocks)) (now (c .before .before .before .before .before .before .before .before .before .before .before .before .before .before .before .before .before .before .before .before .before .before .args .loads)) (now (c .before .before .before .before .before .before .before .before .before .before .before .before .before .before .before .before .before .before .before .before .before .before .args .ceilings)) (now (c .before .before .before .before .before .before .before .before .before .before .before .before .before .before .before .before .before .before .before .before .before .before .args .weights)) (c .before .before .before .before .before .before .before .before .before .before .before .before .before .before .before .before .before .before .before .before .before .before .args .n) (c .before .before .before .before .before .before .before .before .before .before .before .before .before .before .before .before .before .before .before .before .before .before .args .k) (c .before .before .before .before .before .before .before .before .before .before .before .before .before .before .before .before .before .before .before .before .before .before .args .u) (c .before .before .before .before .before .before .before .before .before .before .before .before .before .before .before .before .before .before .before .before .before .before .args .t) (sym (c .before .before .before .before .before .before .before .before .before .before .refuses-move .ensures) ∙ c .before .before .before .before .before .before .before .before .before .if1 .left)) .1 .t-in, roomy (c .before .before .before .before .before .before .before .before .before .before .before .before .before .before .before .before .before .before .before .before .before .before .pre .ready) .few-blocks)
 
 go-requires : tie.Need-go-requires
 go-requires c κs =
     let at-if1 = c .before .before .before .before .before .before .before .before .before .before in
     let at-refuses-move = at-if1 .before in
     let start = at-refuses-move .before .before .before .before .before .before .before .before .before .before .before .before in
-    record { aboves = start .pre .aboves; loaded = start .pre .loaded; goes = goes-as (start .pre .ready) ((open-of (now (start .args .blocks)) (now (start .args .loads)) (now (start .args .weights)) (start .args .n) (start .args .k) (start .args .capacity) (start .args .u) (start .args .t) (sym (at-refuses-move .refuses-move .ensures) ∙ at-if1 .if1 .left)) .1) (c .short2 .ensures) }
+    record { aboves = start .pre .aboves; loaded = start .pre .loaded; goes = goes-as (start .pre .ready) ((open-of (now (start .args .blocks)) (now (start .args .loads)) (now (start .args .ceilings)) (now (start .args .weights)) (start .args .n) (start .args .k) (start .args .u) (start .args .t) (sym (at-refuses-move .refuses-move .ensures) ∙ at-if1 .if1 .left)) .1) (c .short2 .ensures) }
 
 same-length-2 : tie.Need-same-length-2
 same-length-2 c = search needs
@@ -91,7 +91,7 @@ returns-2 c =
     let at-if1 = at-short .before .before in
     let at-refuses-move = at-if1 .before in
     let start = at-refuses-move .before .before .before .before .before .before .before .before .before .before .before .before in
-    λ aboves loaded S h q. accepted-M h _ _ _ _ _ (start .args .capacity) (start .args .u) (start .args .t) (at-short2 .short2 .result) _ q (sym (at-refuses-move .refuses-move .ensures) ∙ at-if1 .if1 .left) (at-short2 .short2 .ensures) (at-go .go .ensures aboves loaded) (roomy (start .pre .ready) .journal-short) refl (pushed-as (at-push .push .ensures) (at-short .short .ensures) refl) _ (read32 _ (gain-small (start .pre .ready .runs .sound) ((open-of (now (start .args .blocks)) (now (start .args .loads)) (now (start .args .weights)) (start .args .n) (start .args .k) (start .args .capacity) (start .args .u) (start .args .t) (sym (at-refuses-move .refuses-move .ensures) ∙ at-if1 .if1 .left)) .1)))
+    λ aboves loaded S h ceiling q. accepted-M h _ _ _ _ _ (now (start .args .ceilings)) (start .args .u) (start .args .t) (at-short2 .short2 .result) _ (sym (at-refuses-move .refuses-move .ensures) ∙ at-if1 .if1 .left) (at-short2 .short2 .ensures) (at-go .go .ensures aboves loaded) (roomy (start .pre .ready) .journal-short) refl (pushed-as (at-push .push .ensures) (at-short .short .ensures) refl) q _ (read32 _ (gain-small (start .pre .ready .runs .sound) ((open-of (now (start .args .blocks)) (now (start .args .loads)) (now (start .args .ceilings)) (now (start .args .weights)) (start .args .n) (start .args .k) (start .args .u) (start .args .t) (sym (at-refuses-move .refuses-move .ensures) ∙ at-if1 .if1 .left)) .1)))
 
 pub call-move-spec : {M : Type 1} → statement M
 call-move-spec =

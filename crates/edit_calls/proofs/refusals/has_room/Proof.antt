@@ -1,7 +1,7 @@
 use native.Mathlib.Omega.{arith}
 use denote.Ref.{now}
 use borrow.Author.Needs.{needs}
-use Rattle.edit_calls.specs.Refusal.{room-no, room-some}
+use Rattle.guarantees.specs.Caps.{room-none, room-some}
 use Rattle.edit_calls.proofs.refusals.has_room.Statement.{statement}
 use Rattle.edit_calls.proofs.refusals.has_room.Tie as tie
 use Prim.Native.Nat.{_-_}
@@ -20,7 +20,7 @@ cast-w : tie.Need-cast-w
 cast-w c = omega (arith, c .shared-slice-known .given (c .before .args .u - 1))
 
 returns : tie.Need-returns
-returns c = room-no (getD (now (c .before .before .args .loads)) (c .before .before .args .t - 1) 0) (getD (now (c .before .before .args .weights)) (c .before .before .args .u - 1) 0) (c .before .before .args .capacity) (c .if1 .taken)
+returns c = room-none (getD (now (c .before .before .before .args .loads)) (c .before .before .before .args .t - 1) 0) (getD (now (c .before .before .before .args .weights)) (c .before .before .before .args .u - 1) 0) (getD (now (c .before .before .before .args .ceilings)) (c .before .before .before .args .t - 1) 0) (c .if1 .taken)
 
 sub-result : tie.Need-sub-result
 sub-result c = search needs
@@ -33,8 +33,17 @@ element-copy-out-result c = search needs
 
 returns-2 : tie.Need-returns-2
 returns-2 c =
-    let start = c .before .before .before in
-    room-some (getD (now (start .args .loads)) (start .args .t - 1) 0) (getD (now (start .args .weights)) (start .args .u - 1) 0) (start .args .capacity) (c .before .if1 .left)
+    let start = c .before .before .before .before in
+    room-some (getD (now (start .args .loads)) (start .args .t - 1) 0) (getD (now (start .args .weights)) (start .args .u - 1) 0) (getD (now (start .args .ceilings)) (start .args .t - 1) 0) (c .before .if1 .left)
+
+sub-ceiling : tie.Need-sub-ceiling
+sub-ceiling c = omega arith
+
+mul-ceiling : tie.Need-mul-ceiling
+mul-ceiling c = omega arith
+
+element-copy-out-ceiling : tie.Need-element-copy-out-ceiling
+element-copy-out-ceiling c = search needs
 
 pub has-room-spec : {M : Type 1} → statement M
 has-room-spec =
@@ -44,6 +53,9 @@ has-room-spec =
     mul-w
     shared-slice-read-w
     cast-w
+    sub-ceiling
+    mul-ceiling
+    element-copy-out-ceiling
     returns
     sub-result
     mul-result

@@ -12,7 +12,7 @@ both-known-requires c κs = search needs
 returns : tie.Need-returns
 returns c =
     let start = c .before .before .before .before in
-    move-9 (now (start .args .blocks)) (now (start .args .loads)) (now (start .args .weights)) (start .args .n) (start .args .k) (start .args .capacity) (start .args .u) (start .args .t) (c .before .both-known .ensures) (c .if1 .taken)
+    move-9 (now (start .args .blocks)) (now (start .args .loads)) (now (start .args .ceilings)) (now (start .args .weights)) (start .args .n) (start .args .k) (start .args .u) (start .args .t) (c .before .both-known .ensures) (c .if1 .taken)
 
 is-here-requires : tie.Need-is-here-requires
 is-here-requires c κs = omega (arith, known-range (c .before .before .before .before .args .n) (c .before .before .before .before .args .u) (c .before .before .before .before .args .k) (c .before .before .before .before .args .t) (c .before .both-known .ensures) (c .if1 .left))
@@ -21,7 +21,7 @@ returns-2 : tie.Need-returns-2
 returns-2 c =
     let at-both-known = c .before .before .before in
     let start = at-both-known .before .before .before in
-    move-10 (now (start .args .blocks)) (now (start .args .loads)) (now (start .args .weights)) (start .args .n) (start .args .k) (start .args .capacity) (start .args .u) (start .args .t) (at-both-known .both-known .ensures) (c .before .before .if1 .left) (c .before .is-here .ensures) (c .if2 .taken)
+    move-10 (now (start .args .blocks)) (now (start .args .loads)) (now (start .args .ceilings)) (now (start .args .weights)) (start .args .n) (start .args .k) (start .args .u) (start .args .t) (at-both-known .both-known .ensures) (c .before .before .if1 .left) (c .before .is-here .ensures) (c .if2 .taken)
 
 sub-if3 : tie.Need-sub-if3
 sub-if3 c = omega (arith, known-range (c .before .before .before .before .before .before .args .n) (c .before .before .before .before .before .before .args .u) (c .before .before .before .before .before .before .args .k) (c .before .before .before .before .before .before .args .t) (c .before .before .before .both-known .ensures) (c .before .before .if1 .left))
@@ -41,7 +41,7 @@ returns-3 c =
     let at-if1 = at-is-here .before in
     let at-both-known = at-if1 .before in
     let start = at-both-known .before .before .before in
-    move-12 (now (start .args .blocks)) (now (start .args .loads)) (now (start .args .weights)) (start .args .n) (start .args .k) (start .args .capacity) (start .args .u) (start .args .t) (at-both-known .both-known .ensures) (at-if1 .if1 .left) (at-is-here .is-here .ensures) (c .before .before .if2 .left) (c .if3 .taken)
+    move-12 (now (start .args .blocks)) (now (start .args .loads)) (now (start .args .ceilings)) (now (start .args .weights)) (start .args .n) (start .args .k) (start .args .u) (start .args .t) (at-both-known .both-known .ensures) (at-if1 .if1 .left) (at-is-here .is-here .ensures) (c .before .before .if2 .left) (c .if3 .taken)
 
 has-room-requires : tie.Need-has-room-requires
 has-room-requires c κs = omega (arith, known-range (c .before .before .before .before .before .before .before .before .args .n) (c .before .before .before .before .before .before .before .before .args .u) (c .before .before .before .before .before .before .before .before .args .k) (c .before .before .before .before .before .before .before .before .args .t) (c .before .before .before .before .before .both-known .ensures) (c .before .before .before .before .if1 .left))
@@ -53,7 +53,7 @@ returns-4 c =
     let at-if1 = at-is-here .before in
     let at-both-known = at-if1 .before in
     let start = at-both-known .before .before .before in
-    move-14 (now (start .args .blocks)) (now (start .args .loads)) (now (start .args .weights)) (start .args .n) (start .args .k) (start .args .capacity) (start .args .u) (start .args .t) (at-both-known .both-known .ensures) (at-if1 .if1 .left) (at-is-here .is-here .ensures) (at-if2 .if2 .left) (c .before .before .if3 .left) (c .before .has-room .ensures) (c .if4 .taken)
+    move-14 (now (start .args .blocks)) (now (start .args .loads)) (now (start .args .ceilings)) (now (start .args .weights)) (start .args .n) (start .args .k) (start .args .u) (start .args .t) (at-both-known .both-known .ensures) (at-if1 .if1 .left) (at-is-here .is-here .ensures) (at-if2 .if2 .left) (c .before .before .if3 .left) (c .before .has-room .ensures) (c .if4 .taken)
 
 returns-5 : tie.Need-returns-5
 returns-5 c =
@@ -62,7 +62,7 @@ returns-5 c =
     let at-if1 = at-is-here .before in
     let at-both-known = at-if1 .before in
     let start = at-both-known .before .before .before in
-    move-0 (now (start .args .blocks)) (now (start .args .loads)) (now (start .args .weights)) (start .args .n) (start .args .k) (start .args .capacity) (start .args .u) (start .args .t) (at-both-known .both-known .ensures) (at-if1 .if1 .left) (at-is-here .is-here .ensures) (at-if2 .if2 .left) (c .before .before .if3 .left) (c .before .has-room .ensures) (c .if4 .left)
+    move-0 (now (start .args .blocks)) (now (start .args .loads)) (now (start .args .ceilings)) (now (start .args .weights)) (start .args .n) (start .args .k) (start .args .u) (start .args .t) (at-both-known .both-known .ensures) (at-if1 .if1 .left) (at-is-here .is-here .ensures) (at-if2 .if2 .left) (c .before .before .if3 .left) (c .before .has-room .ensures) (c .if4 .left)
 
 pub refuses-move-spec : {M : Type 1} → statement M
 refuses-move-spec =

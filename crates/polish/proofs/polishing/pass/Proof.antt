@@ -24,7 +24,7 @@ index-requires : tie.Need-index-requires
 index-requires c κs = search needs
 
 sub-x : tie.Need-sub-x
-sub-x c = omega (arith, pass-in (c .before .before .before .before .before .before .before .before .before .before .before .before .before .before .before .before .before .before .before .pre .0) (c .before .before .before .before .before .before .before .before .before .before .before .before .before .before .before .before .before .before .before .args .capacity) _ _ (c .before .before .before .before .next-rise .ensures) (c .before .before .vertex .given .1), c .index .ensures)
+sub-x c = omega (arith, pass-in (c .before .before .before .before .before .before .before .before .before .before .before .before .before .before .before .before .before .before .before .pre .0) (now (c .before .before .before .before .before .before .before .before .before .before .before .before .before .before .before .before .before .before .before .args .ceilings)) _ _ (c .before .before .before .before .next-rise .ensures) (c .before .before .vertex .given .1), c .index .ensures)
 
 shift-requires : tie.Need-shift-requires
 shift-requires c κs =
@@ -34,7 +34,7 @@ shift-requires c κs =
     let start-2 = at-next-rise .before .before .before .before .before .before .before .before .before .before .before .before .before .before .before in
     let start = start-2 .pre in
     let is = at-index .index in
-    (pass-goes (start .0) (start-2 .args .capacity) _ _ (at-next-rise .next-rise .ensures) (at-vertex .vertex .given .1) (is .result - 1) (ap (λ (z : ℕ). z - 1) (is .ensures)), start .1)
+    (pass-goes (start .0) (now (start-2 .args .ceilings)) _ _ (at-next-rise .next-rise .ensures) (at-vertex .vertex .given .1) (is .result - 1) (ap (λ (z : ℕ). z - 1) (is .ensures)), start .1)
 
 sub-t44 : tie.Need-sub-t44
 sub-t44 c = omega (arith, c .before .before .before .before .before .before .before .before .before .before .before .before .before .before .before .before .before .before .before .before .before .before .before .before .before .before .before .before .before .before .before .before .before .before .pre .0 .some)
@@ -73,7 +73,7 @@ returns-2 c =
     let found = c .before .before .before .before .before .before .before .before .before .before .before .before .before .before .before .before .before .before .before .before .next-rise .ensures in
     let pair = c .before .before .before .before .before .before .before .before .before .before .before .before .before .before .before .before .before .before .vertex .given .1 in
     let moved = c .before .before .before .before .before .before .before .before .before .shift .ensures in (
-      λ aboves loaded. pass-move _ _ _ _ (is .result - 1) _ _ (start .0 .some) refl found pair (omega (arith, pass-in (start .0) (c .before .before .before .before .before .before .before .before .before .before .before .before .before .before .before .before .before .before .before .before .before .before .before .before .before .before .before .before .before .before .before .before .before .before .before .args .capacity) _ _ found pair, is .ensures)) (moved .0 aboves loaded),
+      λ aboves loaded. pass-move _ _ _ _ (is .result - 1) _ _ (start .0 .some) refl found pair (omega (arith, pass-in (start .0) (now (c .before .before .before .before .before .before .before .before .before .before .before .before .before .before .before .before .before .before .before .before .before .before .before .before .before .before .before .before .before .before .before .before .before .before .before .args .ceilings)) _ _ found pair, is .ensures)) (moved .0 aboves loaded),
       moved .1,
     )
 

@@ -11,14 +11,14 @@ use Rattle.polish.proofs.polishing.polish.Statement.{statement}
 use Rattle.polish.proofs.polishing.polish.Tie as tie
 
 abbrev Inv-loop : tie.InvT-loop
-Inv-loop counts₀ visited₀ gains₀ blocks₀ loads₀ pins sizes bits weights netweights firsts n m k capacity total marks peaks₀ p₀ counts visited gains blocks loads peaks p =
+Inv-loop counts₀ visited₀ gains₀ blocks₀ loads₀ pins sizes bits weights netweights firsts ceilings n m k total marks peaks₀ p₀ counts visited gains blocks loads peaks p =
     (p .moves + p .left ≤ total)
-    × ((aboves loaded : List ℕ) → Passing (lent counts₀ visited₀ gains₀ blocks₀ loads₀ pins sizes bits weights netweights firsts n m k total aboves loaded) marks capacity (lent counts visited gains blocks loads pins sizes bits weights netweights firsts n m k (p .total) aboves loaded) (p .left) (p .moves))
+    × ((aboves loaded : List ℕ) → Passing (lent counts₀ visited₀ gains₀ blocks₀ loads₀ pins sizes bits weights netweights firsts n m k total aboves loaded) marks ceilings (lent counts visited gains blocks loads pins sizes bits weights netweights firsts n m k (p .total) aboves loaded) (p .left) (p .moves))
     × Peaked gains peaks n k
     × (length counts ≡ length counts₀) × (length visited ≡ length visited₀) × (length gains ≡ length gains₀) × (length blocks ≡ length blocks₀)
 
 abbrev μ-loop : tie.MeasureT-loop
-μ-loop counts₀ visited₀ gains₀ blocks₀ loads₀ pins sizes bits weights netweights firsts n m k capacity total marks peaks₀ p₀ counts visited gains blocks loads peaks p = p .left
+μ-loop counts₀ visited₀ gains₀ blocks₀ loads₀ pins sizes bits weights netweights firsts ceilings n m k total marks peaks₀ p₀ counts visited gains blocks loads peaks p = p .left
 
 mark-board-requires : tie.Need-mark-board-requires Inv-loop μ-loop
 mark-board-requires c κs =

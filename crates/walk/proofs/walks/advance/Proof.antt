@@ -26,7 +26,7 @@ make-move-requires c κs =
     let at-next-move = at-vertex .before .before in
     let start-2 = at-next-move .before .before .before .before .before .before .before .before .before .before .before .before .before .before .before in
     let start = start-2 .pre in
-    (take-asks (start .0) _ _ (at-next-move .next-move .ensures) (at-vertex .vertex .given .1), start .1)
+    (take-asks (now (start-2 .args .ceilings)) (start .0) _ _ (at-next-move .next-move .ensures) (at-vertex .vertex .given .1), start .1)
 
 same-length : tie.Need-same-length
 same-length c = search needs

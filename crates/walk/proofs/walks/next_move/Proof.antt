@@ -11,7 +11,7 @@ returns : tie.Need-returns
 returns c =
     let start = c .before .before .before in
     let a = start .args in
-    next-stop (now (a .gains)) (now (a .blocks)) (now (a .weights)) (now (a .loads)) (now (a .marks)) (a .n) (a .k) (a .capacity) (a .tried) (a .kept) (c .if1 .taken)
+    next-stop (now (a .gains)) (now (a .blocks)) (now (a .weights)) (now (a .loads)) (now (a .ceilings)) (now (a .marks)) (a .n) (a .k) (a .tried) (a .kept) (c .if1 .taken)
 
 best-open-requires : tie.Need-best-open-requires
 best-open-requires c κs = search needs
@@ -20,7 +20,7 @@ returns-2 : tie.Need-returns-2
 returns-2 c =
     let start = c .before .before .before .before .before in
     let a = start .args in
-    next-best (now (a .gains)) (now (a .blocks)) (now (a .weights)) (now (a .loads)) (now (a .marks)) (a .n) (a .k) (a .capacity) (a .tried) (a .kept) _ (c .before .before .if1 .left) (c .best-open .ensures)
+    next-best (now (a .gains)) (now (a .blocks)) (now (a .weights)) (now (a .loads)) (now (a .ceilings)) (now (a .marks)) (a .n) (a .k) (a .tried) (a .kept) _ (c .before .before .if1 .left) (c .best-open .ensures)
 
 pub next-move-spec : {M : Type 1} → statement M
 next-move-spec = tie.close (tie.spec add-if1 returns best-open-requires returns-2)
