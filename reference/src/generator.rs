@@ -92,10 +92,12 @@ pub enum Kind {
     BadCalls,
     /// Hundreds of lots and some calls of A, P and W.
     Large,
+    /// A cap that is an exact half before it is rounded, and sessions near it.
+    HalfCaps,
 }
 
 /// All kinds with the names that the program takes.
-pub const KINDS: [(&str, Kind); 19] = [
+pub const KINDS: [(&str, Kind); 20] = [
     ("mixed", Kind::Mixed),
     ("one-lot", Kind::OneLot),
     ("no-buyers", Kind::NoBuyers),
@@ -115,6 +117,7 @@ pub const KINDS: [(&str, Kind); 19] = [
     ("many-calls", Kind::ManyCalls),
     ("bad-calls", Kind::BadCalls),
     ("large", Kind::Large),
+    ("half-caps", Kind::HalfCaps),
 ];
 
 /// An accepted sale of a kind that the seed settles; mostly a small one.
@@ -123,10 +126,12 @@ pub fn sale(seed: u64) -> Vec<u8> {
     let kind = if random.in_hundred(40) {
         Kind::Mixed
     } else {
-        // The last kind is large, so only one draw in a hundred may give it.
-        let last = if random.in_hundred(1) { 1 } else { 2 };
-        KINDS[random.between(0, KINDS.len() as u64 - last) as usize].1
+        random.pick(&KINDS).1
     };
+    // A large sale takes long, so only one draw of it in a hundred stands.
+    if kind == Kind::Large && !random.in_hundred(1) {
+        return sale_of_kind(seed, Kind::Mixed);
+    }
     sale_of_kind(seed, kind)
 }
 
@@ -215,14 +220,28 @@ fn catalogue(random: &mut Random, kind: Kind) -> Catalogue {
         sessions,
         slack: match kind {
             Kind::Tight => 0,
+            Kind::HalfCaps => 500,
             Kind::Walks | Kind::Rounds => random.between(100, 1_000),
             _ => *random.pick(&[0, 20, 100, 200, 500, 999, 1_000]),
         },
         lots,
         buyers,
     };
+    if kind == Kind::HalfCaps {
+        half_the_cap(random, &mut made);
+    }
     settle_draft(&mut made);
     made
+}
+
+/// Few bales to a lot and an odd even share, so that slack 500 gives an exact half.
+fn half_the_cap(random: &mut Random, made: &mut Catalogue) {
+    for lot in &mut made.lots {
+        lot.bales = random.between(1, 3);
+    }
+    while measure::fair_share(made).is_multiple_of(2) {
+        made.lots[0].bales += 1;
+    }
 }
 
 /// Changes sessions, and bales if need be, until no session is above the cap.

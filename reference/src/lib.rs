@@ -1,4 +1,4 @@
-//! A second reading of document 01, kept plain: every number is worked out afresh from the
+//! A second reading of documents 01 and 02, kept plain: every number is worked out afresh from the
 //! catalogue, the stack of joins and the sessions, and no table is carried along.
 //! Rests on the standard library alone.
 

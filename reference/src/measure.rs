@@ -9,9 +9,17 @@ pub fn fair_share(catalogue: &Catalogue) -> u64 {
     all.div_ceil(catalogue.sessions as u64)
 }
 
-/// The cap of every session.
+/// The cap of every session: (1,000 + slack) × ⌈W/k⌉ / 1,000 to the nearest bale, an exact half
+/// to the even number.
 pub fn cap(catalogue: &Catalogue) -> u64 {
-    (1_000 + catalogue.slack) * fair_share(catalogue) / 1_000
+    let thousandths = (1_000 + catalogue.slack) * fair_share(catalogue);
+    let (whole, rest) = (thousandths / 1_000, thousandths % 1_000);
+    let even = whole % 2 == 0;
+    if rest < 500 || (rest == 500 && even) {
+        whole
+    } else {
+        whole + 1
+    }
 }
 
 /// Whether the draft has a session above the cap.

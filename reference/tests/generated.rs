@@ -4,8 +4,8 @@
 
 use std::collections::BTreeSet;
 
-use reference::generator::{calls, damaged, sale, sale_of_kind, KINDS};
-use reference::measure::{cap, View};
+use reference::generator::{calls, damaged, sale, sale_of_kind, Kind, KINDS};
+use reference::measure::{cap, fair_share, View};
 use reference::report::answer_line;
 use reference::{parse, parse_within, run, run_calls, tables_after};
 use reference::{Answer, Call, Catalogue, Limits, Machine, Tables};
@@ -28,6 +28,21 @@ fn every_kind_is_accepted() {
             assert!(parse(&file).is_ok(), "{name} {seed}");
         }
     }
+}
+
+#[test]
+fn sales_of_half_caps_have_them() {
+    let mut halves = 0;
+    for seed in 0..50 {
+        let file = sale_of_kind(seed, Kind::HalfCaps);
+        let catalogue = parse(&file)
+            .expect("a generated sale is accepted")
+            .catalogue;
+        let thousandths = (1_000 + catalogue.slack) * fair_share(&catalogue);
+        halves += usize::from(thousandths % 1_000 == 500);
+    }
+    // A draft that had to be settled may have got another slack.
+    assert!(halves > 40);
 }
 
 #[test]

@@ -31,11 +31,40 @@ fn starred_cases() {
     assert_eq!(View::of(&standing, &machine.sessions).gain(2, 2), 0);
 }
 
+/// The cap of a sale of two sessions with the given bales and slack.
+fn cap_of(bales: u64, slack: u64) -> u64 {
+    let half = bales / 2;
+    let file = format!("SALE,2,0,2,{slack}\nLOT,{half},1\nLOT,{},2\n", bales - half);
+    let sale = parse(file.as_bytes()).expect("the draft is within the cap");
+    cap(&sale.catalogue)
+}
+
 #[test]
 fn starred_cap_of_51_bales() {
-    let file = b"SALE,2,0,2,100\nLOT,28,1\nLOT,23,2\n";
-    let sale = parse(file).expect("the draft is within the cap");
-    assert_eq!(cap(&sale.catalogue), 28);
+    assert_eq!(cap_of(51, 100), 29);
+}
+
+#[test]
+fn a_cap_goes_to_the_nearest_bale_and_a_half_to_the_even_number() {
+    // 26 at slack 90 is 28.34, 26 at 250 is 32.5, 25 at 340 is 33.5.
+    assert_eq!(cap_of(51, 90), 28);
+    assert_eq!(cap_of(52, 250), 32);
+    assert_eq!(cap_of(50, 340), 34);
+    assert_eq!(cap_of(51, 0), 26);
+    assert_eq!(cap_of(51, 1_000), 52);
+}
+
+#[test]
+fn a_cap_lies_between_the_even_share_and_twice_that_and_never_falls() {
+    for slack in 0..=1_000 {
+        let mut before = 0;
+        for share in 1..=60 {
+            let found = cap_of(2 * share, slack);
+            assert!(share <= found && found <= 2 * share);
+            assert!(before <= found);
+            before = found;
+        }
+    }
 }
 
 #[test]

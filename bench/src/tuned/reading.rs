@@ -177,7 +177,10 @@ impl Catalogue {
         }
         self.average = all.div_ceil(self.blocks as u32);
         // The product passes 32 bits.
-        self.capacity = (u64::from(1_000 + slack) * u64::from(self.average) / 1_000) as u32;
+        let thousandths = u64::from(1_000 + slack) * u64::from(self.average);
+        let (whole, rest) = (thousandths / 1_000, thousandths % 1_000);
+        let up = rest > 500 || rest == 500 && whole % 2 == 1;
+        self.capacity = whole as u32 + u32::from(up);
         Ok(())
     }
 

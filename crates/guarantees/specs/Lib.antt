@@ -11,7 +11,8 @@
 --    No definition stops for want of fuel: Fuel (walk-rests, polish-rests, coarsen-rests, climb-rests, digits-fuel).
 -- 5. When an accepted A ends, under any ceiling, no single move with room lowers the metric: Optimum (A-best; P-best for P).
 -- 6. An accepted file is within every range of document 01: Ranges (accepted-ranges, accepted-book).
--- 7. Bounds for the code: ReachedBounds (reached-bounds), SearchBounds (walk-counts, refine-counts, polish-count), AnswerBounds (bounded-call),
+-- 7. The cap is between ⌈W/k⌉ and twice that, and does not fall where W grows: Capacity (average-capacity, capacity-twice, capacity-grows).
+--    Bounds for the code: ReachedBounds (reached-bounds), SearchBounds (walk-counts, refine-counts, polish-count), AnswerBounds (bounded-call),
 --    Stretches (size-le, size-fresh, stretch-le, marks-le). The report fits into the lent output: ReportFits (report-fits), whatever the file:
 --    Refusals (engine-fits).
 -- 8. Demand 3's machine half, one theorem about the whole list: MachineHalf (machine-half).
@@ -39,6 +40,7 @@ pub mod Optimum
 pub mod Ranges
 pub mod Numbers
 pub mod Bounds
+pub mod Capacity
 pub mod WeightBounds
 pub mod SearchBounds
 pub mod StateBounds

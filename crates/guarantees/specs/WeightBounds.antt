@@ -13,6 +13,7 @@ use Rattle.laws.specs.Fold.{sumOver, sumOver-le}
 use Rattle.laws.specs.Sum.{sumTo, sumTo-list, sumTo-mono, sumTo-swap, sumTo-once}
 use Rattle.model.specs.Catalogue.{Limits, Hypergraph, vertices, loaded, averageWeight, capacity}
 use Rattle.model.specs.Measure.{Contraction, onBoard, representative, weight, blockWeight}
+use Rattle.guarantees.specs.Capacity.{nearest-le}
 use Rattle.guarantees.specs.Ranges.{Ranges}
 
 module _ (h : Hypergraph) where
@@ -76,4 +77,4 @@ module _ (limits : Limits) (small : limits .vertexLimit ≤ 1024) (h : Hypergrap
 
   pub capacity-le : capacity h ≤ 67107840
   unfolding capacity
-  capacity-le = omega (arith, product-le)
+  capacity-le = nearest-le ((1000 + h .imbalance) * averageWeight h) 67107840 (omega (arith, product-le))

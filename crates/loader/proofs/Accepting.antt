@@ -11,7 +11,7 @@ use lib.Seq.{length-take-le, getD-take}
 use Rattle.laws.specs.Fold.{sumOver, sumOver-le}
 use Rattle.laws.specs.Occurrence.{occ}
 use Rattle.laws.specs.Choice.{one}
-use Rattle.model.specs.Catalogue.{Limits, Hypergraph, vertices, drafted, capacity, capacities}
+use Rattle.model.specs.Catalogue.{Limits, Hypergraph, vertices, drafted, nearest, capacity, capacities}
 use Rattle.model.specs.Measure.{pin, size, weight}
 use Rattle.model.specs.Machine.{fresh}
 use Rattle.model.specs.Grammar.{Book, reading, parse}
@@ -141,7 +141,7 @@ module _ (limits : Limits) (file : List ℕ) (l b k t m n : ℕ) (w₀ d₀ a₀
       unfolding fresh
       capped = held-start limits file k′ (sym says) .capped
 
-      pub accepted : (s : Sizes) → s ≡ sizesOf l b k t m n (averageOf k (take l w)) ((1000 + t) * averageOf k (take l w) / 1000)
+      pub accepted : (s : Sizes) → s ≡ sizesOf l b k t m n (averageOf k (take l w)) (nearest ((1000 + t) * averageOf k (take l w)))
           → Loads limits file (Accepted s) (lists w₀ d₀ a₀ lp₀ pp₀ f₀ c₀ pc₀) (lists w d a lp pp f c pc) nw calls
       accepted s e = record {
         says = rw e says;

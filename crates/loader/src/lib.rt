@@ -1,9 +1,10 @@
 // Loads a sale file into lent tables, or says its first refusal.
 use reader::Outcome;
 ghost use mathlib.Core.Path.{_≡_};
-ghost use Prim.Native.Nat.{_+_, _*_, _/_, _≤_};
+ghost use Prim.Native.Nat.{_+_, _*_, _≤_};
 ghost use lib.Dec.{ltb};
 ghost use lib.ListN.{length, getD, take};
+ghost use Rattle.model.specs.Catalogue.{nearest};
 ghost use Rattle.model.specs.Memory.{Filled};
 ghost use Rattle.model.specs.Lent.{lists};
 ghost use Rattle.lines.specs.Line.{limitsOf};
@@ -82,7 +83,7 @@ fn measure(
     calls: usize,
 ) -> Sizes
     requires { ⌜ (vertices ≤ 1024) × (vertices ≤ length (now weights)) × (1 ≤ blocks) × (blocks ≤ 16) × (imbalance ≤ 1000) × (averageOf blocks (take vertices (now weights)) ≤ 67107871) ⌝ }
-    ensures { λ r. ⌜ r ≡ sizesOf vertices nets blocks imbalance pins calls (averageOf blocks (take vertices (now (weights .entry)))) ((1000 + imbalance) * averageOf blocks (take vertices (now (weights .entry))) / 1000) ⌝ }
+    ensures { λ r. ⌜ r ≡ sizesOf vertices nets blocks imbalance pins calls (averageOf blocks (take vertices (now (weights .entry)))) (nearest ((1000 + imbalance) * averageOf blocks (take vertices (now (weights .entry))))) ⌝ }
 {
     let average = reader::average_weight(weights, vertices as usize, blocks);
     let capacity = reader::capacity(average, imbalance);

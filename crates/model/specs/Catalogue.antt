@@ -1,8 +1,8 @@
 -- The loaded catalogue as a hypergraph with a first partition, the limits of an entry, and the capacity. Assumes nothing.
-use Prim.Native.Nat.{ℕ, _+_, _-_, _*_, _/_}
-use mathlib.Core.Bool.{Bool, _&&_}
+use Prim.Native.Nat.{ℕ, _+_, _-_, _*_, _/_, _%_}
+use mathlib.Core.Bool.{Bool, cond, _&&_}
 use mathlib.Core.List.{List}
-use lib.Dec.{leb}
+use lib.Dec.{eqb, leb, ltb}
 use lib.ListN.{length, getD}
 
 -- the limits of an entry: how many lots and how many sessions a catalogue may have
@@ -54,9 +54,16 @@ isBlock h b = leb 1 b && leb b (h .blocks)
 unfoldable pub averageWeight : Hypergraph → ℕ
 averageWeight h = (h .totalWeight + (h .blocks - 1)) / h .blocks
 
--- cap: (1,000 + slack) × ⌈W/k⌉ / 1,000, rounded down
+-- so many thousandths to the nearest whole number; an exact half goes to the even one
+unfoldable pub nearest : ℕ → ℕ
+nearest x =
+    let whole : ℕ = x / 1000 in
+    let rest : ℕ = x % 1000 in
+    cond (ltb rest 500) whole (cond (eqb rest 500) (whole + whole % 2) (whole + 1))
+
+-- cap: (1,000 + slack) × ⌈W/k⌉ / 1,000 to the nearest bale
 unfoldable pub capacity : Hypergraph → ℕ
-capacity h = (1000 + h .imbalance) * averageWeight h / 1000
+capacity h = nearest ((1000 + h .imbalance) * averageWeight h)
 
 -- ceiling: the most that each session may hold during a call. That of a sale by itself is its cap, for every session
 abbrev pub capacities : Hypergraph → ℕ → ℕ

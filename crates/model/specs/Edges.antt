@@ -5,7 +5,7 @@ use mathlib.Core.Path.{_≡_, refl}
 use mathlib.Core.List.{List, [], _∷_, _++_}
 use Rattle.laws.specs.Sum.{sum, sumTo, foldTo}
 use Rattle.laws.specs.Fold.{sumOver, any, all}
-use Rattle.model.specs.Catalogue.{Hypergraph, mainLimits, averageWeight, capacity}
+use Rattle.model.specs.Catalogue.{Hypergraph, mainLimits, averageWeight, nearest, capacity}
 use Rattle.model.specs.Measure.{above, climb, representative, weight, blockWeight}
 use Rattle.model.specs.Machine.{callM, callW}
 use Rattle.model.specs.Report.{digitsOf, digits}
@@ -109,5 +109,5 @@ pub edges :
       marks = 1;
       calls = callM 999999999 0 ∷ callW 1 1 ∷ [];
     }))
-unfolding many digitsOf digits sum sumTo foldTo sumOver any all averageWeight capacity above climb representative weight blockWeight bytes same parts isNumber onward value fields isLine saleLine overfull grown withLot lotLine mark marking withNet netRead buyLine asked withCall callLine line ending lines parse
+unfolding many digitsOf digits sum sumTo foldTo sumOver any all averageWeight nearest capacity above climb representative weight blockWeight bytes same parts isNumber onward value fields isLine saleLine overfull grown withLot lotLine mark marking withNet netRead buyLine asked withCall callLine line ending lines parse
 edges = (refl, refl, refl, refl, refl, refl, refl, refl, refl, refl, refl, refl, refl, refl, refl, refl, refl, refl, refl, refl, refl, refl, refl, refl, refl, refl, refl, refl, refl, refl, refl, refl, refl, refl, refl, refl, refl, refl, refl, refl, refl, refl, refl, refl, refl, refl, refl, refl, refl, refl, refl)

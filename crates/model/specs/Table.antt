@@ -6,7 +6,7 @@ use lib.IntN.{pos, negsuc}
 use Rattle.laws.specs.Sum.{sum, sumTo}
 use Rattle.laws.specs.Fold.{sumOver, any}
 use Rattle.laws.specs.Place.{place}
-use Rattle.model.specs.Catalogue.{Hypergraph, averageWeight, capacity, drafted}
+use Rattle.model.specs.Catalogue.{Hypergraph, averageWeight, nearest, capacity, drafted}
 use Rattle.model.specs.Measure.{Contraction, above, climb, representative, pin, size, pinCount, connectivity, metric, freed, drawn, gain}
 use Rattle.model.specs.Search.{rating}
 
@@ -29,6 +29,10 @@ joined = record { into = 2; gone = 5 } ∷ []
 abbrev pub fiftyOne : Hypergraph
 fiftyOne = record { blocks = 2; imbalance = 100; totalWeight = 51; weights = 50 ∷ 1 ∷ []; draft = 1 ∷ 2 ∷ []; nets = [] }
 
+-- one lot of w bales in two sessions, and a slack
+abbrev pub lotOf : ℕ → ℕ → Hypergraph
+lotOf w slack = record { blocks = 2; imbalance = slack; totalWeight = w; weights = w ∷ []; draft = 1 ∷ []; nets = [] }
+
 -- a buyer with one mark
 abbrev pub oneMark : Hypergraph
 oneMark = record { blocks = 2; imbalance = 0; totalWeight = 1; weights = 1 ∷ []; draft = 1 ∷ []; nets = record { weight = 7; pins = 1 ∷ [] } ∷ [] }
@@ -49,11 +53,21 @@ pub table :
     × (gain five [] (drafted five) 2 2 ≡ negsuc 1)
     × (gain five joined (place (drafted five) 5 0) 2 2 ≡ pos 0)
     × (rating five [] 2 5 ≡ 10080)
-    × (capacity fiftyOne ≡ 28)
+    × (capacity fiftyOne ≡ 29)
     × (metric oneMark [] (drafted oneMark) ≡ 0)
     × (metric spread [] (drafted spread) ≡ 15000)
-unfolding sum sumTo sumOver any averageWeight capacity above climb representative pin size pinCount connectivity metric freed drawn gain place rating
+unfolding sum sumTo sumOver any averageWeight nearest capacity above climb representative pin size pinCount connectivity metric freed drawn gain place rating
 table = (refl, refl, refl, refl, refl, refl, refl, refl, refl, refl)
+
+-- the cap to the nearest bale: 28.6 is 29, 28.4 is 28, 32.5 is 32, 33.5 is 34; and slack 1,000 is twice ⌈W/k⌉
+pub caps :
+    (capacity (lotOf 51 100) ≡ 29)
+    × (capacity (lotOf 40 420) ≡ 28)
+    × (capacity (lotOf 50 300) ≡ 32)
+    × (capacity (lotOf 50 340) ≡ 34)
+    × (capacity (lotOf 51 1000) ≡ 52)
+unfolding averageWeight nearest capacity
+caps = (refl, refl, refl, refl, refl)
 
 -- stand climbs: 3 was joined into 2, then 2 into 1
 pub climbs : representative (record { into = 1; gone = 2 } ∷ record { into = 2; gone = 3 } ∷ []) 3 ≡ 1

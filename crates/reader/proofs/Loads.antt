@@ -1,17 +1,17 @@
--- Weights added up: all of them, those of a block, and the test for a block above the capacity. Rests on guarantees' laws of a catalogue with no contraction.
-use Prim.Native.Nat.{ℕ, suc, _+_, _-_, _*_, _/_, _≤_, _<_}
+-- Weights added up: all of them, those of a block, the capacity rounded, and the test for a block above it. Rests on guarantees' laws of a catalogue with no contraction.
+use Prim.Native.Nat.{ℕ, suc, _+_, _-_, _*_, _/_, _%_, _≤_, _<_}
 use mathlib.Core.Path.{_≡_, refl, ap, sym, _∙_}
 use mathlib.Core.Bool.{Bool, true, false, _||_, cond}
 use mathlib.Core.List.{List, []}
 use native.Mathlib.Omega.{arith}
 use native.Mathlib.Numerals.{add-one}
-use borrow.Author.Tests.{le-ltb, lt-ltb}
+use borrow.Author.Tests.{le-ltb, lt-ltb, eq-eqb, ne-eqb}
 use lib.Dec.{eqb, ltb}
 use lib.ListN.{length, getD, take}
 use lib.Seq.{length-take-le, getD-take}
 use Rattle.laws.specs.Fold.{sumOver}
 use Rattle.laws.specs.Sum.{sum, sumTo, foldTo, foldTo-none, foldTo-more, foldTo-found, sum-ext, sum-list, sum-sumTo}
-use Rattle.model.specs.Catalogue.{Net, Hypergraph, vertices, loaded, drafted, averageWeight, capacity}
+use Rattle.model.specs.Catalogue.{Net, Hypergraph, vertices, loaded, drafted, averageWeight, nearest, capacity}
 use Rattle.model.specs.Measure.{blockWeight}
 use Rattle.model.specs.Grammar.{overfull}
 use Rattle.guarantees.specs.Splits.{blockWeight-none}
@@ -24,6 +24,20 @@ sum-take n w l =
     let e : length (take n w) ≡ n = length-take-le n w l in
     sum-ext n _ _ (λ i u. sym (getD-take n w i 0 u)) ∙ ap (λ (k : ℕ). sum k (λ i. getD (take n w) i 0)) (sym e) ∙ sum-list (take n w) 0 (λ x. x)
 
+-- the cases of rounding
+module _ (x : ℕ) where
+  pub nearest-down : x % 1000 < 500 → x / 1000 ≡ nearest x
+  unfolding nearest
+  nearest-down l = rw (lt-ltb (x % 1000) 500 l)
+
+  pub nearest-half : x % 1000 ≡ 500 → x / 1000 + x / 1000 % 2 ≡ nearest x
+  unfolding nearest
+  nearest-half e = rw (le-ltb (x % 1000) 500 (omega arith), eq-eqb (x % 1000) 500 e)
+
+  pub nearest-up : 500 ≤ x % 1000 → (x % 1000 ≡ 500 → ⊥) → x / 1000 + 1 ≡ nearest x
+  unfolding nearest
+  nearest-up l n = rw (le-ltb (x % 1000) 500 l, ne-eqb (x % 1000) 500 n)
+
 -- the catalogue that the tables show, whoever its buyers are
 module _ (l k t : ℕ) (w d : List ℕ) (ns : List Net) where
   abbrev graph : Hypergraph
@@ -33,9 +47,9 @@ module _ (l k t : ℕ) (w d : List ℕ) (ns : List Net) where
   unfolding averageWeight
   average-is = refl
 
-  pub capacity-is : capacity graph ≡ (1000 + t) * averageOf k (take l w) / 1000
+  pub capacity-is : capacity graph ≡ nearest ((1000 + t) * averageOf k (take l w))
   unfolding capacity
-  capacity-is = ap (λ (a : ℕ). (1000 + t) * a / 1000) average-is
+  capacity-is = ap (λ (a : ℕ). nearest ((1000 + t) * a)) average-is
 
   -- the test of a session, and of the first n
   abbrev over : ℕ → Bool
@@ -66,7 +80,7 @@ module _ (l k t : ℕ) (w d : List ℕ) (ns : List Net) where
         let z : suc i - 1 ≡ i = omega arith in
         rw (z, getD-take l d i 0 u, getD-take l w i 0 u)))
 
-    module _ (b a c r : ℕ) (ea : a ≡ averageOf k (take l w)) (ec : c ≡ (1000 + t) * a / 1000) (er : r ≡ sum l (blockTerm (b + 1) w d)) where
+    module _ (b a c r : ℕ) (ea : a ≡ averageOf k (take l w)) (ec : c ≡ nearest ((1000 + t) * a)) (er : r ≡ sum l (blockTerm (b + 1) w d)) where
       over-here : over (suc b) ≡ ltb c r
       over-here = ap over (sym (add-one b)) ∙ rw (capacity-is, block-is (b + 1), ← ea, ← ec, ← er)
 

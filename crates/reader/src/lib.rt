@@ -10,7 +10,7 @@ ghost use lib.Dec.{eqb};
 ghost use lib.ListN.{length, take};
 ghost use Rattle.laws.specs.Fold.{sumOver};
 ghost use Rattle.laws.specs.Sum.{sum};
-ghost use Rattle.model.specs.Catalogue.{mainLimits};
+ghost use Rattle.model.specs.Catalogue.{mainLimits, nearest};
 ghost use Rattle.lines.specs.Line.{limitsOf, InRange};
 ghost use Rattle.reader.specs.Seen.{CallsRead, LotsRead};
 ghost use Rattle.reader.specs.Buyers.{BuysRead, BuysReady};
@@ -172,12 +172,27 @@ pub fn average_weight(weights: &[u32], n: usize, k: u32) -> u64
     (total_weight(weights, n) + (k as u64 - 1)) / k as u64
 }
 
-// The cap: (1,000 + slack) × ⌈W/k⌉ / 1,000, rounded down.
+// So many thousandths to the nearest whole number; an exact half goes to the even one.
+fn rounded(x: u64) -> u64
+    ensures { λ r. ⌜ r ≡ nearest x ⌝ }
+{
+    let whole = x / 1000;
+    let rest = x % 1000;
+    if rest < 500 {
+        return whole;
+    }
+    if rest == 500 {
+        return whole + whole % 2;
+    }
+    whole + 1
+}
+
+// The cap: (1,000 + slack) × ⌈W/k⌉ / 1,000 to the nearest bale.
 pub fn capacity(average: u64, imbalance: u32) -> u64
     requires { ⌜ (average ≤ 4398046511104) × (imbalance ≤ 1000) ⌝ }
-    ensures { λ r. ⌜ r ≡ (1000 + imbalance) * average / 1000 ⌝ }
+    ensures { λ r. ⌜ r ≡ nearest ((1000 + imbalance) * average) ⌝ }
 {
-    (1000 + imbalance as u64) * average / 1000
+    rounded((1000 + imbalance as u64) * average)
 }
 
 // What a vertex adds to the weight of block b.

@@ -1,9 +1,11 @@
 -- `loader::measure` meets its contract.
 use native.Mathlib.Omega.{arith}
 use mathlib.Core.Path.{_∙_, ap}
-use Prim.Native.Nat.{ℕ, _+_, _*_, _/_}
+use Prim.Native.Nat.{ℕ, _+_, _*_}
 use native.Mathlib.Nat.{mul-le-mul-right}
 use lib.ListN.{take}
+use Rattle.model.specs.Catalogue.{nearest}
+use Rattle.guarantees.specs.Capacity.{near}
 use Rattle.reader.specs.Whole.{averageOf}
 use Rattle.loader.specs.Tables.{sizesOf}
 use denote.Ref.{now}
@@ -24,7 +26,8 @@ cast-t12 : tie.Need-cast-t12
 cast-t12 c =
     let a = c .before .before .before .args in
     let e = c .before .average-weight .ensures .0 in
-    omega (arith, c .capacity .ensures, e, mul-le-mul-right {m = 1000 + a .imbalance} {n = 2000} (c .before .average-weight .result) (omega arith))
+    let x = (1000 + a .imbalance) * c .before .average-weight .result in
+    omega (arith, c .capacity .ensures, e, near x .high, mul-le-mul-right {m = 1000 + a .imbalance} {n = 2000} (c .before .average-weight .result) (omega arith))
 
 returns : tie.Need-returns
 returns c =
@@ -32,7 +35,7 @@ returns c =
     let a = start .args in
     let e = c .before .average-weight .ensures .0 in
     ap (λ (x : ℕ). sizesOf (a .vertices) (a .nets) (a .blocks) (a .imbalance) (a .pins) (a .calls) x (c .capacity .result)) e
-    ∙ ap (sizesOf (a .vertices) (a .nets) (a .blocks) (a .imbalance) (a .pins) (a .calls) (averageOf (a .blocks) (take (a .vertices) (now (a .weights))))) (c .capacity .ensures ∙ ap (λ (x : ℕ). (1000 + a .imbalance) * x / 1000) e)
+    ∙ ap (sizesOf (a .vertices) (a .nets) (a .blocks) (a .imbalance) (a .pins) (a .calls) (averageOf (a .blocks) (take (a .vertices) (now (a .weights))))) (c .capacity .ensures ∙ ap (λ (x : ℕ). nearest ((1000 + a .imbalance) * x)) e)
 
 pub measure-spec : {M : Type 1} → statement M
 measure-spec =

@@ -6,16 +6,19 @@ use borrow.Author.Needs.{needs}
 use Rattle.reader.proofs.capacity.Statement.{statement}
 use Rattle.reader.proofs.capacity.Tie as tie
 
-add-result : tie.Need-add-result
-add-result c = search needs
+add-rounded : tie.Need-add-rounded
+add-rounded c = search needs
 
-mul-result : tie.Need-mul-result
-mul-result c =
+mul-rounded : tie.Need-mul-rounded
+mul-rounded c =
     let a = c .args in
     record { fits = omega (arith, mul-le-mul-right {m = 1000 + a .imbalance} {n = 2000} (a .average) (omega arith)) }
 
+rounded-requires : tie.Need-rounded-requires
+rounded-requires c κs = search needs
+
 returns : tie.Need-returns
-returns c = search needs
+returns c = c .rounded .ensures
 
 pub capacity-spec : {M : Type 1} → statement M
-capacity-spec = tie.close (tie.spec add-result mul-result returns)
+capacity-spec = tie.close (tie.spec add-rounded mul-rounded rounded-requires returns)
