@@ -78,10 +78,11 @@ fn but_row(
     if o != a {
         return;
     }
+    let row = 16 * q;
     let mut j = 0;
     while j < k {
         let d = amount(j, a, w);
-        shift_at(gains, 16 * q + j, d, take);
+        shift_at(gains, row + j, d, take);
         j += 1;
     }
 }

@@ -11,16 +11,19 @@ use Rattle.connectivity.proofs.but_row.Statement.{statement}
 use Rattle.connectivity.proofs.but_row.Tie as tie
 
 abbrev Inv-loop : tie.InvT-loop
-Inv-loop gains₀ q o a f want k w take j₀ gains j = (j ≤ k) × Raised (But take f want o a w) (16 * q) j gains₀ gains
+Inv-loop gains₀ q o a f want k w take row j₀ gains j = (j ≤ k) × Raised (But take f want o a w) (16 * q) j gains₀ gains
 
 abbrev μ-loop : tie.MeasureT-loop
-μ-loop gains₀ q o a f want k w take j₀ gains j = k - j
+μ-loop gains₀ q o a f want k w take row j₀ gains j = k - j
 
 returns : tie.Need-returns Inv-loop μ-loop
 returns c = let a = c .before .args in but-idle (a .take) (a .f) (a .want) (a .o) (a .a) (a .w) (now (a .gains)) (c .if1 .taken)
 
 returns-2 : tie.Need-returns-2 Inv-loop μ-loop
 returns-2 c = let a = c .before .before .args in but-other (a .take) (a .f) (a .want) (a .o) (a .a) (a .w) (now (a .gains)) (c .if2 .taken)
+
+mul-row : tie.Need-mul-row Inv-loop μ-loop
+mul-row c = omega arith
 
 loop-holds : tie.Need-loop-holds Inv-loop μ-loop
 loop-holds c = (omega arith, raised-none _)
@@ -29,9 +32,6 @@ amount-requires : tie.Need-amount-requires Inv-loop μ-loop
 amount-requires c κs =
     let start = c .before .before .before .before in
     let S = start in omega (arith, S .pre .few)
-
-mul-shift-at : tie.Need-mul-shift-at Inv-loop μ-loop
-mul-shift-at c = omega arith
 
 add-shift-at : tie.Need-add-shift-at Inv-loop μ-loop
 add-shift-at c = omega arith
@@ -74,9 +74,9 @@ but-row-spec =
     μ-loop
     returns
     returns-2
+    mul-row
     loop-holds
     amount-requires
-    mul-shift-at
     add-shift-at
     shift-at-requires
     add-j
