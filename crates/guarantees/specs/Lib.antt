@@ -4,7 +4,7 @@
 -- 2. Contraction and uncontraction of two vertices of one block leave the metric and every block's weight: Joins (metric-join),
 --    Weights (blockWeight-join), Splits (metric-split, blockWeight-split), so J and S do: Contractions (J-leaves, S-leaves). With no
 --    contraction pins and weights are the loaded ones: Splits (pin-none, weight-none). A clump's gain is the effect on the
---    uncontracted hypergraph: ClumpGain (clump-gain).
+--    uncontracted hypergraph: ClumpGain (clump-gain; clump-gains for the gain table's entries).
 -- 3. A call under a ceiling that the state is within leaves a state within it: Caps (held-call). From an accepted catalogue, after every list of
 --    calls, no block is above the capacity: Reached (within-capacity).
 -- 4. No W, P or A, under any ceiling, ends on a higher metric: NeverHigher (never-higher). A walk keeps the first prefix of lowest metric: Walks (first-lowest).

@@ -7,10 +7,11 @@
 -- Report     answers and the closing report as bytes
 -- Engine     a list of calls; the file to a code and a report
 -- Memory     lent memory: what each table holds, what is free, what keeps; what the engine leaves
+-- Clump      request M-108: what a clump's gain means in the unjoined catalogue
 -- Lent       how lent slices, returned arrays and lists of numbers read as lent memory, stack, record of moves and calls
 -- Demand     demand 3, one statement about a catalogue and a list of calls
 -- ListEntry  what the entry for a catalogue and a list of calls apart returns and leaves
--- Table      the starred cases; Edges the files that are turned down and those just accepted; Worked whole sales
+-- Table      the starred cases, and worked cases of the requests; Edges the files that are turned down and those just accepted; Worked whole sales
 --
 -- What the customers' functions promise is stated by these files alone. They use, and a reader must believe as well:
 --   from laws  Choice `one`; Sum `sumTo`, `countTo`, `foldTo`; Fold `sumOver`, `all`, `any`; Place `place`; Occurrence `occ`
@@ -24,6 +25,7 @@ pub mod Grammar
 pub mod Report
 pub mod Engine
 pub mod Memory
+pub mod Clump
 pub mod Lent
 pub mod Demand
 pub mod ListEntry

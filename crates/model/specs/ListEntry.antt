@@ -1,5 +1,5 @@
 -- The entry that takes a catalogue's bytes and a list of calls apart from each other: when the list is refused, and what the entry returns
--- and leaves in lent memory. Rests on Lent and Demand. Assumes nothing.
+-- and leaves in lent memory. Rests on Lent, Demand and Clump. Assumes nothing.
 use Prim.Native.Nat.{ℕ, zero, suc, _*_, _/_, _%_}
 use mathlib.Core.Path.{_≡_}
 use mathlib.Core.Bool.{Bool, true, false, cond, _&&_, _||_}
@@ -7,9 +7,11 @@ use mathlib.Core.List.{List}
 use lib.Dec.{eqb, ltb}
 use lib.ListN.{length, getD}
 use Rattle.model.specs.Catalogue.{Limits, Hypergraph}
-use Rattle.model.specs.Machine.{Call}
+use Rattle.model.specs.Machine.{Call, fresh}
 use Rattle.model.specs.Grammar.{Reading, unread, reading, stopped, parse}
+use Rattle.model.specs.Engine.{after}
 use Rattle.model.specs.Memory.{Memory, longMemory, Written, Worked, Untouched}
+use Rattle.model.specs.Clump.{ClumpGains}
 use Rattle.model.specs.Lent.{callsOf, Two, stackOf, journalOf, ZeroPast}
 use Rattle.model.specs.Demand.{standing, Demand3}
 
@@ -44,13 +46,14 @@ abbrev pub returned : ℕ → ℕ → ℕ → Two → Two → Returned
 returned code bytes total stack journal = record { code = code; bytes = bytes; total = total; stack = stack; journal = journal }
 
 -- ---- what it promises
--- the calls ran: demand 3, and the answers' lines stand in the output
+-- the calls ran: demand 3, what the gain table says of clumps (M-108), and the answers' lines in the output
 pub record Listed (limits : Limits) (h : Hypergraph) (calls : List Call) (old new : Memory) (r : Returned) : Type 0 where
   pub code-is : r .code ≡ 0
   pub lines : List ℕ
   pub demand : Demand3 limits h calls (old .tables)
       (standing (new .tables) (stackOf (r .stack .xs) (r .stack .ys) (r .stack .len)) (journalOf (r .journal .xs) (r .journal .ys) (r .journal .len)))
       lines (r .total)
+  pub clump-gains : ClumpGains h (after h (fresh h) calls) (new .tables)
   pub output : Written lines (old .output) (new .output) (r .bytes)
   pub stack-whole : ZeroPast (r .stack)
   pub journal-whole : ZeroPast (r .journal)

@@ -1,4 +1,4 @@
--- The starred cases of document 01, one table proved by computing. Rests on Search. Assumes nothing.
+-- The starred cases of document 01, one table proved by computing, and worked cases of the requests. Rests on Search and Clump. Assumes nothing.
 use Prim.Native.Nat.{ℕ}
 use mathlib.Core.Path.{_≡_, refl}
 use mathlib.Core.List.{List, [], _∷_}
@@ -9,6 +9,7 @@ use Rattle.laws.specs.Place.{place}
 use Rattle.model.specs.Catalogue.{Hypergraph, averageWeight, nearest, capacity, drafted}
 use Rattle.model.specs.Measure.{Contraction, above, climb, representative, pin, size, pinCount, connectivity, metric, freed, drawn, gain}
 use Rattle.model.specs.Search.{rating}
+use Rattle.model.specs.Clump.{unjoinedTotal, inClumps, clumpTo}
 
 -- the worked sale's catalogue
 abbrev pub five : Hypergraph
@@ -68,6 +69,35 @@ pub caps :
     × (capacity (lotOf 51 1000) ≡ 52)
 unfolding averageWeight nearest capacity
 caps = (refl, refl, refl, refl, refl)
+
+-- ---- M-108: a clump's gain, and the unjoined catalogue's totals before and after the clump goes
+-- a clump of three, 2 and 3 joined into 1, with a buyer inside it
+abbrev pub clumped : Hypergraph
+clumped = record {
+  blocks = 2;
+  imbalance = 1000;
+  totalWeight = 5;
+  weights = 1 ∷ 1 ∷ 1 ∷ 1 ∷ 1 ∷ [];
+  draft = 1 ∷ 1 ∷ 1 ∷ 2 ∷ 1 ∷ [];
+  nets = record { weight = 4; pins = 1 ∷ 2 ∷ 3 ∷ [] } ∷ record { weight = 2; pins = 3 ∷ 4 ∷ [] } ∷ record { weight = 3; pins = 2 ∷ 5 ∷ [] } ∷ [];
+}
+
+abbrev three : List Contraction
+three = record { into = 1; gone = 3 } ∷ record { into = 1; gone = 2 } ∷ []
+
+abbrev threeIn : ℕ → ℕ
+threeIn = place (place (drafted clumped) 2 0) 3 0
+
+-- the worked sale's 5 joined into 2, to session 2; then the clump of three to session 2
+pub clump-table :
+    (gain five joined (place (drafted five) 5 0) 2 2 ≡ pos 0)
+    × (unjoinedTotal five (inClumps joined (place (drafted five) 5 0)) ≡ 3)
+    × (unjoinedTotal five (clumpTo joined (place (drafted five) 5 0) 2 2) ≡ 3)
+    × (gain clumped three threeIn 1 2 ≡ negsuc 0)
+    × (unjoinedTotal clumped (inClumps three threeIn) ≡ 2)
+    × (unjoinedTotal clumped (clumpTo three threeIn 1 2) ≡ 3)
+unfolding sum sumTo sumOver any above climb representative pin pinCount connectivity metric freed drawn gain place
+clump-table = (refl, refl, refl, refl, refl, refl)
 
 -- stand climbs: 3 was joined into 2, then 2 into 1
 pub climbs : representative (record { into = 1; gone = 2 } ∷ record { into = 2; gone = 3 } ∷ []) 3 ≡ 1

@@ -13,8 +13,10 @@ use Rattle.model.specs.Report.{closing}
 use Rattle.model.specs.Engine.{after, answers}
 use Rattle.model.specs.Memory.{Tables as Lent}
 use Rattle.model.specs.Lent.{callsOf, Lists, journalOf, stackOf, Two, lent}
+use Rattle.model.specs.Clump.{ClumpGains}
 use Rattle.model.specs.Demand.{Standing, standing, Stands, Demand3}
 use Rattle.guarantees.specs.MachineHalf.{machine-half}
+use Rattle.guarantees.specs.ClumpGain.{clump-gains}
 use Rattle.loader.specs.declared.Sizes.{Sizes}
 use Rattle.loader.specs.declared.Loaded.the-variants.{Accepted}
 use Rattle.loader.specs.Tables.{LongLists, graph, Loads}
@@ -67,10 +69,11 @@ pub blank : (n : ℕ) → n ≡ 16384 → Blank (replicate n 0)
 blank n e = record { len = length-replicate {A = ℕ} n 0 ∙ e; zeros = zeros-get n }
 
 -- ---- what it does
--- demand 3; the lines of the answers stand in the output and end at `at`; the closing report can follow
+-- demand 3, and what the gain table says of clumps; the lines of the answers stand in the output and end at `at`; the closing report can follow
 pub record Sold (limits : Limits) (h : Hypergraph) (calls : List Call) (old new : Lent) (out out′ : List ℕ) (S J : Two) (n m draft total at : ℕ) : Type 0 where
   pub lines : List ℕ
   pub demand : Demand3 limits h calls old (standing new (stackOf (S .xs) (S .ys) (S .len)) (journalOf (J .xs) (J .ys) (J .len))) lines total
+  pub clump-gains : ClumpGains h (after h (fresh h) calls) new
   pub wrote : Wrote out out′ 0 lines at
   pub stack-whole : Whole S
   pub journal-whole : Whole J
@@ -144,6 +147,7 @@ module _ {limits : Limits} {file : List ℕ} {z : Sizes} {old new : Lists} {nw c
             total-is = d .here .runs .sound .total-is;
             machine = machine-half limits h (begins .accepted) (callsOf count calls);
           };
+          clump-gains = clump-gains limits h (begins .accepted) (callsOf count calls) (g .narrow) _ _ (g .gains-long) (end .tables);
           wrote = d .wrote;
           stack-whole = d .here .runs .stack-whole;
           journal-whole = d .here .runs .journal-whole;

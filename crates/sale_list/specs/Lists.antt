@@ -151,6 +151,7 @@ module _ (list out : List ℕ) (counts : List ℕ) (gains : List ℤ) (visited :
         code-is = refl;
         lines = s .lines;
         demand = subst (λ (x : Standing). Demand3 limits (graph z new nw) (listCalls list) (lent old counts gains visited) x (s .lines) total) (λ k. standing new′ (stack-same k) (journal-same k)) (s .demand);
+        clump-gains = s .clump-gains;
         output = written-all (s .wrote);
         stack-whole = zero-past {S = S} {S′ = S′} (s .stack-whole .xs-whole) (s .stack-whole .ys-whole) (zs .0) (zs .1) (zs .2);
         journal-whole = zero-past {S = J} {S′ = J′} (s .journal-whole .xs-whole) (s .journal-whole .ys-whole) (zj .0) (zj .1) (zj .2);
