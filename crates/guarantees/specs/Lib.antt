@@ -1,6 +1,7 @@
 -- The machine's own theorems, over `model` alone: no code, nothing assumed.
 -- 1. A move changes the metric by minus its gain, and the move back has the negated gain: Moves (metric-gain, gain-back).
---    Moves of different vertices commute in blocks, pin counts, weights, gains and metric: Commutes (moves-commute, calls-commute).
+--    Moves of different vertices commute in blocks, pin counts, weights, gains and metric: Commutes (moves-commute, calls-commute). Lists
+--    of accepted moves that end in the same blocks leave the same lent tables and metric: Order (order-of-moves, either-order).
 -- 2. Contraction and uncontraction of two vertices of one block leave the metric and every block's weight: Joins (metric-join),
 --    Weights (blockWeight-join), Splits (metric-split, blockWeight-split), so J and S do: Contractions (J-leaves, S-leaves). With no
 --    contraction pins and weights are the loaded ones: Splits (pin-none, weight-none). A clump's gain is the effect on the
@@ -51,3 +52,4 @@ pub mod ReportFits
 pub mod Refusals
 pub mod Reversals
 pub mod MachineHalf
+pub mod Order

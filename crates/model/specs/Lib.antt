@@ -11,6 +11,7 @@
 -- Lent       how lent slices, returned arrays and lists of numbers read as lent memory, stack, record of moves and calls
 -- Demand     demand 3, one statement about a catalogue and a list of calls
 -- ListEntry  what the entry for a catalogue and a list of calls apart returns and leaves
+-- Order      request M-110: the order of moves, and when two sets of tables are the same, free layouts aside
 -- Table      the starred cases, and worked cases of the requests; Edges the files that are turned down and those just accepted; Worked whole sales
 --
 -- What the customers' functions promise is stated by these files alone. They use, and a reader must believe as well:
@@ -29,6 +30,7 @@ pub mod Clump
 pub mod Lent
 pub mod Demand
 pub mod ListEntry
+pub mod Order
 pub mod Table
 pub mod Edges
 pub mod Worked

@@ -1,4 +1,4 @@
--- The starred cases of document 01, one table proved by computing, and worked cases of the requests. Rests on Search and Clump. Assumes nothing.
+-- The starred cases of document 01, one table proved by computing, and worked cases of the requests. Rests on Search, Clump and Order. Assumes nothing.
 use Prim.Native.Nat.{ℕ}
 use mathlib.Core.Path.{_≡_, refl}
 use mathlib.Core.List.{List, [], _∷_}
@@ -7,9 +7,12 @@ use Rattle.laws.specs.Sum.{sum, sumTo}
 use Rattle.laws.specs.Fold.{sumOver, any}
 use Rattle.laws.specs.Place.{place}
 use Rattle.model.specs.Catalogue.{Hypergraph, averageWeight, nearest, capacity, drafted}
-use Rattle.model.specs.Measure.{Contraction, above, climb, representative, pin, size, pinCount, connectivity, metric, freed, drawn, gain}
-use Rattle.model.specs.Search.{rating}
+use Rattle.model.specs.Measure.{Contraction, above, climb, representative, pin, size, pinCount, weight, blockWeight, connectivity, metric, freed, drawn, gain, hasRoom}
+use Rattle.model.specs.Machine.{callM, fresh, settle, refusesM, doesM}
+use Rattle.model.specs.Search.{rating, callUnder, call}
+use Rattle.model.specs.Report.{refusal}
 use Rattle.model.specs.Clump.{unjoinedTotal, inClumps, clumpTo}
+use Rattle.model.specs.Order.{isMove, AcceptedMoves, sessionOf}
 
 -- the worked sale's catalogue
 abbrev pub five : Hypergraph
@@ -98,6 +101,18 @@ pub clump-table :
     × (unjoinedTotal clumped (clumpTo three threeIn 1 2) ≡ 3)
 unfolding sum sumTo sumOver any above climb representative pin pinCount connectivity metric freed drawn gain place
 clump-table = (refl, refl, refl, refl, refl, refl)
+
+-- ---- M-110: lists of moves
+-- a joined lot's session is its clump's; a move is tested on the state that the one before it left, so that a lot can go and return; and in
+-- the worked sale 1 and 3 change places if 1 goes first, and not if 3 does
+pub order-table :
+    (sessionOf (record { stack = three; block = threeIn; journal = [] }) 3 ≡ 1)
+    × AcceptedMoves five (fresh five) (callM 1 2 ∷ callM 1 1 ∷ [])
+    × AcceptedMoves five (fresh five) (callM 1 2 ∷ callM 3 1 ∷ [])
+    × (refusal (call five (fresh five) (callM 3 1) .answer) ≡ 14)
+unfolding sum sumTo sumOver any averageWeight nearest capacity above climb representative pin pinCount weight blockWeight connectivity metric freed drawn gain hasRoom place
+    fresh settle refusesM doesM callUnder refusal isMove AcceptedMoves
+order-table = (refl, (refl, refl, (refl, refl, tt)), (refl, refl, (refl, refl, tt)), refl)
 
 -- stand climbs: 3 was joined into 2, then 2 into 1
 pub climbs : representative (record { into = 1; gone = 2 } ∷ record { into = 2; gone = 3 } ∷ []) 3 ≡ 1
