@@ -143,6 +143,11 @@ pub fn sale_of_kind(seed: u64, kind: Kind) -> Vec<u8> {
     write_sale(&Sale { catalogue, calls })
 }
 
+/// The catalogue of an accepted sale of the given kind.
+pub(crate) fn catalogue_of_kind(seed: u64, kind: Kind) -> Catalogue {
+    catalogue(&mut Random::new(seed), kind)
+}
+
 /// A list of `count` random calls for a catalogue, most of them accepted.
 pub fn calls(seed: u64, catalogue: &Catalogue, count: usize) -> Vec<Call> {
     let mut random = Random::new(seed);

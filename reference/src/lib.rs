@@ -6,6 +6,7 @@ pub mod catalogue;
 pub mod generator;
 pub mod machine;
 pub mod measure;
+pub mod move_orders;
 pub mod parse;
 pub mod report;
 pub mod search;
