@@ -11,6 +11,8 @@ use reference::tables::{entry, Tables};
 use reference::{parse, report, run_calls, Call};
 use std::path::PathBuf;
 
+pub mod orders;
+
 /// Lent memory of lengths that the caller settles.
 #[derive(Clone, Debug, PartialEq, Eq)]
 pub struct Memory {
@@ -269,6 +271,20 @@ fn calls_of(list: &[u32]) -> Result<Vec<Call>, u32> {
     list.chunks(3).map(call).collect()
 }
 
+/// A call as three numbers, the letter's byte and two; those that the call does not have are `spare`.
+fn numbers_of(call: &Call, mut spare: impl FnMut() -> u64) -> [u32; 3] {
+    let (letter, x, y) = match *call {
+        Call::J { u, v } => (b'J', u, v),
+        Call::S => (b'S', spare(), spare()),
+        Call::M { u, t } => (b'M', u, t),
+        Call::B => (b'B', spare(), spare()),
+        Call::W { u, v } => (b'W', u, v),
+        Call::P => (b'P', spare(), spare()),
+        Call::A => (b'A', spare(), spare()),
+    };
+    [letter.into(), x as u32, y as u32]
+}
+
 /// What a list of calls should give: the code, the text, the total, the joins and the record.
 type Answered = (u32, Vec<u8>, u64, Vec<(u16, u16)>, Vec<(u16, u16)>);
 
@@ -370,17 +386,8 @@ pub fn random_list(seed: u64, file: &[u8]) -> Vec<u32> {
         Err(_) => vec![Call::A; count],
     };
     let mut numbers = Vec::new();
-    for call in calls {
-        let (letter, x, y) = match call {
-            Call::J { u, v } => (b'J', u, v),
-            Call::S => (b'S', random.bits(), random.bits()),
-            Call::M { u, t } => (b'M', u, t),
-            Call::B => (b'B', random.bits(), random.bits()),
-            Call::W { u, v } => (b'W', u, v),
-            Call::P => (b'P', random.bits(), random.bits()),
-            Call::A => (b'A', random.bits(), random.bits()),
-        };
-        numbers.extend([letter.into(), x as u32, y as u32]);
+    for call in &calls {
+        numbers.extend(numbers_of(call, || random.bits()));
     }
     match random.between(0, 19) {
         0 => numbers.push(b'A'.into()),
