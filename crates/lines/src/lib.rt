@@ -81,7 +81,7 @@ pub fn call_line(s: &[u8], at: usize, end: usize) -> Ask
 }
 
 // x is neither below low nor above high.
-fn between(low: u32, high: u32, x: u32) -> bool
+pub fn between(low: u32, high: u32, x: u32) -> bool
     ensures { λ r. ⌜ r ≡ within low high x ⌝ }
 {
     if x < low {

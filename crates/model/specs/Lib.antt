@@ -12,6 +12,10 @@
 -- Demand     demand 3, one statement about a catalogue and a list of calls
 -- ListEntry  what the entry for a catalogue and a list of calls apart returns and leaves
 -- Order      request M-110: the order of moves, and when two sets of tables are the same, free layouts aside
+-- Hmetis     what a converter's input says: an hMETIS file and its partition listing; M-100
+-- CatalogueText  a catalogue as a sale file without calls
+-- Convert    which inputs are carried over, the catalogue, and what the converter leaves
+-- Conversions  inputs that are converted and inputs that are refused, proved by computing
 -- Table      the starred cases, and worked cases of the requests; Edges the files that are turned down and those just accepted; Worked whole sales
 --
 -- What the customers' functions promise is stated by these files alone. They use, and a reader must believe as well:
@@ -34,3 +38,7 @@ pub mod Order
 pub mod Table
 pub mod Edges
 pub mod Worked
+pub mod Hmetis
+pub mod CatalogueText
+pub mod Convert
+pub mod Conversions

@@ -217,7 +217,7 @@ pub fn block_weight(weights: &[u32], draft: &[u16], n: usize, b: u32) -> u64
 }
 
 // A session of the draft is above its cap.
-fn overfull(vertices: u32, blocks: u32, imbalance: u32, weights: &[u32], draft: &[u16]) -> bool
+pub fn overfull(vertices: u32, blocks: u32, imbalance: u32, weights: &[u32], draft: &[u16]) -> bool
     requires { ⌜ (vertices ≤ 1024) × (2 ≤ blocks) × (blocks ≤ 16) × (imbalance ≤ 1000) × (vertices ≤ length (now weights)) × (vertices ≤ length (now draft)) ⌝ }
     ensures { λ r. ⌜ overfullIs vertices blocks imbalance (now (weights .entry)) (now (draft .entry)) r ⌝ }
 {

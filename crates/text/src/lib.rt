@@ -24,7 +24,7 @@ pub enum Sign {
 }
 
 // The first `sep` at or after `at` and before `end`, or `end`.
-fn find(s: &[u8], at: usize, end: usize, sep: u8) -> usize
+pub fn find(s: &[u8], at: usize, end: usize, sep: u8) -> usize
     requires { ⌜ (at ≤ end) × (end ≤ length (now s)) ⌝ }
     ensures { λ r. ⌜ FirstAt (now (s .entry)) at end sep r ⌝ }
 {
@@ -94,7 +94,7 @@ fn digits_end(s: &[u8], at: usize, end: usize) -> usize
 }
 
 // Where the field from `at` on ends, if it is a number; else `at`, since a number has a digit.
-fn number_end(s: &[u8], at: usize, end: usize) -> usize
+pub fn number_end(s: &[u8], at: usize, end: usize) -> usize
     requires { ⌜ (at ≤ end) × (end ≤ length (now s)) ⌝ }
     ensures { λ r. ⌜ NumberEnd (now (s .entry)) at end r ⌝ }
 {
@@ -135,7 +135,7 @@ pub fn read_field(s: &[u8], at: usize, end: usize) -> Number
 }
 
 // Whether the field from `at` to `end` is `w`.
-fn word(s: &[u8], at: usize, end: usize, w: &[u8]) -> bool
+pub fn word(s: &[u8], at: usize, end: usize, w: &[u8]) -> bool
     requires { ⌜ (at ≤ end) × (end ≤ length (now s)) ⌝ }
     ensures { λ r. ⌜ r ≡ same (slice at end (now (s .entry))) (now (w .entry)) ⌝ }
 {

@@ -1,0 +1,2 @@
+-- What the functions of this crate leave in a lent buffer. Assumes nothing.
+pub mod Wrote

@@ -1,0 +1,4 @@
+pub mod Words
+pub mod Single
+pub mod Stamps
+pub mod Edges
