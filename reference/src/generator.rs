@@ -250,7 +250,7 @@ fn half_the_cap(random: &mut Random, made: &mut Catalogue) {
 }
 
 /// Changes sessions, and bales if need be, until no session is above the cap.
-fn settle_draft(made: &mut Catalogue) {
+pub(crate) fn settle_draft(made: &mut Catalogue) {
     if !measure::overfull_draft(made) {
         return;
     }

@@ -3,7 +3,9 @@
 //! Rests on the standard library alone.
 
 pub mod catalogue;
+pub mod converter;
 pub mod generator;
+pub mod hgr_generator;
 pub mod machine;
 pub mod measure;
 pub mod move_orders;
@@ -17,7 +19,8 @@ pub use machine::{Answer, Machine};
 pub use parse::{parse, parse_within, Refusal};
 pub use tables::Tables;
 
-/// What the engine gives back for a file: 0 or the number of 1 to 7, and the report.
+/// What the engine gives back for a file, or the converter for an input: 0 or the number of the
+/// refusal, and the text.
 #[derive(Clone, Debug, PartialEq, Eq)]
 pub struct Outcome {
     pub code: u32,

@@ -85,7 +85,7 @@ fn badly_written(line: usize) -> Refusal {
 }
 
 /// A number is 1 to 9 digits without a leading zero; 0 alone is allowed.
-fn number(field: &[u8]) -> Option<u64> {
+pub(crate) fn number(field: &[u8]) -> Option<u64> {
     let digits = (1..=9).contains(&field.len()) && field.iter().all(u8::is_ascii_digit);
     let leading_zero = field.len() > 1 && field[0] == b'0';
     if !digits || leading_zero {
@@ -104,7 +104,12 @@ fn numbers_after(line: &Line, name: &[u8]) -> Option<Vec<u64>> {
     if !line.ended {
         return None;
     }
-    let mut fields = line.text.split(|&byte| byte == b',');
+    numbers_after_name(line.text, name)
+}
+
+/// The numbers of a text `name,number,...`, or nothing if it has another form.
+pub(crate) fn numbers_after_name(text: &[u8], name: &[u8]) -> Option<Vec<u64>> {
+    let mut fields = text.split(|&byte| byte == b',');
     if fields.next() != Some(name) {
         return None;
     }

@@ -1,12 +1,14 @@
 //! The generator as a program: `generate SEED KIND` writes one sale to standard output and
 //! `generate SEED COUNT DIR` writes COUNT sales with their reports into a folder.
-//! Rests on the library's generator; KIND is `any`, `damaged` or one of the generator's kinds.
+//! Rests on the library's generators; KIND is `any`, `damaged` or one of the generator's kinds, or
+//! `hgr` or `damaged-hgr` for an input of the converter.
 
 use std::io::{self, Write};
 use std::path::Path;
 use std::process::ExitCode;
 
 use reference::generator::{damaged, sale, sale_of_kind, KINDS};
+use reference::hgr_generator::{damaged_hgr, hgr};
 
 fn main() -> ExitCode {
     let arguments: Vec<String> = std::env::args().skip(1).collect();
@@ -27,7 +29,7 @@ fn main() -> ExitCode {
         None => {
             let kinds: Vec<&str> = KINDS.iter().map(|&(name, _)| name).collect();
             eprintln!("usage: generate SEED KIND | generate SEED COUNT DIR");
-            eprintln!("KIND: any damaged {}", kinds.join(" "));
+            eprintln!("KIND: any damaged hgr damaged-hgr {}", kinds.join(" "));
             ExitCode::FAILURE
         }
     }
@@ -38,6 +40,8 @@ fn one(seed: u64, kind: &str) -> Option<io::Result<()>> {
     let file = match kind {
         "any" => sale(seed),
         "damaged" => damaged(seed),
+        "hgr" => hgr(seed),
+        "damaged-hgr" => damaged_hgr(seed),
         _ => {
             let &(_, kind) = KINDS.iter().find(|&&(name, _)| name == kind)?;
             sale_of_kind(seed, kind)
