@@ -1,5 +1,6 @@
 /* The proved splitter as C functions: a sale file in, its report and its tables out.
- * Link target/staticlib/libengine.a, which `rt staticlib engine` writes.
+ * Link target/staticlib/libengine.a, which `rt staticlib engine` writes, and for kapokdrill_convert
+ * target/staticlib/libhgr.a, which `rt staticlib hgr` writes.
  *
  * The functions keep nothing between calls, so calls on different memory may run at the same time.
  * Beside what they are lent they need some hundreds of kilobytes of stack and no heap. Lent memory
@@ -140,6 +141,20 @@ kapokdrill_stretch kapokdrill_pins(
     const uint16_t *loadedsizes, size_t loadedsizes_length,
     const uint16_t *presentsizes, size_t presentsizes_length,
     bool present, uint32_t net);
+
+typedef struct {
+    /* 0, or 8 for an output below KAPOKDRILL_OUTPUT bytes, 17 for a badly written input, 18 for one
+     * that cannot be carried over, 19 for a listing of the wrong length or with an unknown block. */
+    uint32_t code;
+    /* The bytes of `output` that hold the catalogue, or the line `NO,number`; 0 under 8. */
+    size_t written;
+} kapokdrill_converted;
+
+/* Turns an hMETIS file with its partition listing into a sale file without calls. Output past what
+ * is written keeps what it held; under 8 nothing is touched. */
+kapokdrill_converted kapokdrill_convert(
+    const uint8_t *input, size_t input_length,
+    uint8_t *output, size_t output_length);
 
 #ifdef __cplusplus
 }

@@ -3,8 +3,8 @@
 //! engine and on the reference, which works every entry out afresh.
 
 use kapokdrill::lent::{
-    self, Columns, Lent, ListOutcome, Lot, NetTables, Outcome, Record, Stack, Stretch, NETS, OUTPUT,
-    PINS, ROWS, VERTICES,
+    self, Columns, Lent, ListOutcome, Lot, NetTables, Outcome, Record, Stack, Stretch, NETS,
+    OUTPUT, PINS, ROWS, VERTICES,
 };
 use reference::generator::{calls, Random};
 use reference::tables::{entry, Tables};
@@ -123,7 +123,9 @@ impl Memory {
         if found == wanted {
             return Ok(());
         }
-        Err(format!("net {net}, present {present}: {found:?}, not {wanted:?}"))
+        Err(format!(
+            "net {net}, present {present}: {found:?}, not {wanted:?}"
+        ))
     }
 
     /// The stretch of a buyer's marks. A buyer number of 0 or above 1,024, a buyers table or either

@@ -1,7 +1,7 @@
 //! The engine over memory of the caller's: a sale file (`run`), a list of calls apart from the
-//! catalogue (`run_list`), and a net's pins as a stretch of a table (`pins`). Every slice crosses
-//! with its own length, and the engine tests the lengths, so no call of these functions can be
-//! wrong. The tables have the names that the engine gives them.
+//! catalogue (`run_list`), and a net's pins as a stretch of a table (`pins`); and the converter of
+//! hMETIS files (`convert`). Every slice crosses with its own length, and the lengths are tested on
+//! the other side, so no call of these functions can be wrong. The tables have the names that the engine gives them.
 
 /// Bytes that the output must have.
 pub const OUTPUT: usize = 60_000;
@@ -215,6 +215,13 @@ extern "C" {
         present: bool,
         net: u32,
     ) -> Stretch;
+
+    fn kapokdrill_convert(
+        input: *const u8,
+        input_length: usize,
+        output: *mut u8,
+        output_length: usize,
+    ) -> Outcome;
 }
 
 /// Reads a sale file, runs its calls and writes the report, on slices of any length.
@@ -307,6 +314,20 @@ pub fn pins(tables: NetTables<'_>, present: bool, net: u32) -> Stretch {
             tables.presentsizes.len(),
             present,
             net,
+        )
+    }
+}
+
+/// Turns an hMETIS file with its partition listing into a sale file without calls: 0, or 8 for a
+/// short output and 17 to 19 for an input that is refused, and how many bytes were written.
+pub fn convert(input: &[u8], output: &mut [u8]) -> Outcome {
+    // SAFETY: as in `run`; the converter's result has the fields and the layout of `Outcome`.
+    unsafe {
+        kapokdrill_convert(
+            input.as_ptr(),
+            input.len(),
+            output.as_mut_ptr(),
+            output.len(),
         )
     }
 }

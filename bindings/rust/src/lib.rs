@@ -1,5 +1,5 @@
 //! The proved splitter for Rust: `Memory` owns all that the engine is lent and runs sales on it.
-//! Rests on the static library of the crate `engine`; `lent` has the calls across.
+//! Rests on the static libraries of the crates `engine` and `hgr`; `lent` has the calls across.
 
 pub mod lent;
 
@@ -153,4 +153,13 @@ impl Memory {
 /// The place of a lot's or a buyer's entry for a session in the tables of gains and counts.
 pub fn entry(number: usize, session: usize) -> usize {
     16 * (number - 1) + session - 1
+}
+
+/// An hMETIS file with its partition listing as a sale file without calls, or the number of its
+/// refusal, 17 to 19, with the line `NO,number`.
+pub fn convert(input: &[u8]) -> (u32, Vec<u8>) {
+    let mut output = vec![0; OUTPUT];
+    let outcome = lent::convert(input, &mut output);
+    output.truncate(outcome.written);
+    (outcome.code, output)
 }

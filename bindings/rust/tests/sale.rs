@@ -171,3 +171,16 @@ fn numbers_that_name_no_buyer_have_no_marks() {
         assert_eq!(memory.presentpins(buyer).len(), 0);
     }
 }
+
+#[test]
+fn the_worked_sale_as_an_hmetis_file() {
+    let folder = Path::new(env!("CARGO_MANIFEST_DIR")).join("../../hgr");
+    let input = std::fs::read(folder.join("worked-sale.hgr")).expect("the input is on file");
+    let (code, mut sale) = kapokdrill::convert(&input);
+    assert_eq!(code, 0);
+    assert!(on_file("worked-sale.sale").starts_with(&sale));
+    sale.extend(b"J,2,5\nM,2,2\nS\nB\nA\n");
+    let mut memory = Memory::default();
+    assert_eq!(memory.run(&sale), (0, &on_file("worked-sale.report")[..]));
+    assert_eq!(kapokdrill::convert(b""), (17, b"NO,17\n".to_vec()));
+}
