@@ -1,12 +1,14 @@
 //! Measures the engine and the tuned splitter by turns on each workload, prints the medians with
-//! their ratio, and draws the ratios into `bench/ratios.svg`.
+//! their ratio, and draws the ratios into `bench/ratios.svg`; then the converter and the loading of
+//! what it writes, likewise by turns.
 
 use std::hint::black_box;
 use std::time::Instant;
 
 use bench::plot::{bars, LIMIT};
 use bench::tuned::Splitter;
-use bench::workloads::{workloads, Workload};
+use bench::workloads::{hmetis, workloads, Workload};
+use kapokdrill::lent::{convert, OUTPUT};
 use kapokdrill::Memory;
 
 /// Samples of each of the two, and the least time that one takes.
@@ -32,25 +34,48 @@ fn median(mut samples: Vec<f64>) -> f64 {
     samples[samples.len() / 2]
 }
 
-/// The medians of the engine and of the tuned splitter, in seconds.
+/// The medians of two pieces of work, sampled by turns, in seconds.
+fn by_turns(mut one: impl FnMut(), mut other: impl FnMut()) -> (f64, f64) {
+    let (of_one, of_other) = (repeats(&mut one), repeats(&mut other));
+    let (mut ones, mut others) = (Vec::new(), Vec::new());
+    for _ in 0..SAMPLES {
+        ones.push(seconds(of_one, &mut one));
+        others.push(seconds(of_other, &mut other));
+    }
+    (median(ones), median(others))
+}
+
+/// The medians of the engine and of the tuned splitter.
 fn measure(workload: &Workload, memory: &mut Memory, splitter: &mut Splitter) -> (f64, f64) {
     let file = &workload.file;
     let wanted = splitter.run(file);
     assert_eq!(wanted.0, 0, "{}: turned down", workload.name);
     assert!(memory.run(file) == wanted, "{}: two reports", workload.name);
-    let mut engine_runs = || {
-        black_box(memory.run(black_box(file)));
-    };
-    let mut tuned_runs = || {
-        black_box(splitter.run(black_box(file)));
-    };
-    let (of_engine, of_tuned) = (repeats(&mut engine_runs), repeats(&mut tuned_runs));
-    let (mut engine, mut tuned) = (Vec::new(), Vec::new());
-    for _ in 0..SAMPLES {
-        engine.push(seconds(of_engine, &mut engine_runs));
-        tuned.push(seconds(of_tuned, &mut tuned_runs));
-    }
-    (median(engine), median(tuned))
+    by_turns(
+        || {
+            black_box(memory.run(black_box(file)));
+        },
+        || {
+            black_box(splitter.run(black_box(file)));
+        },
+    )
+}
+
+/// The medians of the converter on an input and of the engine on the catalogue that it writes.
+fn measure_converter(memory: &mut Memory) -> (f64, f64) {
+    let input = hmetis();
+    let mut output = vec![0; OUTPUT];
+    let outcome = convert(&input, &mut output);
+    assert_eq!(outcome.code, 0, "the input is refused");
+    let catalogue = output[..outcome.written].to_vec();
+    by_turns(
+        || {
+            black_box(convert(black_box(&input), &mut output));
+        },
+        || {
+            black_box(memory.run(black_box(&catalogue)));
+        },
+    )
 }
 
 fn main() -> std::io::Result<()> {
@@ -71,6 +96,12 @@ fn main() -> std::io::Result<()> {
     }
     let over = ratios.iter().filter(|&&(_, ratio)| ratio > LIMIT).count();
     println!("{over} of {} above {LIMIT}", ratios.len());
+    let (converter, loading) = measure_converter(&mut memory);
+    let ratio = converter / loading;
+    let (converter, loading) = (converter * 1e3, loading * 1e3);
+    println!(
+        "converter {converter:.3} ms, loading what it writes {loading:.3} ms, ratio {ratio:.2}"
+    );
     println!("medians of {SAMPLES} samples by turns; neither's memory was cleared between runs");
     std::fs::write(
         concat!(env!("CARGO_MANIFEST_DIR"), "/ratios.svg"),

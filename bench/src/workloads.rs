@@ -58,3 +58,25 @@ pub fn workloads() -> Vec<Workload> {
         ),
     ]
 }
+
+/// The catalogue of the loading workload as an hMETIS file with its partition listing.
+pub fn hmetis() -> Vec<u8> {
+    let catalogue = catalogue(1024, 1024, 8, 4);
+    let mut text = format!("HGR,{},{}\n", catalogue.sessions, catalogue.slack);
+    text += &format!("{} {} 11\n", catalogue.buyers.len(), catalogue.lots.len());
+    for buyer in &catalogue.buyers {
+        text += &buyer.weight.to_string();
+        for mark in &buyer.marks {
+            text += &format!(" {mark}");
+        }
+        text.push('\n');
+    }
+    for lot in &catalogue.lots {
+        text += &format!("{}\n", lot.bales);
+    }
+    text += "PART\n";
+    for lot in &catalogue.lots {
+        text += &format!("{}\n", lot.session - 1);
+    }
+    text.into_bytes()
+}
