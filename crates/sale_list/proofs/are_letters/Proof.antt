@@ -19,28 +19,44 @@ loop-holds : tie.Need-loop-holds Inv-loop μ-loop
 loop-holds c = (letters-none _, omega arith)
 
 mul-is-letter : tie.Need-mul-is-letter Inv-loop μ-loop
-mul-is-letter c = omega (arith, c .before .before .before .pre, c .loop-test .taken)
+mul-is-letter c =
+    let start = c .before .before .before in
+    omega (arith, start .pre, c .loop-test .taken)
 
 mul-is-letter-2 : tie.Need-mul-is-letter-2 Inv-loop μ-loop
-mul-is-letter-2 c = omega (arith, c .before .before .before .pre, c .loop-test .taken)
+mul-is-letter-2 c =
+    let start = c .before .before .before in
+    omega (arith, start .pre, c .loop-test .taken)
 
 shared-slice-read-is-letter : tie.Need-shared-slice-read-is-letter Inv-loop μ-loop
-shared-slice-read-is-letter c = omega (arith, c .before .before .before .before .pre, c .before .loop-test .taken)
+shared-slice-read-is-letter c =
+    let start = c .before .before .before .before in
+    omega (arith, start .pre, c .before .loop-test .taken)
 
 is-letter-requires : tie.Need-is-letter-requires Inv-loop μ-loop
 is-letter-requires c κs = search needs
 
 returns : tie.Need-returns Inv-loop μ-loop
-returns c = letters-no _ _ _ (c .before .before .before .loop-test .taken) (c .before .is-letter .ensures) (not-true _ (c .if1 .taken))
+returns c =
+    let at-loop-test = c .before .before .before in
+    letters-no _ _ _ (at-loop-test .loop-test .taken) (c .before .is-letter .ensures) (not-true _ (c .if1 .taken))
 
 add-i : tie.Need-add-i Inv-loop μ-loop
-add-i c = omega (arith, c .before .before .before .before .before .before .pre, c .before .before .before .loop-test .taken)
+add-i c =
+    let at-loop-test = c .before .before .before in
+    let start = at-loop-test .before .before .before in
+    omega (arith, start .pre, at-loop-test .loop-test .taken)
 
 loop-less : tie.Need-loop-less Inv-loop μ-loop
-loop-less c = omega (arith, c .before .before .before .loop-test .taken)
+loop-less c =
+    let at-loop-test = c .before .before .before in
+    omega (arith, at-loop-test .loop-test .taken)
 
 loop-again : tie.Need-loop-again Inv-loop μ-loop
-loop-again c = (letters-more _ _ (c .before .before .before .before .loop .inv .0) (c .before .is-letter .ensures) (not-false _ (c .if1 .left)), omega (arith, c .before .before .before .loop-test .taken))
+loop-again c =
+    let at-loop-test = c .before .before .before in
+    let at-loop = at-loop-test .before in
+    (letters-more _ _ (at-loop .loop .inv .0) (c .before .is-letter .ensures) (not-false _ (c .if1 .left)), omega (arith, at-loop-test .loop-test .taken))
 
 returns-2 : tie.Need-returns-2 Inv-loop μ-loop
 returns-2 c = letters-all _ _ _ (omega (arith, c .loop-test .left, c .before .loop .inv)) (c .before .loop .inv .0)
