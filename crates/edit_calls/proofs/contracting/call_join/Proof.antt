@@ -19,10 +19,14 @@ returns : tie.Need-returns
 returns c = λ loads loaded h ceiling. refused-J _ _ _ _ _ (c .before .refuses-join .ensures) (c .if1 .taken)
 
 short-requires : tie.Need-short-requires
-short-requires c κs = omega (arith, (pair-of (now (c .before .before .before .before .before .before .before .before .before .before .before .before .before .args .blocks)) (c .before .before .before .before .before .before .before .before .before .before .before .before .before .args .n) (c .before .before .before .before .before .before .before .before .before .before .before .before .before .args .u) (c .before .before .before .before .before .before .before .before .before .before .before .before .before .args .v) (sym (c .before .refuses-join .ensures) ∙ c .if1 .left)) .1 .u-in, roomy (c .before .before .before .before .before .before .before .before .before .before .before .before .before .pre .ready) .few-vertices)
+short-requires c κs =
+    let start = c .before .before .before .before .before .before .before .before .before .before .before .before .before in
+    omega (arith, (pair-of (now (start .args .blocks)) (start .args .n) (start .args .u) (start .args .v) (sym (c .before .refuses-join .ensures) ∙ c .if1 .left)) .1 .u-in, roomy (start .pre .ready) .few-vertices)
 
 short-requires-2 : tie.Need-short-requires-2
-short-requires-2 c κs = omega (arith, (pair-of (now (c .before .before .before .before .before .before .before .before .before .before .before .before .before .before .args .blocks)) (c .before .before .before .before .before .before .before .before .before .before .before .before .before .before .args .n) (c .before .before .before .before .before .before .before .before .before .before .before .before .before .before .args .u) (c .before .before .before .before .before .before .before .before .before .before .before .before .before .before .args .v) (sym (c .before .before .refuses-join .ensures) ∙ c .before .if1 .left)) .1 .v-in, roomy (c .before .before .before .before .before .before .before .before .before .before .before .before .before .before .pre .ready) .few-vertices)
+short-requires-2 c κs =
+    let start = c .before .before .before .before .before .before .before .before .before .before .before .before .before .before in
+    omega (arith, (pair-of (now (start .args .blocks)) (start .args .n) (start .args .u) (start .args .v) (sym (c .before .before .refuses-join .ensures) ∙ c .before .if1 .left)) .1 .v-in, roomy (start .pre .ready) .few-vertices)
 
 push-requires : tie.Need-push-requires
 push-requires c κs =
@@ -33,10 +37,18 @@ clear-requires : tie.Need-clear-requires
 clear-requires c κs = search needs
 
 sub-join : tie.Need-sub-join
-sub-join c = omega (arith, (pair-of (now (c .before .before .before .before .before .before .before .before .before .before .before .before .before .before .before .before .before .before .before .before .before .before .before .before .before .before .args .blocks)) (c .before .before .before .before .before .before .before .before .before .before .before .before .before .before .before .before .before .before .before .before .before .before .before .before .before .before .args .n) (c .before .before .before .before .before .before .before .before .before .before .before .before .before .before .before .before .before .before .before .before .before .before .before .before .before .before .args .u) (c .before .before .before .before .before .before .before .before .before .before .before .before .before .before .before .before .before .before .before .before .before .before .before .before .before .before .args .v) (sym (c .before .before .before .before .before .before .before .before .before .before .before .before .before .before .refuses-join .ensures) ∙ c .before .before .before .before .before .before .before .before .before .before .before .before .before .if1 .left)) .0)
+sub-join c =
+    let at-if1 = c .before .before .before .before .before .before .before .before .before .before .before .before .before in
+    let at-refuses-join = at-if1 .before in
+    let start = at-refuses-join .before .before .before .before .before .before .before .before .before .before .before .before in
+    omega (arith, (pair-of (now (start .args .blocks)) (start .args .n) (start .args .u) (start .args .v) (sym (at-refuses-join .refuses-join .ensures) ∙ at-if1 .if1 .left)) .0)
 
 sub-join-2 : tie.Need-sub-join-2
-sub-join-2 c = omega (arith, (pair-of (now (c .before .before .before .before .before .before .before .before .before .before .before .before .before .before .before .before .before .before .before .before .before .before .before .before .before .before .args .blocks)) (c .before .before .before .before .before .before .before .before .before .before .before .before .before .before .before .before .before .before .before .before .before .before .before .before .before .before .args .n) (c .before .before .before .before .before .before .before .before .before .before .before .before .before .before .before .before .before .before .before .before .before .before .before .before .before .before .args .u) (c .before .before .before .before .before .before .before .before .before .before .before .before .before .before .before .before .before .before .before .before .before .before .before .before .before .before .args .v) (sym (c .before .before .before .before .before .before .before .before .before .before .before .before .before .before .refuses-join .ensures) ∙ c .before .before .before .before .before .before .before .before .before .before .before .before .before .if1 .left)) .0)
+sub-join-2 c =
+    let at-if1 = c .before .before .before .before .before .before .before .before .before .before .before .before .before in
+    let at-refuses-join = at-if1 .before in
+    let start = at-refuses-join .before .before .before .before .before .before .before .before .before .before .before .before in
+    omega (arith, (pair-of (now (start .args .blocks)) (start .args .n) (start .args .u) (start .args .v) (sym (at-refuses-join .refuses-join .ensures) ∙ at-if1 .if1 .left)) .0)
 
 join-requires : tie.Need-join-requires
 join-requires c κs =
@@ -46,13 +58,26 @@ join-requires c κs =
     record { loads = start .pre .loads; loaded = start .pre .loaded; h = start .pre .ready .h; cs = start .pre .ready .s .stack; block = start .pre .ready .s .block; sound = start .pre .ready .runs .sound; pair = (pair-of (now (start .args .blocks)) (start .args .n) (start .args .u) (start .args .v) (sym (at-refuses-join .refuses-join .ensures) ∙ at-if1 .if1 .left)) .1 }
 
 sub-after : tie.Need-sub-after
-sub-after c = omega (arith, (pair-of (now (c .before .before .before .before .before .before .before .before .before .before .before .before .before .before .before .before .before .before .before .before .before .before .before .before .before .before .before .before .before .before .before .before .before .before .before .before .before .before .before .before .before .before .before .before .args .blocks)) (c .before .before .before .before .before .before .before .before .before .before .before .before .before .before .before .before .before .before .before .before .before .before .before .before .before .before .before .before .before .before .before .before .before .before .before .before .before .before .before .before .before .before .before .before .args .n) (c .before .before .before .before .before .before .before .before .before .before .before .before .before .before .before .before .before .before .before .before .before .before .before .before .before .before .before .before .before .before .before .before .before .before .before .before .before .before .before .before .before .before .before .before .args .u) (c .before .before .before .before .before .before .before .before .before .before .before .before .before .before .before .before .before .before .before .before .before .before .before .before .before .before .before .before .before .before .before .before .before .before .before .before .before .before .before .before .before .before .before .before .args .v) (sym (c .before .before .before .before .before .before .before .before .before .before .before .before .before .before .before .before .before .before .before .before .before .before .before .before .before .before .before .before .before .before .before .before .refuses-join .ensures) ∙ c .before .before .before .before .before .before .before .before .before .before .before .before .before .before .before .before .before .before .before .before .before .before .before .before .before .before .before .before .before .before .before .if1 .left)) .0)
+sub-after c =
+    let at-if1 = c .before .before .before .before .before .before .before .before .before .before .before .before .before .before .before .before .before .before .before .before .before .before .before .before .before .before .before .before .before .before .before in
+    let at-refuses-join = at-if1 .before in
+    let start = at-refuses-join .before .before .before .before .before .before .before .before .before .before .before .before in
+    omega (arith, (pair-of (now (start .args .blocks)) (start .args .n) (start .args .u) (start .args .v) (sym (at-refuses-join .refuses-join .ensures) ∙ at-if1 .if1 .left)) .0)
 
 mul-after : tie.Need-mul-after
-mul-after c = omega (arith, (pair-of (now (c .before .before .before .before .before .before .before .before .before .before .before .before .before .before .before .before .before .before .before .before .before .before .before .before .before .before .before .before .before .before .before .before .before .before .before .before .before .before .before .before .before .before .before .before .args .blocks)) (c .before .before .before .before .before .before .before .before .before .before .before .before .before .before .before .before .before .before .before .before .before .before .before .before .before .before .before .before .before .before .before .before .before .before .before .before .before .before .before .before .before .before .before .before .args .n) (c .before .before .before .before .before .before .before .before .before .before .before .before .before .before .before .before .before .before .before .before .before .before .before .before .before .before .before .before .before .before .before .before .before .before .before .before .before .before .before .before .before .before .before .before .args .u) (c .before .before .before .before .before .before .before .before .before .before .before .before .before .before .before .before .before .before .before .before .before .before .before .before .before .before .before .before .before .before .before .before .before .before .before .before .before .before .before .before .before .before .before .before .args .v) (sym (c .before .before .before .before .before .before .before .before .before .before .before .before .before .before .before .before .before .before .before .before .before .before .before .before .before .before .before .before .before .before .before .before .refuses-join .ensures) ∙ c .before .before .before .before .before .before .before .before .before .before .before .before .before .before .before .before .before .before .before .before .before .before .before .before .before .before .before .before .before .before .before .if1 .left)) .1 .u-in, roomy (c .before .before .before .before .before .before .before .before .before .before .before .before .before .before .before .before .before .before .before .before .before .before .before .before .before .before .before .before .before .before .before .before .before .before .before .before .before .before .before .before .before .before .before .before .pre .ready) .few-vertices)
+mul-after c =
+    let at-if1 = c .before .before .before .before .before .before .before .before .before .before .before .before .before .before .before .before .before .before .before .before .before .before .before .before .before .before .before .before .before .before .before in
+    let at-refuses-join = at-if1 .before in
+    let start = at-refuses-join .before .before .before .before .before .before .before .before .before .before .before .before in
+    omega (arith, (pair-of (now (start .args .blocks)) (start .args .n) (start .args .u) (start .args .v) (sym (at-refuses-join .refuses-join .ensures) ∙ at-if1 .if1 .left)) .1 .u-in, roomy (start .pre .ready) .few-vertices)
 
 slice-read-after : tie.Need-slice-read-after
-slice-read-after c = omega (arith, (pair-of (now (c .before .before .before .before .before .before .before .before .before .before .before .before .before .before .before .before .before .before .before .before .before .before .before .before .before .before .before .before .before .before .before .before .before .before .before .before .before .before .before .before .before .before .before .before .before .args .blocks)) (c .before .before .before .before .before .before .before .before .before .before .before .before .before .before .before .before .before .before .before .before .before .before .before .before .before .before .before .before .before .before .before .before .before .before .before .before .before .before .before .before .before .before .before .before .before .args .n) (c .before .before .before .before .before .before .before .before .before .before .before .before .before .before .before .before .before .before .before .before .before .before .before .before .before .before .before .before .before .before .before .before .before .before .before .before .before .before .before .before .before .before .before .before .before .args .u) (c .before .before .before .before .before .before .before .before .before .before .before .before .before .before .before .before .before .before .before .before .before .before .before .before .before .before .before .before .before .before .before .before .before .before .before .before .before .before .before .before .before .before .before .before .before .args .v) (sym (c .before .before .before .before .before .before .before .before .before .before .before .before .before .before .before .before .before .before .before .before .before .before .before .before .before .before .before .before .before .before .before .before .before .refuses-join .ensures) ∙ c .before .before .before .before .before .before .before .before .before .before .before .before .before .before .before .before .before .before .before .before .before .before .before .before .before .before .before .before .before .before .before .before .if1 .left)) .1 .u-in, c .before .before .before .before .before .before .before .before .before .before .before .before .before .before .before .before .before .before .join .ensures (c .before .before .before .before .before .before .before .before .before .before .before .before .before .before .before .before .before .before .before .before .before .before .before .before .before .before .before .before .before .before .before .before .before .before .before .before .before .before .before .before .before .before .before .before .before .pre .loads) (c .before .before .before .before .before .before .before .before .before .before .before .before .before .before .before .before .before .before .before .before .before .before .before .before .before .before .before .before .before .before .before .before .before .before .before .before .before .before .before .before .before .before .before .before .before .pre .loaded) .sound (c .before .before .before .before .before .before .before .before .before .before .before .before .before .before .before .before .before .before .before .before .before .before .before .before .before .before .before .before .before .before .before .before .before .before .before .before .before .before .before .before .before .before .before .before .before .pre .ready .h) (c .before .before .before .before .before .before .before .before .before .before .before .before .before .before .before .before .before .before .before .before .before .before .before .before .before .before .before .before .before .before .before .before .before .before .before .before .before .before .before .before .before .before .before .before .before .pre .ready .s .stack) (c .before .before .before .before .before .before .before .before .before .before .before .before .before .before .before .before .before .before .before .before .before .before .before .before .before .before .before .before .before .before .before .before .before .before .before .before .before .before .before .before .before .before .before .before .before .pre .ready .s .block) (c .before .before .before .before .before .before .before .before .before .before .before .before .before .before .before .before .before .before .before .before .before .before .before .before .before .before .before .before .before .before .before .before .before .before .before .before .before .before .before .before .before .before .before .before .before .pre .ready .runs .sound) .weights-fit)
+slice-read-after c =
+    let at-join = c .before .before .before .before .before .before .before .before .before .before .before .before .before .before .before .before .before .before in
+    let at-if1 = at-join .before .before .before .before .before .before .before .before .before .before .before .before .before .before in
+    let at-refuses-join = at-if1 .before in
+    let start = at-refuses-join .before .before .before .before .before .before .before .before .before .before .before .before in
+    omega (arith, (pair-of (now (start .args .blocks)) (start .args .n) (start .args .u) (start .args .v) (sym (at-refuses-join .refuses-join .ensures) ∙ at-if1 .if1 .left)) .1 .u-in, at-join .join .ensures (start .pre .loads) (start .pre .loaded) .sound (start .pre .ready .h) (start .pre .ready .s .stack) (start .pre .ready .s .block) (start .pre .ready .runs .sound) .weights-fit)
 
 same-length-2 : tie.Need-same-length-2
 same-length-2 c = search needs

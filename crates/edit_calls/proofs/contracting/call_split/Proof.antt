@@ -12,19 +12,27 @@ sub-into : tie.Need-sub-into
 sub-into c = omega (arith, above-none _ (c .if1 .left))
 
 mul-into : tie.Need-mul-into
-mul-into c = omega (arith, roomy (c .before .before .before .before .before .before .before .before .before .before .before .before .pre .ready) .stack-short)
+mul-into c =
+    let start = c .before .before .before .before .before .before .before .before .before .before .before .before in
+    omega (arith, roomy (start .pre .ready) .stack-short)
 
 element-copy-out-into : tie.Need-element-copy-out-into
-element-copy-out-into c = omega (arith, roomy (c .before .before .before .before .before .before .before .before .before .before .before .before .pre .ready) .stack-short, above-none _ (c .if1 .left))
+element-copy-out-into c =
+    let start = c .before .before .before .before .before .before .before .before .before .before .before .before in
+    omega (arith, roomy (start .pre .ready) .stack-short, above-none _ (c .if1 .left))
 
 sub-gone : tie.Need-sub-gone
 sub-gone c = omega (arith, above-none _ (c .before .if1 .left))
 
 mul-gone : tie.Need-mul-gone
-mul-gone c = omega (arith, roomy (c .before .before .before .before .before .before .before .before .before .before .before .before .before .pre .ready) .stack-short)
+mul-gone c =
+    let start = c .before .before .before .before .before .before .before .before .before .before .before .before .before in
+    omega (arith, roomy (start .pre .ready) .stack-short)
 
 element-copy-out-gone : tie.Need-element-copy-out-gone
-element-copy-out-gone c = omega (arith, roomy (c .before .before .before .before .before .before .before .before .before .before .before .before .before .pre .ready) .stack-short, above-none _ (c .before .if1 .left))
+element-copy-out-gone c =
+    let start = c .before .before .before .before .before .before .before .before .before .before .before .before .before in
+    omega (arith, roomy (start .pre .ready) .stack-short, above-none _ (c .before .if1 .left))
 
 index-requires : tie.Need-index-requires
 index-requires c κs = search needs
@@ -33,16 +41,26 @@ index-requires-2 : tie.Need-index-requires-2
 index-requires-2 c κs = search needs
 
 pop-requires : tie.Need-pop-requires
-pop-requires c κs = above-none _ (c .before .before .before .before .if1 .left)
+pop-requires c κs =
+    let at-if1 = c .before .before .before .before in
+    above-none _ (at-if1 .if1 .left)
 
 clear-requires : tie.Need-clear-requires
 clear-requires c κs = search needs
 
 sub-split : tie.Need-sub-split
-sub-split c = omega (arith, (top-in (c .before .before .before .before .before .before .before .before .before .before .before .before .before .before .before .before .before .before .before .before .before .before .before .before .before .before .before .pre .ready .runs) (above-none _ (c .before .before .before .before .before .before .before .before .before .before .before .before .before .before .before .if1 .left))) .0, c .before .before .before .before .before .before .before .before .before .before .before .before .index .ensures)
+sub-split c =
+    let at-index = c .before .before .before .before .before .before .before .before .before .before .before .before in
+    let at-if1 = at-index .before .before .before in
+    let start = at-if1 .before .before .before .before .before .before .before .before .before .before .before .before in
+    omega (arith, (top-in (start .pre .ready .runs) (above-none _ (at-if1 .if1 .left))) .0, at-index .index .ensures)
 
 sub-split-2 : tie.Need-sub-split-2
-sub-split-2 c = omega (arith, (top-in (c .before .before .before .before .before .before .before .before .before .before .before .before .before .before .before .before .before .before .before .before .before .before .before .before .before .before .before .pre .ready .runs) (above-none _ (c .before .before .before .before .before .before .before .before .before .before .before .before .before .before .before .if1 .left))) .1, c .before .before .before .before .before .before .before .before .before .before .before .index2 .ensures)
+sub-split-2 c =
+    let at-index2 = c .before .before .before .before .before .before .before .before .before .before .before in
+    let at-if1 = at-index2 .before .before .before .before in
+    let start = at-if1 .before .before .before .before .before .before .before .before .before .before .before .before in
+    omega (arith, (top-in (start .pre .ready .runs) (above-none _ (at-if1 .if1 .left))) .1, at-index2 .index2 .ensures)
 
 split-requires : tie.Need-split-requires
 split-requires c κs =

@@ -13,28 +13,42 @@ sub-v : tie.Need-sub-v
 sub-v c = omega (arith, above-none _ (c .if1 .left))
 
 mul-v : tie.Need-mul-v
-mul-v c = omega (arith, roomy (c .before .before .before .before .before .before .before .before .before .before .pre .ready) .journal-short)
+mul-v c =
+    let start = c .before .before .before .before .before .before .before .before .before .before in
+    omega (arith, roomy (start .pre .ready) .journal-short)
 
 element-copy-out-v : tie.Need-element-copy-out-v
-element-copy-out-v c = omega (arith, roomy (c .before .before .before .before .before .before .before .before .before .before .pre .ready) .journal-short, above-none _ (c .if1 .left))
+element-copy-out-v c =
+    let start = c .before .before .before .before .before .before .before .before .before .before in
+    omega (arith, roomy (start .pre .ready) .journal-short, above-none _ (c .if1 .left))
 
 sub-b : tie.Need-sub-b
 sub-b c = omega (arith, above-none _ (c .before .if1 .left))
 
 mul-b : tie.Need-mul-b
-mul-b c = omega (arith, roomy (c .before .before .before .before .before .before .before .before .before .before .before .pre .ready) .journal-short)
+mul-b c =
+    let start = c .before .before .before .before .before .before .before .before .before .before .before in
+    omega (arith, roomy (start .pre .ready) .journal-short)
 
 element-copy-out-b : tie.Need-element-copy-out-b
-element-copy-out-b c = omega (arith, roomy (c .before .before .before .before .before .before .before .before .before .before .before .pre .ready) .journal-short, above-none _ (c .before .if1 .left))
+element-copy-out-b c =
+    let start = c .before .before .before .before .before .before .before .before .before .before .before in
+    omega (arith, roomy (start .pre .ready) .journal-short, above-none _ (c .before .if1 .left))
 
 index-requires : tie.Need-index-requires
 index-requires c κs = search needs
 
 pop-requires : tie.Need-pop-requires
-pop-requires c κs = above-none _ (c .before .before .before .if1 .left)
+pop-requires c κs =
+    let at-if1 = c .before .before .before in
+    above-none _ (at-if1 .if1 .left)
 
 sub-back : tie.Need-sub-back
-sub-back c = omega (arith, (back-open (c .before .before .before .before .before .before .before .before .before .before .before .before .before .before .before .before .before .before .before .pre .ready .runs) (above-none _ (c .before .before .before .before .before .before .before .before .before .if1 .left))) .0, c .before .before .before .before .before .before .index .ensures)
+sub-back c =
+    let at-index = c .before .before .before .before .before .before in
+    let at-if1 = at-index .before .before .before in
+    let start = at-if1 .before .before .before .before .before .before .before .before .before .before in
+    omega (arith, (back-open (start .pre .ready .runs) (above-none _ (at-if1 .if1 .left))) .0, at-index .index .ensures)
 
 back-requires : tie.Need-back-requires
 back-requires c κs =

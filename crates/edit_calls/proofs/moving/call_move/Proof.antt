@@ -23,34 +23,58 @@ returns c =
     λ aboves loaded S h ceiling q. refused-M _ (now (start .args .ceilings)) _ _ _ _ _ q (c .before .refuses-move .ensures) (c .if1 .taken)
 
 sub-gain : tie.Need-sub-gain
-sub-gain c = omega (arith, (open-of (now (c .before .before .before .before .before .before .before .before .before .before .before .before .before .args .blocks)) (now (c .before .before .before .before .before .before .before .before .before .before .before .before .before .args .loads)) (now (c .before .before .before .before .before .before .before .before .before .before .before .before .before .args .ceilings)) (now (c .before .before .before .before .before .before .before .before .before .before .before .before .before .args .weights)) (c .before .before .before .before .before .before .before .before .before .before .before .before .before .args .n) (c .before .before .before .before .before .before .before .before .before .before .before .before .before .args .k) (c .before .before .before .before .before .before .before .before .before .before .before .before .before .args .u) (c .before .before .before .before .before .before .before .before .before .before .before .before .before .args .t) (sym (c .before .refuses-move .ensures) ∙ c .if1 .left)) .0)
+sub-gain c =
+    let start = c .before .before .before .before .before .before .before .before .before .before .before .before .before in
+    omega (arith, (open-of (now (start .args .blocks)) (now (start .args .loads)) (now (start .args .ceilings)) (now (start .args .weights)) (start .args .n) (start .args .k) (start .args .u) (start .args .t) (sym (c .before .refuses-move .ensures) ∙ c .if1 .left)) .0)
 
 mul-gain : tie.Need-mul-gain
-mul-gain c = omega (arith, (open-of (now (c .before .before .before .before .before .before .before .before .before .before .before .before .before .args .blocks)) (now (c .before .before .before .before .before .before .before .before .before .before .before .before .before .args .loads)) (now (c .before .before .before .before .before .before .before .before .before .before .before .before .before .args .ceilings)) (now (c .before .before .before .before .before .before .before .before .before .before .before .before .before .args .weights)) (c .before .before .before .before .before .before .before .before .before .before .before .before .before .args .n) (c .before .before .before .before .before .before .before .before .before .before .before .before .before .args .k) (c .before .before .before .before .before .before .before .before .before .before .before .before .before .args .u) (c .before .before .before .before .before .before .before .before .before .before .before .before .before .args .t) (sym (c .before .refuses-move .ensures) ∙ c .if1 .left)) .1 .u-in, roomy (c .before .before .before .before .before .before .before .before .before .before .before .before .before .pre .ready) .few-vertices)
+mul-gain c =
+    let start = c .before .before .before .before .before .before .before .before .before .before .before .before .before in
+    omega (arith, (open-of (now (start .args .blocks)) (now (start .args .loads)) (now (start .args .ceilings)) (now (start .args .weights)) (start .args .n) (start .args .k) (start .args .u) (start .args .t) (sym (c .before .refuses-move .ensures) ∙ c .if1 .left)) .1 .u-in, roomy (start .pre .ready) .few-vertices)
 
 sub-gain-2 : tie.Need-sub-gain-2
-sub-gain-2 c = omega (arith, (open-of (now (c .before .before .before .before .before .before .before .before .before .before .before .before .before .args .blocks)) (now (c .before .before .before .before .before .before .before .before .before .before .before .before .before .args .loads)) (now (c .before .before .before .before .before .before .before .before .before .before .before .before .before .args .ceilings)) (now (c .before .before .before .before .before .before .before .before .before .before .before .before .before .args .weights)) (c .before .before .before .before .before .before .before .before .before .before .before .before .before .args .n) (c .before .before .before .before .before .before .before .before .before .before .before .before .before .args .k) (c .before .before .before .before .before .before .before .before .before .before .before .before .before .args .u) (c .before .before .before .before .before .before .before .before .before .before .before .before .before .args .t) (sym (c .before .refuses-move .ensures) ∙ c .if1 .left)) .1 .t-in)
+sub-gain-2 c =
+    let start = c .before .before .before .before .before .before .before .before .before .before .before .before .before in
+    omega (arith, (open-of (now (start .args .blocks)) (now (start .args .loads)) (now (start .args .ceilings)) (now (start .args .weights)) (start .args .n) (start .args .k) (start .args .u) (start .args .t) (sym (c .before .refuses-move .ensures) ∙ c .if1 .left)) .1 .t-in)
 
 add-gain : tie.Need-add-gain
-add-gain c = omega (arith, (open-of (now (c .before .before .before .before .before .before .before .before .before .before .before .before .before .args .blocks)) (now (c .before .before .before .before .before .before .before .before .before .before .before .before .before .args .loads)) (now (c .before .before .before .before .before .before .before .before .before .before .before .before .before .args .ceilings)) (now (c .before .before .before .before .before .before .before .before .before .before .before .before .before .args .weights)) (c .before .before .before .before .before .before .before .before .before .before .before .before .before .args .n) (c .before .before .before .before .before .before .before .before .before .before .before .before .before .args .k) (c .before .before .before .before .before .before .before .before .before .before .before .before .before .args .u) (c .before .before .before .before .before .before .before .before .before .before .before .before .before .args .t) (sym (c .before .refuses-move .ensures) ∙ c .if1 .left)) .1 .u-in, roomy (c .before .before .before .before .before .before .before .before .before .before .before .before .before .pre .ready) .few-vertices, (open-of (now (c .before .before .before .before .before .before .before .before .before .before .before .before .before .args .blocks)) (now (c .before .before .before .before .before .before .before .before .before .before .before .before .before .args .loads)) (now (c .before .before .before .before .before .before .before .before .before .before .before .before .before .args .ceilings)) (now (c .before .before .before .before .before .before .before .before .before .before .before .before .before .args .weights)) (c .before .before .before .before .before .before .before .before .before .before .before .before .before .args .n) (c .before .before .before .before .before .before .before .before .before .before .before .before .before .args .k) (c .before .before .before .before .before .before .before .before .before .before .before .before .before .args .u) (c .before .before .before .before .before .before .before .before .before .before .before .before .before .args .t) (sym (c .before .refuses-move .ensures) ∙ c .if1 .left)) .1 .t-in, roomy (c .before .before .before .before .before .before .before .before .before .before .before .before .before .pre .ready) .few-blocks)
+add-gain c =
+    let start = c .before .before .before .before .before .before .before .before .before .before .before .before .before in
+    omega (arith, (open-of (now (start .args .blocks)) (now (start .args .loads)) (now (start .args .ceilings)) (now (start .args .weights)) (start .args .n) (start .args .k) (start .args .u) (start .args .t) (sym (c .before .refuses-move .ensures) ∙ c .if1 .left)) .1 .u-in, roomy (start .pre .ready) .few-vertices, (open-of (now (start .args .blocks)) (now (start .args .loads)) (now (start .args .ceilings)) (now (start .args .weights)) (start .args .n) (start .args .k) (start .args .u) (start .args .t) (sym (c .before .refuses-move .ensures) ∙ c .if1 .left)) .1 .t-in, roomy (start .pre .ready) .few-blocks)
 
 mul-gain-2 : tie.Need-mul-gain-2
-mul-gain-2 c = omega (arith, (open-of (now (c .before .before .before .before .before .before .before .before .before .before .before .before .before .args .blocks)) (now (c .before .before .before .before .before .before .before .before .before .before .before .before .before .args .loads)) (now (c .before .before .before .before .before .before .before .before .before .before .before .before .before .args .ceilings)) (now (c .before .before .before .before .before .before .before .before .before .before .before .before .before .args .weights)) (c .before .before .before .before .before .before .before .before .before .before .before .before .before .args .n) (c .before .before .before .before .before .before .before .before .before .before .before .before .before .args .k) (c .before .before .before .before .before .before .before .before .before .before .before .before .before .args .u) (c .before .before .before .before .before .before .before .before .before .before .before .before .before .args .t) (sym (c .before .refuses-move .ensures) ∙ c .if1 .left)) .1 .u-in, roomy (c .before .before .before .before .before .before .before .before .before .before .before .before .before .pre .ready) .few-vertices, (open-of (now (c .before .before .before .before .before .before .before .before .before .before .before .before .before .args .blocks)) (now (c .before .before .before .before .before .before .before .before .before .before .before .before .before .args .loads)) (now (c .before .before .before .before .before .before .before .before .before .before .before .before .before .args .ceilings)) (now (c .before .before .before .before .before .before .before .before .before .before .before .before .before .args .weights)) (c .before .before .before .before .before .before .before .before .before .before .before .before .before .args .n) (c .before .before .before .before .before .before .before .before .before .before .before .before .before .args .k) (c .before .before .before .before .before .before .before .before .before .before .before .before .before .args .u) (c .before .before .before .before .before .before .before .before .before .before .before .before .before .args .t) (sym (c .before .refuses-move .ensures) ∙ c .if1 .left)) .1 .t-in, roomy (c .before .before .before .before .before .before .before .before .before .before .before .before .before .pre .ready) .few-blocks)
+mul-gain-2 c =
+    let start = c .before .before .before .before .before .before .before .before .before .before .before .before .before in
+    omega (arith, (open-of (now (start .args .blocks)) (now (start .args .loads)) (now (start .args .ceilings)) (now (start .args .weights)) (start .args .n) (start .args .k) (start .args .u) (start .args .t) (sym (c .before .refuses-move .ensures) ∙ c .if1 .left)) .1 .u-in, roomy (start .pre .ready) .few-vertices, (open-of (now (start .args .blocks)) (now (start .args .loads)) (now (start .args .ceilings)) (now (start .args .weights)) (start .args .n) (start .args .k) (start .args .u) (start .args .t) (sym (c .before .refuses-move .ensures) ∙ c .if1 .left)) .1 .t-in, roomy (start .pre .ready) .few-blocks)
 
 slice-copy-out-gain : tie.Need-slice-copy-out-gain
-slice-copy-out-gain c = omega (arith, (open-of (now (c .before .before .before .before .before .before .before .before .before .before .before .before .before .args .blocks)) (now (c .before .before .before .before .before .before .before .before .before .before .before .before .before .args .loads)) (now (c .before .before .before .before .before .before .before .before .before .before .before .before .before .args .ceilings)) (now (c .before .before .before .before .before .before .before .before .before .before .before .before .before .args .weights)) (c .before .before .before .before .before .before .before .before .before .before .before .before .before .args .n) (c .before .before .before .before .before .before .before .before .before .before .before .before .before .args .k) (c .before .before .before .before .before .before .before .before .before .before .before .before .before .args .u) (c .before .before .before .before .before .before .before .before .before .before .before .before .before .args .t) (sym (c .before .refuses-move .ensures) ∙ c .if1 .left)) .1 .u-in, roomy (c .before .before .before .before .before .before .before .before .before .before .before .before .before .pre .ready) .few-vertices, (open-of (now (c .before .before .before .before .before .before .before .before .before .before .before .before .before .args .blocks)) (now (c .before .before .before .before .before .before .before .before .before .before .before .before .before .args .loads)) (now (c .before .before .before .before .before .before .before .before .before .before .before .before .before .args .ceilings)) (now (c .before .before .before .before .before .before .before .before .before .before .before .before .before .args .weights)) (c .before .before .before .before .before .before .before .before .before .before .before .before .before .args .n) (c .before .before .before .before .before .before .before .before .before .before .before .before .before .args .k) (c .before .before .before .before .before .before .before .before .before .before .before .before .before .args .u) (c .before .before .before .before .before .before .before .before .before .before .before .before .before .args .t) (sym (c .before .refuses-move .ensures) ∙ c .if1 .left)) .1 .t-in, roomy (c .before .before .before .before .before .before .before .before .before .before .before .before .before .pre .ready) .few-blocks, roomy (c .before .before .before .before .before .before .before .before .before .before .before .before .before .pre .ready) .gains-fit)
+slice-copy-out-gain c =
+    let start = c .before .before .before .before .before .before .before .before .before .before .before .before .before in
+    omega (arith, (open-of (now (start .args .blocks)) (now (start .args .loads)) (now (start .args .ceilings)) (now (start .args .weights)) (start .args .n) (start .args .k) (start .args .u) (start .args .t) (sym (c .before .refuses-move .ensures) ∙ c .if1 .left)) .1 .u-in, roomy (start .pre .ready) .few-vertices, (open-of (now (start .args .blocks)) (now (start .args .loads)) (now (start .args .ceilings)) (now (start .args .weights)) (start .args .n) (start .args .k) (start .args .u) (start .args .t) (sym (c .before .refuses-move .ensures) ∙ c .if1 .left)) .1 .t-in, roomy (start .pre .ready) .few-blocks, roomy (start .pre .ready) .gains-fit)
 
 short-requires : tie.Need-short-requires
-short-requires c κs = omega (arith, (open-of (now (c .before .before .before .before .before .before .before .before .before .before .before .before .before .before .args .blocks)) (now (c .before .before .before .before .before .before .before .before .before .before .before .before .before .before .args .loads)) (now (c .before .before .before .before .before .before .before .before .before .before .before .before .before .before .args .ceilings)) (now (c .before .before .before .before .before .before .before .before .before .before .before .before .before .before .args .weights)) (c .before .before .before .before .before .before .before .before .before .before .before .before .before .before .args .n) (c .before .before .before .before .before .before .before .before .before .before .before .before .before .before .args .k) (c .before .before .before .before .before .before .before .before .before .before .before .before .before .before .args .u) (c .before .before .before .before .before .before .before .before .before .before .before .before .before .before .args .t) (sym (c .before .before .refuses-move .ensures) ∙ c .before .if1 .left)) .1 .u-in, roomy (c .before .before .before .before .before .before .before .before .before .before .before .before .before .before .pre .ready) .few-vertices)
+short-requires c κs =
+    let start = c .before .before .before .before .before .before .before .before .before .before .before .before .before .before in
+    omega (arith, (open-of (now (start .args .blocks)) (now (start .args .loads)) (now (start .args .ceilings)) (now (start .args .weights)) (start .args .n) (start .args .k) (start .args .u) (start .args .t) (sym (c .before .before .refuses-move .ensures) ∙ c .before .if1 .left)) .1 .u-in, roomy (start .pre .ready) .few-vertices)
 
 sub-push : tie.Need-sub-push
-sub-push c = omega (arith, (open-of (now (c .before .before .before .before .before .before .before .before .before .before .before .before .before .before .before .args .blocks)) (now (c .before .before .before .before .before .before .before .before .before .before .before .before .before .before .before .args .loads)) (now (c .before .before .before .before .before .before .before .before .before .before .before .before .before .before .before .args .ceilings)) (now (c .before .before .before .before .before .before .before .before .before .before .before .before .before .before .before .args .weights)) (c .before .before .before .before .before .before .before .before .before .before .before .before .before .before .before .args .n) (c .before .before .before .before .before .before .before .before .before .before .before .before .before .before .before .args .k) (c .before .before .before .before .before .before .before .before .before .before .before .before .before .before .before .args .u) (c .before .before .before .before .before .before .before .before .before .before .before .before .before .before .before .args .t) (sym (c .before .before .before .refuses-move .ensures) ∙ c .before .before .if1 .left)) .0)
+sub-push c =
+    let at-refuses-move = c .before .before .before in
+    let start = at-refuses-move .before .before .before .before .before .before .before .before .before .before .before .before in
+    omega (arith, (open-of (now (start .args .blocks)) (now (start .args .loads)) (now (start .args .ceilings)) (now (start .args .weights)) (start .args .n) (start .args .k) (start .args .u) (start .args .t) (sym (at-refuses-move .refuses-move .ensures) ∙ c .before .before .if1 .left)) .0)
 
 mul-push : tie.Need-mul-push
-mul-push c = omega (arith, (open-of (now (c .before .before .before .before .before .before .before .before .before .before .before .before .before .before .before .args .blocks)) (now (c .before .before .before .before .before .before .before .before .before .before .before .before .before .before .before .args .loads)) (now (c .before .before .before .before .before .before .before .before .before .before .before .before .before .before .before .args .ceilings)) (now (c .before .before .before .before .before .before .before .before .before .before .before .before .before .before .before .args .weights)) (c .before .before .before .before .before .before .before .before .before .before .before .before .before .before .before .args .n) (c .before .before .before .before .before .before .before .before .before .before .before .before .before .before .before .args .k) (c .before .before .before .before .before .before .before .before .before .before .before .before .before .before .before .args .u) (c .before .before .before .before .before .before .before .before .before .before .before .before .before .before .before .args .t) (sym (c .before .before .before .refuses-move .ensures) ∙ c .before .before .if1 .left)) .1 .u-in, roomy (c .before .before .before .before .before .before .before .before .before .before .before .before .before .before .before .pre .ready) .few-vertices)
+mul-push c =
+    let at-refuses-move = c .before .before .before in
+    let start = at-refuses-move .before .before .before .before .before .before .before .before .before .before .before .before in
+    omega (arith, (open-of (now (start .args .blocks)) (now (start .args .loads)) (now (start .args .ceilings)) (now (start .args .weights)) (start .args .n) (start .args .k) (start .args .u) (start .args .t) (sym (at-refuses-move .refuses-move .ensures) ∙ c .before .before .if1 .left)) .1 .u-in, roomy (start .pre .ready) .few-vertices)
 
 slice-read-push : tie.Need-slice-read-push
-slice-read-push c = omega (arith, (open-of (now (c .before .before .before .before .before .before .before .before .before .before .before .before .before .before .before .before .args .blocks)) (now (c .before .before .before .before .before .before .before .before .before .before .before .before .before .before .before .before .args .loads)) (now (c .before .before .before .before .before .before .before .before .before .before .before .before .before .before .before .before .args .ceilings)) (now (c .before .before .before .before .before .before .before .before .before .before .before .before .before .before .before .before .args .weights)) (c .before .before .before .before .before .before .before .before .before .before .before .before .before .before .before .before .args .n) (c .before .before .before .before .before .before .before .before .before .before .before .before .before .before .before .before .args .k) (c .before .before .before .before .before .before .before .before .before .before .before .before .before .before .before .before .args .u) (c .before .before .before .before .before .before .before .before .before .before .before .before .before .before .before .before .args .t) (sym (c .before .before .before .before .refuses-move .ensures) ∙ c .before .before .before .if1 .left)) .1 .u-in, roomy (c .before .before .before .before .before .before .before .before .before .before .before .before .before .before .before .before .pre .ready) .blocks-fit)
+slice-read-push c =
+    let at-if1 = c .before .before .before in
+    let at-refuses-move = at-if1 .before in
+    let start = at-refuses-move .before .before .before .before .before .before .before .before .before .before .before .before in
+    omega (arith, (open-of (now (start .args .blocks)) (now (start .args .loads)) (now (start .args .ceilings)) (now (start .args .weights)) (start .args .n) (start .args .k) (start .args .u) (start .args .t) (sym (at-refuses-move .refuses-move .ensures) ∙ at-if1 .if1 .left)) .1 .u-in, roomy (start .pre .ready) .blocks-fit)
 
 push-requires : tie.Need-push-requires
 push-requires c κs =
@@ -58,10 +82,18 @@ push-requires c κs =
     (roomy (start .pre .ready) .journal-short, roomy (start .pre .ready) .journal-whole .xs-whole, roomy (start .pre .ready) .journal-whole .ys-whole)
 
 sub-go : tie.Need-sub-go
-sub-go c = omega (arith, (open-of (now (c .before .before .before .before .before .before .before .before .before .before .before .before .before .before .before .before .before .before .before .before .before .before .args .blocks)) (now (c .before .before .before .before .before .before .before .before .before .before .before .before .before .before .before .before .before .before .before .before .before .before .args .loads)) (now (c .before .before .before .before .before .before .before .before .before .before .before .before .before .before .before .before .before .before .before .before .before .before .args .ceilings)) (now (c .before .before .before .before .before .before .before .before .before .before .before .before .before .before .before .before .before .before .before .before .before .before .args .weights)) (c .before .before .before .before .before .before .before .before .before .before .before .before .before .before .before .before .before .before .before .before .before .before .args .n) (c .before .before .before .before .before .before .before .before .before .before .before .before .before .before .before .before .before .before .before .before .before .before .args .k) (c .before .before .before .before .before .before .before .before .before .before .before .before .before .before .before .before .before .before .before .before .before .before .args .u) (c .before .before .before .before .before .before .before .before .before .before .before .before .before .before .before .before .before .before .before .before .before .before .args .t) (sym (c .before .before .before .before .before .before .before .before .before .before .refuses-move .ensures) ∙ c .before .before .before .before .before .before .before .before .before .if1 .left)) .0)
+sub-go c =
+    let at-if1 = c .before .before .before .before .before .before .before .before .before in
+    let at-refuses-move = at-if1 .before in
+    let start = at-refuses-move .before .before .before .before .before .before .before .before .before .before .before .before in
+    omega (arith, (open-of (now (start .args .blocks)) (now (start .args .loads)) (now (start .args .ceilings)) (now (start .args .weights)) (start .args .n) (start .args .k) (start .args .u) (start .args .t) (sym (at-refuses-move .refuses-move .ensures) ∙ at-if1 .if1 .left)) .0)
 
 short-requires-2 : tie.Need-short-requires-2
-short-requires-2 c κs = omega (arith, (open-of (now (c .before .before .before .before .before .before .before .before .before .before .before .before .before .before .before .before .before .before .before .before .before .before .args .blocks)) (now (c .before .before .before .before .before .before .before .before .before .before .before .before .before .before .before .before .before .before .before .before .before .before .args .loads)) (now (c .before .before .before .before .before .before .before .before .before .before .before .before .before .before .before .before .before .before .before .before .before .before .args .ceilings)) (now (c .before .before .before .before .before .before .before .before .before .before .before .before .before .before .before .before .before .before .before .before .before .before .args .weights)) (c .before .before .before .before .before .before .before .before .before .before .before .before .before .before .before .before .before .before .before .before .before .before .args .n) (c .before .before .before .before .before .before .before .before .before .before .before .before .before .before .before .before .before .before .before .before .before .before .args .k) (c .before .before .before .before .before .before .before .before .before .before .before .before .before .before .before .before .before .before .before .before .before .before .args .u) (c .before .before .before .before .before .before .before .before .before .before .before .before .before .before .before .before .before .before .before .before .before .before .args .t) (sym (c .before .before .before .before .before .before .before .before .before .before .refuses-move .ensures) ∙ c .before .before .before .before .before .before .before .before .before .if1 .left)) .1 .t-in, roomy (c .before .before .before .before .before .before .before .before .before .before .before .before .before .before .before .before .before .before .before .before .before .before .pre .ready) .few-blocks)
+short-requires-2 c κs =
+    let at-if1 = c .before .before .before .before .before .before .before .before .before in
+    let at-refuses-move = at-if1 .before in
+    let start = at-refuses-move .before .before .before .before .before .before .before .before .before .before .before .before in
+    omega (arith, (open-of (now (start .args .blocks)) (now (start .args .loads)) (now (start .args .ceilings)) (now (start .args .weights)) (start .args .n) (start .args .k) (start .args .u) (start .args .t) (sym (at-refuses-move .refuses-move .ensures) ∙ at-if1 .if1 .left)) .1 .t-in, roomy (start .pre .ready) .few-blocks)
 
 go-requires : tie.Need-go-requires
 go-requires c κs =

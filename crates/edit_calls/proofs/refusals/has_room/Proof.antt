@@ -20,7 +20,9 @@ cast-w : tie.Need-cast-w
 cast-w c = omega (arith, c .shared-slice-known .given (c .before .args .u - 1))
 
 returns : tie.Need-returns
-returns c = room-none (getD (now (c .before .before .before .args .loads)) (c .before .before .before .args .t - 1) 0) (getD (now (c .before .before .before .args .weights)) (c .before .before .before .args .u - 1) 0) (getD (now (c .before .before .before .args .ceilings)) (c .before .before .before .args .t - 1) 0) (c .if1 .taken)
+returns c =
+    let start = c .before .before .before in
+    room-none (getD (now (start .args .loads)) (start .args .t - 1) 0) (getD (now (start .args .weights)) (start .args .u - 1) 0) (getD (now (start .args .ceilings)) (start .args .t - 1) 0) (c .if1 .taken)
 
 sub-result : tie.Need-sub-result
 sub-result c = search needs

@@ -19,7 +19,9 @@ returns-2 c =
     join-11 (now (start .args .blocks)) (start .args .n) (start .args .u) (start .args .v) (c .before .before .both-known .ensures) (c .before .if1 .left) (c .if2 .taken)
 
 both-here-requires : tie.Need-both-here-requires
-both-here-requires c κs = omega (arith, known-range (c .before .before .before .before .args .n) (c .before .before .before .before .args .u) (c .before .before .before .before .args .n) (c .before .before .before .before .args .v) (c .before .before .both-known .ensures) (c .before .if1 .left))
+both-here-requires c κs =
+    let start = c .before .before .before .before in
+    omega (arith, known-range (start .args .n) (start .args .u) (start .args .n) (start .args .v) (c .before .before .both-known .ensures) (c .before .if1 .left))
 
 returns-3 : tie.Need-returns-3
 returns-3 c =
@@ -29,22 +31,46 @@ returns-3 c =
     join-10 (now (start .args .blocks)) (start .args .n) (start .args .u) (start .args .v) (at-both-known .both-known .ensures) (at-if1 .if1 .left) (c .before .both-here .ensures) (c .before .before .if2 .left) (c .if3 .taken)
 
 sub-if4 : tie.Need-sub-if4
-sub-if4 c = omega (arith, known-range (c .before .before .before .before .before .before .args .n) (c .before .before .before .before .before .before .args .u) (c .before .before .before .before .before .before .args .n) (c .before .before .before .before .before .before .args .v) (c .before .before .before .before .both-known .ensures) (c .before .before .before .if1 .left))
+sub-if4 c =
+    let at-if1 = c .before .before .before in
+    let at-both-known = at-if1 .before in
+    let start = at-both-known .before .before in
+    omega (arith, known-range (start .args .n) (start .args .u) (start .args .n) (start .args .v) (at-both-known .both-known .ensures) (at-if1 .if1 .left))
 
 mul-if4 : tie.Need-mul-if4
-mul-if4 c = omega (arith, known-range (c .before .before .before .before .before .before .args .n) (c .before .before .before .before .before .before .args .u) (c .before .before .before .before .before .before .args .n) (c .before .before .before .before .before .before .args .v) (c .before .before .before .before .both-known .ensures) (c .before .before .before .if1 .left))
+mul-if4 c =
+    let at-if1 = c .before .before .before in
+    let at-both-known = at-if1 .before in
+    let start = at-both-known .before .before in
+    omega (arith, known-range (start .args .n) (start .args .u) (start .args .n) (start .args .v) (at-both-known .both-known .ensures) (at-if1 .if1 .left))
 
 shared-slice-read-if4 : tie.Need-shared-slice-read-if4
-shared-slice-read-if4 c = omega (arith, known-range (c .before .before .before .before .before .before .before .args .n) (c .before .before .before .before .before .before .before .args .u) (c .before .before .before .before .before .before .before .args .n) (c .before .before .before .before .before .before .before .args .v) (c .before .before .before .before .before .both-known .ensures) (c .before .before .before .before .if1 .left))
+shared-slice-read-if4 c =
+    let at-if1 = c .before .before .before .before in
+    let at-both-known = at-if1 .before in
+    let start = at-both-known .before .before in
+    omega (arith, known-range (start .args .n) (start .args .u) (start .args .n) (start .args .v) (at-both-known .both-known .ensures) (at-if1 .if1 .left))
 
 sub-if4-2 : tie.Need-sub-if4-2
-sub-if4-2 c = omega (arith, known-range (c .before .before .before .before .before .before .before .args .n) (c .before .before .before .before .before .before .before .args .u) (c .before .before .before .before .before .before .before .args .n) (c .before .before .before .before .before .before .before .args .v) (c .before .before .before .before .before .both-known .ensures) (c .before .before .before .before .if1 .left))
+sub-if4-2 c =
+    let at-if1 = c .before .before .before .before in
+    let at-both-known = at-if1 .before in
+    let start = at-both-known .before .before in
+    omega (arith, known-range (start .args .n) (start .args .u) (start .args .n) (start .args .v) (at-both-known .both-known .ensures) (at-if1 .if1 .left))
 
 mul-if4-2 : tie.Need-mul-if4-2
-mul-if4-2 c = omega (arith, known-range (c .before .before .before .before .before .before .before .args .n) (c .before .before .before .before .before .before .before .args .u) (c .before .before .before .before .before .before .before .args .n) (c .before .before .before .before .before .before .before .args .v) (c .before .before .before .before .before .both-known .ensures) (c .before .before .before .before .if1 .left))
+mul-if4-2 c =
+    let at-if1 = c .before .before .before .before in
+    let at-both-known = at-if1 .before in
+    let start = at-both-known .before .before in
+    omega (arith, known-range (start .args .n) (start .args .u) (start .args .n) (start .args .v) (at-both-known .both-known .ensures) (at-if1 .if1 .left))
 
 shared-slice-read-if4-2 : tie.Need-shared-slice-read-if4-2
-shared-slice-read-if4-2 c = omega (arith, known-range (c .before .before .before .before .before .before .before .before .args .n) (c .before .before .before .before .before .before .before .before .args .u) (c .before .before .before .before .before .before .before .before .args .n) (c .before .before .before .before .before .before .before .before .args .v) (c .before .before .before .before .before .before .both-known .ensures) (c .before .before .before .before .before .if1 .left))
+shared-slice-read-if4-2 c =
+    let at-if1 = c .before .before .before .before .before in
+    let at-both-known = at-if1 .before in
+    let start = at-both-known .before .before in
+    omega (arith, known-range (start .args .n) (start .args .u) (start .args .n) (start .args .v) (at-both-known .both-known .ensures) (at-if1 .if1 .left))
 
 returns-4 : tie.Need-returns-4
 returns-4 c =

@@ -15,7 +15,9 @@ returns c =
     move-9 (now (start .args .blocks)) (now (start .args .loads)) (now (start .args .ceilings)) (now (start .args .weights)) (start .args .n) (start .args .k) (start .args .u) (start .args .t) (c .before .both-known .ensures) (c .if1 .taken)
 
 is-here-requires : tie.Need-is-here-requires
-is-here-requires c κs = omega (arith, known-range (c .before .before .before .before .args .n) (c .before .before .before .before .args .u) (c .before .before .before .before .args .k) (c .before .before .before .before .args .t) (c .before .both-known .ensures) (c .if1 .left))
+is-here-requires c κs =
+    let start = c .before .before .before .before in
+    omega (arith, known-range (start .args .n) (start .args .u) (start .args .k) (start .args .t) (c .before .both-known .ensures) (c .if1 .left))
 
 returns-2 : tie.Need-returns-2
 returns-2 c =
@@ -24,16 +26,28 @@ returns-2 c =
     move-10 (now (start .args .blocks)) (now (start .args .loads)) (now (start .args .ceilings)) (now (start .args .weights)) (start .args .n) (start .args .k) (start .args .u) (start .args .t) (at-both-known .both-known .ensures) (c .before .before .if1 .left) (c .before .is-here .ensures) (c .if2 .taken)
 
 sub-if3 : tie.Need-sub-if3
-sub-if3 c = omega (arith, known-range (c .before .before .before .before .before .before .args .n) (c .before .before .before .before .before .before .args .u) (c .before .before .before .before .before .before .args .k) (c .before .before .before .before .before .before .args .t) (c .before .before .before .both-known .ensures) (c .before .before .if1 .left))
+sub-if3 c =
+    let at-both-known = c .before .before .before in
+    let start = at-both-known .before .before .before in
+    omega (arith, known-range (start .args .n) (start .args .u) (start .args .k) (start .args .t) (at-both-known .both-known .ensures) (c .before .before .if1 .left))
 
 mul-if3 : tie.Need-mul-if3
-mul-if3 c = omega (arith, known-range (c .before .before .before .before .before .before .args .n) (c .before .before .before .before .before .before .args .u) (c .before .before .before .before .before .before .args .k) (c .before .before .before .before .before .before .args .t) (c .before .before .before .both-known .ensures) (c .before .before .if1 .left))
+mul-if3 c =
+    let at-both-known = c .before .before .before in
+    let start = at-both-known .before .before .before in
+    omega (arith, known-range (start .args .n) (start .args .u) (start .args .k) (start .args .t) (at-both-known .both-known .ensures) (c .before .before .if1 .left))
 
 shared-slice-read-if3 : tie.Need-shared-slice-read-if3
-shared-slice-read-if3 c = omega (arith, known-range (c .before .before .before .before .before .before .before .args .n) (c .before .before .before .before .before .before .before .args .u) (c .before .before .before .before .before .before .before .args .k) (c .before .before .before .before .before .before .before .args .t) (c .before .before .before .before .both-known .ensures) (c .before .before .before .if1 .left))
+shared-slice-read-if3 c =
+    let at-if1 = c .before .before .before in
+    let at-both-known = at-if1 .before in
+    let start = at-both-known .before .before .before in
+    omega (arith, known-range (start .args .n) (start .args .u) (start .args .k) (start .args .t) (at-both-known .both-known .ensures) (at-if1 .if1 .left))
 
 cast-if3 : tie.Need-cast-if3
-cast-if3 c = omega (arith, c .shared-slice-known3 .given (c .before .before .before .before .before .before .before .args .u - 1))
+cast-if3 c =
+    let start = c .before .before .before .before .before .before .before in
+    omega (arith, c .shared-slice-known3 .given (start .args .u - 1))
 
 returns-3 : tie.Need-returns-3
 returns-3 c =
@@ -44,7 +58,11 @@ returns-3 c =
     move-12 (now (start .args .blocks)) (now (start .args .loads)) (now (start .args .ceilings)) (now (start .args .weights)) (start .args .n) (start .args .k) (start .args .u) (start .args .t) (at-both-known .both-known .ensures) (at-if1 .if1 .left) (at-is-here .is-here .ensures) (c .before .before .if2 .left) (c .if3 .taken)
 
 has-room-requires : tie.Need-has-room-requires
-has-room-requires c κs = omega (arith, known-range (c .before .before .before .before .before .before .before .before .args .n) (c .before .before .before .before .before .before .before .before .args .u) (c .before .before .before .before .before .before .before .before .args .k) (c .before .before .before .before .before .before .before .before .args .t) (c .before .before .before .before .before .both-known .ensures) (c .before .before .before .before .if1 .left))
+has-room-requires c κs =
+    let at-if1 = c .before .before .before .before in
+    let at-both-known = at-if1 .before in
+    let start = at-both-known .before .before .before in
+    omega (arith, known-range (start .args .n) (start .args .u) (start .args .k) (start .args .t) (at-both-known .both-known .ensures) (at-if1 .if1 .left))
 
 returns-4 : tie.Need-returns-4
 returns-4 c =

@@ -14,7 +14,9 @@ returns c =
     walk-9 (now (start .args .blocks)) (start .args .n) (start .args .u) (start .args .v) (c .before .both-known .ensures) (c .if1 .taken)
 
 both-here-requires : tie.Need-both-here-requires
-both-here-requires c κs = omega (arith, known-range (c .before .before .before .args .n) (c .before .before .before .args .u) (c .before .before .before .args .n) (c .before .before .before .args .v) (c .before .both-known .ensures) (c .if1 .left))
+both-here-requires c κs =
+    let start = c .before .before .before in
+    omega (arith, known-range (start .args .n) (start .args .u) (start .args .n) (start .args .v) (c .before .both-known .ensures) (c .if1 .left))
 
 returns-2 : tie.Need-returns-2
 returns-2 c =
