@@ -13,7 +13,7 @@ use Rattle.laws.specs.Choice.{cond-yes, cond-no}
 use Rattle.laws.specs.Integer.{read32}
 use Rattle.model.specs.Catalogue.{Hypergraph}
 use Rattle.model.specs.Machine.{Call, callJ, callS, callM, callB, callW, callP, callA, Answer, saysM, saysNO}
-use Rattle.model.specs.Grammar.{asks, nothing, callOf}
+use Rattle.model.specs.Grammar.{asks, nothing, callOf, letterJ, letterS, letterM, letterB, letterW, letterP, letterA}
 use Rattle.model.specs.Lent.{Two}
 use Rattle.operations.specs.Tables.{Tables}
 use Rattle.edit_calls.specs.Steps.{told}
@@ -21,19 +21,19 @@ use Rattle.edit_calls.specs.Called.{Called}
 
 -- the letters J and S
 abbrev pub contracts : ℕ → Bool
-contracts letter = eqb letter 74 || eqb letter 83
+contracts letter = eqb letter letterJ || eqb letter letterS
 
 -- the letters M, B, W and P
 abbrev pub moves : ℕ → Bool
-moves letter = eqb letter 77 || (eqb letter 66 || (eqb letter 87 || eqb letter 80))
+moves letter = eqb letter letterM || (eqb letter letterB || (eqb letter letterW || eqb letter letterP))
 
 -- J, and S for every other letter
 abbrev pub contractingCall : ℕ → ℕ → ℕ → Call
-contractingCall letter x y = cond (eqb letter 74) (callJ x y) callS
+contractingCall letter x y = cond (eqb letter letterJ) (callJ x y) callS
 
 -- M, B, W, and P for every other letter
 abbrev pub movingCall : ℕ → ℕ → ℕ → Call
-movingCall letter x y = cond (eqb letter 77) (callM x y) (cond (eqb letter 66) callB (cond (eqb letter 87) (callW x y) callP))
+movingCall letter x y = cond (eqb letter letterM) (callM x y) (cond (eqb letter letterB) callB (cond (eqb letter letterW) (callW x y) callP))
 
 -- all seven, and A for every other letter
 abbrev pub anyCall : ℕ → ℕ → ℕ → Call
@@ -42,7 +42,7 @@ anyCall letter x y = cond (contracts letter) (contractingCall letter x y) (cond 
 -- a letter of a call is taken for that call
 pub any-is : (letter x y : ℕ) (c : Call) → callOf letter x y ≡ asks c → anyCall letter x y ≡ c
 unfolding callOf
-any-is letter x y c = go (eqb letter 74) (eqb letter 83) (eqb letter 77) (eqb letter 66) (eqb letter 87) (eqb letter 80) (eqb letter 65)
+any-is letter x y c = go (eqb letter letterJ) (eqb letter letterS) (eqb letter letterM) (eqb letter letterB) (eqb letter letterW) (eqb letter letterP) (eqb letter letterA)
   where
     same : {a b : Call} → asks a ≡ asks b → a ≡ b
     same e = cc
@@ -71,23 +71,23 @@ told-some (suc q) a z = refl
 
 -- ---- which call it is
 module _ (letter x y : ℕ) where
-  pub is-J : letter ≡ 74 → contractingCall letter x y ≡ callJ x y
-  is-J e = cond-yes letter 74 _ _ e
+  pub is-J : letter ≡ letterJ → contractingCall letter x y ≡ callJ x y
+  is-J e = cond-yes letter letterJ _ _ e
 
-  pub is-S : (letter ≡ 74 → ⊥) → contractingCall letter x y ≡ callS
-  is-S j = cond-no letter 74 _ _ j
+  pub is-S : (letter ≡ letterJ → ⊥) → contractingCall letter x y ≡ callS
+  is-S j = cond-no letter letterJ _ _ j
 
-  pub is-M : letter ≡ 77 → movingCall letter x y ≡ callM x y
-  is-M e = cond-yes letter 77 _ _ e
+  pub is-M : letter ≡ letterM → movingCall letter x y ≡ callM x y
+  is-M e = cond-yes letter letterM _ _ e
 
-  pub is-B : (letter ≡ 77 → ⊥) → letter ≡ 66 → movingCall letter x y ≡ callB
-  is-B m e = cond-no letter 77 _ _ m ∙ cond-yes letter 66 _ _ e
+  pub is-B : (letter ≡ letterM → ⊥) → letter ≡ letterB → movingCall letter x y ≡ callB
+  is-B m e = cond-no letter letterM _ _ m ∙ cond-yes letter letterB _ _ e
 
-  pub is-W : (letter ≡ 77 → ⊥) → (letter ≡ 66 → ⊥) → letter ≡ 87 → movingCall letter x y ≡ callW x y
-  is-W m b e = cond-no letter 77 _ _ m ∙ cond-no letter 66 _ _ b ∙ cond-yes letter 87 _ _ e
+  pub is-W : (letter ≡ letterM → ⊥) → (letter ≡ letterB → ⊥) → letter ≡ letterW → movingCall letter x y ≡ callW x y
+  is-W m b e = cond-no letter letterM _ _ m ∙ cond-no letter letterB _ _ b ∙ cond-yes letter letterW _ _ e
 
-  pub is-P : (letter ≡ 77 → ⊥) → (letter ≡ 66 → ⊥) → (letter ≡ 87 → ⊥) → movingCall letter x y ≡ callP
-  is-P m b w = cond-no letter 77 _ _ m ∙ cond-no letter 66 _ _ b ∙ cond-no letter 87 _ _ w
+  pub is-P : (letter ≡ letterM → ⊥) → (letter ≡ letterB → ⊥) → (letter ≡ letterW → ⊥) → movingCall letter x y ≡ callP
+  is-P m b w = cond-no letter letterM _ _ m ∙ cond-no letter letterB _ _ b ∙ cond-no letter letterW _ _ w
 
   module _ {r : Bool} (e : r ≡ contracts letter) where
     pub any-contracting : r ≡ true → anyCall letter x y ≡ contractingCall letter x y

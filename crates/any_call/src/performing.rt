@@ -72,7 +72,7 @@ fn moving(
     ensures { λ r. ⌜ ((aboves loadedsizes : List ℕ) (S : Two) (h : Hypergraph) (ceiling : ℕ → ℕ) → CeilingIs (now (ceilings .entry)) h ceiling → Called h ceiling (lent (now (counts .entry)) (now (visited .entry)) (now (gains .entry)) (now (blocks .entry)) (now (loads .entry)) (now (presentpins .entry)) (now (presentsizes .entry)) (now (bits .entry)) (now (weights .entry)) (now (netweights .entry)) (now (firsts .entry)) n m k total aboves loadedsizes)
         (lent (now (counts .exit)) (now (visited .exit)) (now (gains .exit)) (now (blocks .exit)) (now (loads .exit)) (now (presentpins .exit)) (now (presentsizes .exit)) (now (bits .exit)) (now (weights .exit)) (now (netweights .exit)) (now (firsts .exit)) n m k (r .total) aboves loadedsizes) S S (two (journal .vertices) (journal .blocks) (journal .len)) (two (r .journal .vertices) (r .journal .blocks) (r .journal .len)) (movingCall letter x y) (answerOf (r .answer))) ⌝ }
 {
-    if letter == 77 {
+    if letter == text::letters::M {
         let t = call_move(
             counts,
             visited,
@@ -107,7 +107,7 @@ fn moving(
             ),
         };
     }
-    if letter == 66 {
+    if letter == text::letters::B {
         let t = call_back(
             counts,
             visited,
@@ -140,7 +140,7 @@ fn moving(
             ),
         };
     }
-    if letter == 87 {
+    if letter == text::letters::W {
         let t = call_walk(
             counts,
             visited,
@@ -234,7 +234,7 @@ fn contracting(
     ensures { λ r. ⌜ ((loads : List ℕ) (h : Hypergraph) (ceiling : ℕ → ℕ) → Called h ceiling (tables (now (counts .entry)) (now (visited .entry)) (now (gains .entry)) (now (presentpins .entry)) (now (presentsizes .entry)) (now (bits .entry)) (now (blocks .entry)) (now (weights .entry)) (now (aboves .entry)) loads (now (netweights .entry)) (now (firsts .entry)) (now (loadedsizes .entry)) n m k total)
         (tables (now (counts .exit)) (now (visited .exit)) (now (gains .exit)) (now (presentpins .exit)) (now (presentsizes .exit)) (now (bits .exit)) (now (blocks .exit)) (now (weights .exit)) (now (aboves .exit)) loads (now (netweights .exit)) (now (firsts .exit)) (now (loadedsizes .exit)) n m k total) (two (stack .into) (stack .gone) (stack .len)) (two (r .stack .into) (r .stack .gone) (r .stack .len)) (two (journal .vertices) (journal .blocks) (journal .len)) (two (r .journal .vertices) (r .journal .blocks) (r .journal .len)) (contractingCall letter x y) (answerOf (r .answer))) ⌝ }
 {
-    if letter == 74 {
+    if letter == text::letters::J {
         let t = call_join(
             counts,
             visited,

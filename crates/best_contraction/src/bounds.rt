@@ -1,10 +1,10 @@
 // Bounds: for each vertex a number that no rating of it with a later one passes. They begin as the sums of the vertices' own terms, and a
 // contraction raises those of the pins of nets that it changes.
-use crate::numbers::wide;
 use crate::rating::own_sum;
 use crate::rating::term;
 use incidence::is_pin;
 use incidence::next_net;
+use incidence::numbers::index;
 ghost use mathlib.Core.Path.{_≡_};
 ghost use Prim.Native.Nat.{ℕ, _+_, _-_, _*_, _≤_};
 ghost use lib.ListN.{length};
@@ -161,7 +161,7 @@ fn lift_net(
 {
     let mut i = 0;
     while i < n {
-        let y = wide(presentpins[first + i]);
+        let y = index(presentpins[first + i]);
         bounds[y] = raised(bounds[y], share(blocks, u, own, y, near, far));
         i += 1;
     }
@@ -195,8 +195,8 @@ pub fn lift(
             blocks,
             u,
             own,
-            wide(firsts[e]),
-            wide(presentsizes[e]),
+            index(firsts[e]),
+            index(presentsizes[e]),
             r.near,
             r.far,
         );

@@ -2,8 +2,8 @@
 // block. The table `acc` is all 0 between calls; `bounds` spares most vertices the rating.
 use crate::bounds::highest;
 use crate::bounds::lift;
-use crate::numbers::wide32;
 use crate::rating::accumulate;
+use incidence::numbers::long;
 ghost use mathlib.Core.Path.{_≡_};
 ghost use mathlib.Core.Bool.{cond};
 ghost use Prim.Native.Nat.{_-_, _≤_};
@@ -58,7 +58,7 @@ fn may_join(
     if limit < a {
         return false;
     }
-    wide32(weights[y - 1]) <= limit - a
+    long(weights[y - 1]) <= limit - a
 }
 
 // The better of `y`, of rating `s`, and the best before it. Few rate higher than the best before them, so that this is tested first.
@@ -103,7 +103,7 @@ fn select(
     ensures { λ r. ⌜ r ≡ topTo (scoreIn (fits (now (blocks .entry)) (now (weights .entry)) u (getD (now (blocks .entry)) (u - 1) 0) (getD (now (weights .entry)) (u - 1) 0) limit) (λ z. getD (now (acc .entry)) z 0)) n ⌝ }
 {
     let own = blocks[u - 1];
-    let a = wide32(weights[u - 1]);
+    let a = long(weights[u - 1]);
     let mut best = Partner {
         rating: 0,
         vertex: 0,

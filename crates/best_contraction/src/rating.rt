@@ -1,6 +1,6 @@
 // Ratings of one vertex with all others, added up over its own nets. Vertices and blocks count from 1, nets from 0.
-use crate::numbers::wide;
 use incidence::next_net;
+use incidence::numbers::index;
 ghost use mathlib.Core.Path.{_≡_};
 ghost use Prim.Native.Nat.{_*_, _≤_};
 ghost use Rattle.laws.specs.Occurrence.{occ};
@@ -24,7 +24,7 @@ fn add_net(acc: &mut [u64; 1025], presentpins: &[u16], first: usize, n: usize, t
 {
     let mut i = 0;
     while i < n {
-        let y = wide(presentpins[first + i]);
+        let y = index(presentpins[first + i]);
         acc[y] = acc[y] + t;
         i += 1;
     }
@@ -51,8 +51,8 @@ pub fn accumulate(
         add_net(
             acc,
             presentpins,
-            wide(firsts[e]),
-            wide(presentsizes[e]),
+            index(firsts[e]),
+            index(presentsizes[e]),
             term(netWeights[e], presentsizes[e]),
         );
         e = next_net(bits, u - 1, e + 1, m);

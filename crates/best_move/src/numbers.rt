@@ -1,21 +1,7 @@
-// Numbers of the tables, as wide as code counts with them; the smaller of two numbers; tests joined with no branch.
+// The smaller of two numbers; tests joined with no branch.
 ghost use mathlib.Core.Path.{_≡_};
 ghost use mathlib.Core.Bool.{_&&_, _||_};
 ghost use Rattle.best_move.specs.Peak.{lesser};
-
-// A table's number as an index.
-pub fn wide(x: u16) -> usize
-    ensures { λ r. ⌜ r ≡ x ⌝ }
-{
-    x as usize
-}
-
-// A vertex's weight, to be added to others.
-pub fn wide32(x: u32) -> u64
-    ensures { λ r. ⌜ r ≡ x ⌝ }
-{
-    x as u64
-}
 
 // The smaller of two numbers.
 pub fn least(a: usize, b: usize) -> usize

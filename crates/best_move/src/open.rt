@@ -2,11 +2,11 @@
 // lowest block.
 use crate::numbers::both;
 use crate::numbers::least;
-use crate::numbers::wide;
-use crate::numbers::wide32;
 use crate::rising::least_better;
 use crate::rising::measure;
 use crate::rising::next_rising;
+use incidence::numbers::index;
+use incidence::numbers::long;
 ghost use mathlib.Core.Path.{_≡_};
 ghost use mathlib.Core.Bool.{cond};
 ghost use Prim.Native.Nat.{_+_, _-_, _*_, _≤_, _<_};
@@ -23,8 +23,14 @@ pub enum Pick {
     Nothing,
 }
 
-// The best of the pairs seen: its place in the table of gains, counted from 1, and its gain. Where there is none, the place is 0 and the gain
-// below every gain that a table holds, so that no test for that is needed.
+// The place of no pair: places count from 1.
+const NO_PLACE: usize = 0;
+
+// Below every gain that a table holds.
+const BELOW_ALL: i64 = -4294967296;
+
+// The best of the pairs seen: its place in the table of gains, counted from 1, and its gain. Where there is none, `NO_PLACE` and `BELOW_ALL`,
+// so that no test for that is needed.
 struct Lead {
     at: usize,
     top: i64,
@@ -126,8 +132,8 @@ fn best_with(
         gains,
         loads,
         ceilings,
-        wide(blocks[i]),
-        wide32(weights[i]),
+        index(blocks[i]),
+        long(weights[i]),
         i,
         k,
         before,
@@ -139,7 +145,7 @@ fn pair_at(at: usize) -> Pick
     requires { ⌜ at ≤ 16384 ⌝ }
     ensures { λ r. ⌜ r ≡ pairAt at ⌝ }
 {
-    if at == 0 {
+    if at == NO_PLACE {
         return Pick::Nothing;
     }
     let x = at - 1;
@@ -260,8 +266,8 @@ pub fn best_open(
     ensures { λ r. ⌜ Chosen (gainIn (now (gains .entry))) n k r (bestPair n k (openIn (now (candidates .entry)) (now (blocks .entry)) (now (weights .entry)) (now (loads .entry)) (now (ceilings .entry))) (gainIn (now (gains .entry)))) ⌝ }
 {
     let mut best = Lead {
-        at: 0,
-        top: -4294967296,
+        at: NO_PLACE,
+        top: BELOW_ALL,
     };
     let mut rooms = [0u32; 16];
     measure(&mut rooms, loads, ceilings, k);

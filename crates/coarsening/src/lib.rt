@@ -8,6 +8,7 @@ ghost use Rattle.best_contraction.specs.Bound.{Bounded};
 ghost use Rattle.coarsening.specs.Coarsen.{locals, OnceOk, Once, CoarsenOk, Coarsens};
 use best_contraction::bounds::begin;
 use best_contraction::join::plan_join;
+use incidence::numbers::narrow;
 use operations::joins::join;
 use operations::pairs::Stack;
 
@@ -15,14 +16,6 @@ use operations::pairs::Stack;
 pub struct Round {
     pub stack: Stack,
     pub left: usize,
-}
-
-// A vertex's number as the stack holds it.
-fn short(x: usize) -> u16
-    requires { ⌜ x ≤ 1024 ⌝ }
-    ensures { λ r. ⌜ r ≡ x ⌝ }
-{
-    x as u16
 }
 
 // How many vertices more than 2 × k are on the board, with `len` contractions standing.
@@ -109,7 +102,7 @@ fn coarsen_once(
         u - 1,
         v - 1,
     );
-    let stack = before.push(short(u), short(v));
+    let stack = before.push(narrow(u), narrow(v));
     Round {
         stack: stack,
         left: s.left - 1,

@@ -8,9 +8,9 @@ ghost use Rattle.operations.specs.Tables.{tables};
 ghost use Rattle.edit_calls.specs.Steps.{told};
 ghost use Rattle.edit_calls.specs.Called.{ReadyJ, ReadyS, Called};
 use crate::refusals::refuses_join;
-use crate::widths::index;
-use crate::widths::short;
-use crate::widths::wide;
+use incidence::numbers::index;
+use incidence::numbers::narrow;
+use incidence::numbers::wide;
 use operations::joins::join;
 use operations::joins::split;
 use operations::pairs::Journal;
@@ -67,7 +67,7 @@ pub fn call_join(
             weight: 0,
         };
     }
-    let next = stack.push(short(u), short(v));
+    let next = stack.push(narrow(u), narrow(v));
     let cleared = journal.clear();
     join(
         counts,

@@ -2,4 +2,3 @@
 pub mod contracting;
 pub mod moving;
 pub mod refusals;
-pub mod widths;

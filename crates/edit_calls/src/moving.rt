@@ -9,9 +9,9 @@ ghost use Rattle.operations.specs.Tables.{tables};
 ghost use Rattle.edit_calls.specs.Steps.{told};
 ghost use Rattle.edit_calls.specs.Called.{ReadyM, Called};
 use crate::refusals::refuses_move;
-use crate::widths::index;
-use crate::widths::short;
-use crate::widths::wide;
+use incidence::numbers::index;
+use incidence::numbers::narrow;
+use incidence::numbers::wide;
 use operations::moves::back;
 use operations::moves::go;
 use operations::pairs::Journal;
@@ -68,7 +68,7 @@ pub fn call_move(
         };
     }
     let gain = gains[16 * (u - 1) + (t - 1)];
-    let next = journal.push(short(u), blocks[u - 1]);
+    let next = journal.push(narrow(u), blocks[u - 1]);
     let after = go(
         counts,
         visited,
@@ -86,7 +86,7 @@ pub fn call_move(
         k,
         total,
         u - 1,
-        short(t),
+        narrow(t),
     );
     MoveTurn {
         journal: next,

@@ -16,6 +16,13 @@ pub fn wide(x: u16) -> u32
     x as u32
 }
 
+// A vertex's weight, to be added to others.
+pub fn long(x: u32) -> u64
+    ensures { λ r. ⌜ r ≡ x ⌝ }
+{
+    x as u64
+}
+
 // The number from 1 of what stands at the place `i`.
 pub fn number(i: usize) -> u16
     requires { ⌜ i < 65535 ⌝ }

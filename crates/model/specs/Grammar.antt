@@ -234,13 +234,35 @@ unfoldable pub parse : Limits → List ℕ → Reading
 parse limits file = cond (ltb 60000 (length file)) (stopped 1 0) (lines limits 1 unread (parts 10 file))
 
 -- ---- calls as three numbers
+-- the letters of calls, as bytes
+abbrev pub letterJ : ℕ
+letterJ = 74
+
+abbrev pub letterS : ℕ
+letterS = 83
+
+abbrev pub letterM : ℕ
+letterM = 77
+
+abbrev pub letterB : ℕ
+letterB = 66
+
+abbrev pub letterW : ℕ
+letterW = 87
+
+abbrev pub letterP : ℕ
+letterP = 80
+
+abbrev pub letterA : ℕ
+letterA = 65
+
 -- a call by its letter's byte and its two numbers, as tables hold it; numbers that a call has no use for are not read
 unfoldable pub callOf : ℕ → ℕ → ℕ → Asked
 callOf letter x y =
-    cond (eqb letter 74) (asks (callJ x y))
-    (cond (eqb letter 83) (asks callS)
-    (cond (eqb letter 77) (asks (callM x y))
-    (cond (eqb letter 66) (asks callB)
-    (cond (eqb letter 87) (asks (callW x y))
-    (cond (eqb letter 80) (asks callP)
-    (cond (eqb letter 65) (asks callA) nothing))))))
+    cond (eqb letter letterJ) (asks (callJ x y))
+    (cond (eqb letter letterS) (asks callS)
+    (cond (eqb letter letterM) (asks (callM x y))
+    (cond (eqb letter letterB) (asks callB)
+    (cond (eqb letter letterW) (asks (callW x y))
+    (cond (eqb letter letterP) (asks callP)
+    (cond (eqb letter letterA) (asks callA) nothing))))))

@@ -8,7 +8,7 @@ use lib.Dec.{eqb, ltb}
 use lib.ListN.{length, getD}
 use Rattle.model.specs.Catalogue.{Limits, Hypergraph}
 use Rattle.model.specs.Machine.{Call, fresh}
-use Rattle.model.specs.Grammar.{Reading, unread, reading, stopped, parse}
+use Rattle.model.specs.Grammar.{Reading, unread, reading, stopped, parse, letterJ, letterS, letterM, letterB, letterW, letterP, letterA}
 use Rattle.model.specs.Engine.{after}
 use Rattle.model.specs.Memory.{Memory, longMemory, Written, Worked, Untouched}
 use Rattle.model.specs.Clump.{ClumpGains}
@@ -18,7 +18,7 @@ use Rattle.model.specs.Demand.{standing, Demand3}
 -- ---- the list
 -- the letter of a call
 abbrev pub isLetter : ℕ → Bool
-isLetter letter = (eqb letter 74 || eqb letter 83) || ((eqb letter 77 || (eqb letter 66 || (eqb letter 87 || eqb letter 80))) || eqb letter 65)
+isLetter letter = (eqb letter letterJ || eqb letter letterS) || ((eqb letter letterM || (eqb letter letterB || (eqb letter letterW || eqb letter letterP))) || eqb letter letterA)
 
 -- each of the first n calls of a list, three numbers each, has the letter of a call
 unfoldable pub lettersTo : ℕ → List ℕ → Bool

@@ -9,19 +9,9 @@ ghost use Rattle.levels.specs.Operations.{MoveDoes};
 ghost use Rattle.operations.specs.Tables.{tables};
 ghost use Rattle.operations.specs.Total.{Lowers, Raises};
 ghost use Rattle.operations.specs.Move.{shifted, Shifts, Carries, CanGo, Went};
+use incidence::numbers::index;
+use incidence::numbers::long;
 use levels::move_vertex;
-
-fn index(x: u16) -> usize
-    ensures { λ r. ⌜ r ≡ x ⌝ }
-{
-    x as usize
-}
-
-fn wide(x: u32) -> u64
-    ensures { λ r. ⌜ r ≡ x ⌝ }
-{
-    x as u64
-}
 
 // The metric after a move of that gain.
 fn lower_total(total: u32, gain: i32) -> u32
@@ -85,7 +75,7 @@ fn carry(
     ensures { λ _. ⌜ MoveDoes (running (now (counts .entry)) (now (visited .entry)) (now (gains .entry)) (now (presentpins .entry)) (now (presentsizes .entry)) (now (bits .entry)) (now (blocks .entry)) (now (netweights .entry)) (now (firsts .entry))) (running (now (counts .exit)) (now (visited .exit)) (now (gains .exit)) (now (presentpins .entry)) (now (presentsizes .entry)) (now (bits .entry)) (now (blocks .exit)) (now (netweights .entry)) (now (firsts .entry))) n m k u t ⌝ }
     ensures { λ _. ⌜ now (loads .exit) ≡ shifted (now (loads .entry)) (getD (now (blocks .entry)) u 0) t (getD (now (weights .entry)) u 0) ⌝ }
 {
-    shift_load(loads, index(blocks[u]), index(t), wide(weights[u]));
+    shift_load(loads, index(blocks[u]), index(t), long(weights[u]));
     move_vertex(
         counts,
         visited,

@@ -2,8 +2,8 @@
 use best_move::open::Pick;
 use best_move::open::best_open;
 use best_move::peaks::survey;
+use incidence::numbers::index;
 use search_moves::marks::mark_vertex;
-use search_moves::numbers::index;
 use search_moves::peaks::shift;
 ghost use mathlib.Core.Path.{_≡_};
 ghost use mathlib.Core.List.{List};

@@ -36,7 +36,7 @@ fn is_letter(letter: u32) -> bool
     if is_moving(letter) {
         return true;
     }
-    letter == 65
+    letter == text::letters::A
 }
 
 // Has each of the first `count` calls the letter of a call.

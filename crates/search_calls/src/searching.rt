@@ -9,8 +9,8 @@ ghost use Rattle.search_moves.specs.Lent.{lent};
 ghost use Rattle.edit_calls.specs.Steps.{told};
 ghost use Rattle.edit_calls.specs.Called.{ReadyM, Called};
 use edit_calls::refusals::refuses_walk;
-use edit_calls::widths::short;
-use edit_calls::widths::wide;
+use incidence::numbers::narrow;
+use incidence::numbers::wide;
 use operations::pairs::Journal;
 use polish::polishing::polish;
 use walk::walks::walk;
@@ -91,8 +91,8 @@ pub fn call_walk(
     WalkTurn {
         journal: cleared,
         no: 0,
-        tried: wide(short(w.tried)),
-        kept: wide(short(w.kept)),
+        tried: wide(narrow(w.tried)),
+        kept: wide(narrow(w.kept)),
         total: w.total,
     }
 }

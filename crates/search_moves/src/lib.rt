@@ -1,4 +1,3 @@
 // A move of a search: the candidates that it marks, and the peaks that it raises, so that they are still above all gains.
 pub mod marks;
-pub mod numbers;
 pub mod peaks;

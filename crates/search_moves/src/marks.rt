@@ -1,9 +1,9 @@
 // The candidates of a search as three rows of bits: row 0 has the vertices that may be chosen, row 1 those that have moved in this search,
 // row 2 the nets whose pins have been marked in it. Such pins stay candidates until they move, so that a net is marked only once: with
 // large nets most of a walk's time would go into marking. Vertices and nets count from 0.
-use crate::numbers::index;
 use incidence::is_pin;
 use incidence::next_net;
+use incidence::numbers::index;
 use incidence::put;
 use incidence::take;
 ghost use mathlib.Core.Path.{_≡_};

@@ -1,10 +1,10 @@
 // A move, after which the peaks are still above all gains. Apart from those of the moved vertex only these gains may rise: all those of the last
 // pin that a net of the moved vertex has in the block left, and, where such a net has its first pin in the block reached, its pins' gains to it.
 // Vertices and nets count from 0, blocks from 1.
-use crate::numbers::index;
 use best_move::peaks::raise_entry;
 use best_move::peaks::raise_row;
 use incidence::next_net;
+use incidence::numbers::index;
 use operations::moves::go;
 ghost use mathlib.Core.Path.{_≡_};
 ghost use mathlib.Core.List.{List};

@@ -46,11 +46,11 @@ join-requires c κs =
     let p = c .before .before .before .before .before .before .before .before .before .before .before .before .before .before .before .before .before .before .before .before .before .before .before .before .before .before .before .before .before .pre .0 in
     record { loads = p .loads; loaded = p .loaded; h = p .h; cs = p .c .stack; block = p .c .block; sound = p .here .stands .sound; pair = pair-ok _ _ (p .average-is) (p .here .stands .sound) (c .before .before .before .before .before .before .before .before .before .before .before .plan-join .ensures .0) (omega (arith, c .before .before .before .before .before .before .before .before .before .if1 .left)) }
 
-short-requires : tie.Need-short-requires
-short-requires c κs = omega (arith, c .before .before .before .before .before .before .before .before .before .before .before .before .before .before .before .before .before .before .before .before .before .before .before .before .before .before .before .before .before .plan-join .ensures .0 .within (omega (arith, c .before .before .before .before .before .before .before .before .before .before .before .before .before .before .before .before .before .before .before .before .before .before .before .before .before .before .before .if1 .left)), once-room (c .before .before .before .before .before .before .before .before .before .before .before .before .before .before .before .before .before .before .before .before .before .before .before .before .before .before .before .before .before .before .before .before .before .before .before .before .before .before .before .before .before .before .before .before .before .before .before .pre .0))
+narrow-requires : tie.Need-narrow-requires
+narrow-requires c κs = omega (arith, c .before .before .before .before .before .before .before .before .before .before .before .before .before .before .before .before .before .before .before .before .before .before .before .before .before .before .before .before .before .plan-join .ensures .0 .within (omega (arith, c .before .before .before .before .before .before .before .before .before .before .before .before .before .before .before .before .before .before .before .before .before .before .before .before .before .before .before .if1 .left)), once-room (c .before .before .before .before .before .before .before .before .before .before .before .before .before .before .before .before .before .before .before .before .before .before .before .before .before .before .before .before .before .before .before .before .before .before .before .before .before .before .before .before .before .before .before .before .before .before .before .pre .0))
 
-short-requires-2 : tie.Need-short-requires-2
-short-requires-2 c κs = omega (arith, c .before .before .before .before .before .before .before .before .before .before .before .before .before .before .before .before .before .before .before .before .before .before .before .before .before .before .before .before .before .before .plan-join .ensures .0 .within (omega (arith, c .before .before .before .before .before .before .before .before .before .before .before .before .before .before .before .before .before .before .before .before .before .before .before .before .before .before .before .before .if1 .left)), once-room (c .before .before .before .before .before .before .before .before .before .before .before .before .before .before .before .before .before .before .before .before .before .before .before .before .before .before .before .before .before .before .before .before .before .before .before .before .before .before .before .before .before .before .before .before .before .before .before .before .pre .0))
+narrow-requires-2 : tie.Need-narrow-requires-2
+narrow-requires-2 c κs = omega (arith, c .before .before .before .before .before .before .before .before .before .before .before .before .before .before .before .before .before .before .before .before .before .before .before .before .before .before .before .before .before .before .plan-join .ensures .0 .within (omega (arith, c .before .before .before .before .before .before .before .before .before .before .before .before .before .before .before .before .before .before .before .before .before .before .before .before .before .before .before .before .if1 .left)), once-room (c .before .before .before .before .before .before .before .before .before .before .before .before .before .before .before .before .before .before .before .before .before .before .before .before .before .before .before .before .before .before .before .before .before .before .before .before .before .before .before .before .before .before .before .before .before .before .before .before .pre .0))
 
 push-requires : tie.Need-push-requires
 push-requires c κs =
@@ -93,7 +93,7 @@ returns-2 c =
     let j = c .before .before .before .before .before .before .before .before .before .before .before .before .before .before .before .before .before .before .before .before .before .before .before .before .before .before .before .before .before .before .before .before .before .plan-join in
     let l = c .before .before .before .before .before .before .before .before .before .before .before .before .before .before .before .before .before .before .before .before .before .before .before .before .before .before .before .before .before .before .before .if1 .left in
     let t = c .before .before .before .before .before .before .before .before .before .before .before .before .before .before .before .before .before .before .before .before .before .join .ensures in
-    (λ loads loaded. once-join _ _ _ _ (j .result) _ _ _ _ _ (p .some) (omega (arith, once-room p)) (j .ensures .0) (omega (arith, l)) refl (t loads loaded) (c .before .before .before .short .ensures) (c .before .before .short2 .ensures) (c .before .push .ensures), (j .ensures .1 .1, once-bounds p _ (j .result) _ refl refl (j .ensures .0) (omega (arith, l)) (t (p .loads) (p .loaded)) (j .ensures .1 .0)))
+    (λ loads loaded. once-join _ _ _ _ (j .result) _ _ _ _ _ (p .some) (omega (arith, once-room p)) (j .ensures .0) (omega (arith, l)) refl (t loads loaded) (c .before .before .before .narrow .ensures) (c .before .before .narrow2 .ensures) (c .before .push .ensures), (j .ensures .1 .1, once-bounds p _ (j .result) _ refl refl (j .ensures .0) (omega (arith, l)) (t (p .loads) (p .loaded)) (j .ensures .1 .0)))
 
 pub coarsen-once-spec : {M : Type 1} → statement M
 coarsen-once-spec =
@@ -109,8 +109,8 @@ coarsen-once-spec =
     sub-join
     sub-join-2
     join-requires
-    short-requires
-    short-requires-2
+    narrow-requires
+    narrow-requires-2
     push-requires
     sub-t58
     same-length-6

@@ -64,29 +64,29 @@ shared-slice-read-rise-2 c = omega (arith, c .before .before .before .before .be
 rise-requires : tie.Need-rise-requires Inv-loop μ-loop
 rise-requires c κs = search needs
 
-mul-wide : tie.Need-mul-wide Inv-loop μ-loop
-mul-wide c = omega (arith, c .before .before .before .before .before .before .before .before .before .before .before .before .before .before .before .pre .0 .nets)
+mul-index : tie.Need-mul-index Inv-loop μ-loop
+mul-index c = omega (arith, c .before .before .before .before .before .before .before .before .before .before .before .before .before .before .before .pre .0 .nets)
 
-shared-slice-read-wide : tie.Need-shared-slice-read-wide Inv-loop μ-loop
-shared-slice-read-wide c = omega (arith, c .before .before .before .before .before .before .before .before .before .before .before .before .before .before .before .before .pre .0 .in-firsts)
+shared-slice-read-index : tie.Need-shared-slice-read-index Inv-loop μ-loop
+shared-slice-read-index c = omega (arith, c .before .before .before .before .before .before .before .before .before .before .before .before .before .before .before .before .pre .0 .in-firsts)
 
-wide-requires : tie.Need-wide-requires Inv-loop μ-loop
-wide-requires c κs = search needs
+index-requires : tie.Need-index-requires Inv-loop μ-loop
+index-requires c κs = search needs
 
-mul-wide-2 : tie.Need-mul-wide-2 Inv-loop μ-loop
-mul-wide-2 c = omega (arith, c .before .before .before .before .before .before .before .before .before .before .before .before .before .before .before .before .before .pre .0 .nets)
+mul-index-2 : tie.Need-mul-index-2 Inv-loop μ-loop
+mul-index-2 c = omega (arith, c .before .before .before .before .before .before .before .before .before .before .before .before .before .before .before .before .before .pre .0 .nets)
 
-shared-slice-read-wide-2 : tie.Need-shared-slice-read-wide-2 Inv-loop μ-loop
-shared-slice-read-wide-2 c = omega (arith, c .before .before .before .before .before .before .before .before .before .before .before .before .before .before .before .before .before .before .pre .0 .in-sizes)
+shared-slice-read-index-2 : tie.Need-shared-slice-read-index-2 Inv-loop μ-loop
+shared-slice-read-index-2 c = omega (arith, c .before .before .before .before .before .before .before .before .before .before .before .before .before .before .before .before .before .before .pre .0 .in-sizes)
 
-wide-requires-2 : tie.Need-wide-requires-2 Inv-loop μ-loop
-wide-requires-2 c κs = search needs
+index-requires-2 : tie.Need-index-requires-2 Inv-loop μ-loop
+index-requires-2 c κs = search needs
 
 lift-net-requires : tie.Need-lift-net-requires Inv-loop μ-loop
 lift-net-requires c κs =
     let s = c .before .before .before .before .before .before .before .before .before .before .before .before .before .before .before .before .before .before .before in
     let a = s .args in
-    (nets-take (now (a .bits)) (now (a .presentpins)) (now (a .firsts)) (now (a .presentsizes)) (now (a .netWeights)) (now (a .blocks)) (a .m) (a .n) (a .u) (a .v) (s .pre .0) _ (c .before .before .before .before .before .before .before .before .before .before .loop .e) _ _ (omega arith) (c .before .before .before .before .before .before .before .before .before .before .loop .inv .2 .len) (c .before .before .wide .ensures) (c .wide2 .ensures), c .before .before .before .before .before .rise .ensures .1)
+    (nets-take (now (a .bits)) (now (a .presentpins)) (now (a .firsts)) (now (a .presentsizes)) (now (a .netWeights)) (now (a .blocks)) (a .m) (a .n) (a .u) (a .v) (s .pre .0) _ (c .before .before .before .before .before .before .before .before .before .before .loop .e) _ _ (omega arith) (c .before .before .before .before .before .before .before .before .before .before .loop .inv .2 .len) (c .before .before .index .ensures) (c .index2 .ensures), c .before .before .before .before .before .rise .ensures .1)
 
 sub-next-net-2 : tie.Need-sub-next-net-2 Inv-loop μ-loop
 sub-next-net-2 c = omega (arith, c .before .before .before .before .before .before .before .before .before .before .before .before .before .before .before .before .before .before .before .before .pre .1)
@@ -107,7 +107,7 @@ loop-again c =
     let s = c .before .before .before .before .before .before .before .before .before .before .before .before .before .before .before .before .before .before .before .before .before in
     let a = s .args in
     let l = c .before .before .before .before .before .before .before .before .before .before .before .before .loop in
-    (c .next-net2 .ensures .high, c .next-net2 .ensures .found, nets-more (now (a .bits)) (now (a .presentpins)) (now (a .firsts)) (now (a .presentsizes)) (now (a .netWeights)) (now (a .blocks)) (a .m) (a .n) (a .u) (a .v) (s .pre .0) (now (a .bounds)) (l .bounds) _ (l .e) _ _ _ _ _ (c .before .before .before .before .before .before .before .before .before .before .is-pin .result) (l .inv .2) (l .inv .1 (omega arith)) (c .before .before .before .before .wide .ensures) (c .before .before .wide2 .ensures) (c .before .before .before .before .before .before .before .before .before .before .is-pin .ensures) (c .before .before .before .before .before .before .before .rise .ensures .0 .0) (c .before .before .before .before .before .before .before .rise .ensures .0 .1) (c .before .lift-net .ensures) (c .next-net2 .ensures))
+    (c .next-net2 .ensures .high, c .next-net2 .ensures .found, nets-more (now (a .bits)) (now (a .presentpins)) (now (a .firsts)) (now (a .presentsizes)) (now (a .netWeights)) (now (a .blocks)) (a .m) (a .n) (a .u) (a .v) (s .pre .0) (now (a .bounds)) (l .bounds) _ (l .e) _ _ _ _ _ (c .before .before .before .before .before .before .before .before .before .before .is-pin .result) (l .inv .2) (l .inv .1 (omega arith)) (c .before .before .before .before .index .ensures) (c .before .before .index2 .ensures) (c .before .before .before .before .before .before .before .before .before .before .is-pin .ensures) (c .before .before .before .before .before .before .before .rise .ensures .0 .0) (c .before .before .before .before .before .before .before .rise .ensures .0 .1) (c .before .lift-net .ensures) (c .next-net2 .ensures))
 
 mul-bounds : tie.Need-mul-bounds Inv-loop μ-loop
 mul-bounds c = omega (arith, c .before .before .before .before .before .before .before .before .before .before .pre .0 .vertices, c .before .before .before .before .before .before .before .before .before .before .pre .1)
@@ -148,12 +148,12 @@ lift-spec =
     mul-rise-2
     shared-slice-read-rise-2
     rise-requires
-    mul-wide
-    shared-slice-read-wide
-    wide-requires
-    mul-wide-2
-    shared-slice-read-wide-2
-    wide-requires-2
+    mul-index
+    shared-slice-read-index
+    index-requires
+    mul-index-2
+    shared-slice-read-index-2
+    index-requires-2
     lift-net-requires
     sub-next-net-2
     add-next-net

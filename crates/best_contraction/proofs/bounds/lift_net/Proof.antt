@@ -21,38 +21,38 @@ loop-holds c =
     let a = c .before .before .args in
     (omega arith, lift-none (now (a .presentpins)) (a .first) (riseAt (now (a .blocks)) (a .u) (a .own) (a .near) (a .far)) (now (a .bounds)) (c .before .before .pre .0 .full))
 
-add-wide : tie.Need-add-wide Inv-loop μ-loop
-add-wide c = omega (arith, c .before .before .before .before .pre .0 .stretch)
+add-index : tie.Need-add-index Inv-loop μ-loop
+add-index c = omega (arith, c .before .before .before .before .pre .0 .stretch)
 
-mul-wide : tie.Need-mul-wide Inv-loop μ-loop
-mul-wide c = omega arith
+mul-index : tie.Need-mul-index Inv-loop μ-loop
+mul-index c = omega arith
 
-shared-slice-read-wide : tie.Need-shared-slice-read-wide Inv-loop μ-loop
-shared-slice-read-wide c = omega (arith, c .before .before .before .before .before .pre .0 .stretch)
+shared-slice-read-index : tie.Need-shared-slice-read-index Inv-loop μ-loop
+shared-slice-read-index c = omega (arith, c .before .before .before .before .before .pre .0 .stretch)
 
-wide-requires : tie.Need-wide-requires Inv-loop μ-loop
-wide-requires c κs = search needs
+index-requires : tie.Need-index-requires Inv-loop μ-loop
+index-requires c κs = search needs
 
 mul-raised : tie.Need-mul-raised Inv-loop μ-loop
-mul-raised c = omega (arith, c .wide .ensures, c .before .before .before .before .before .before .pre .0 .pin (c .before .before .before .loop .i) (omega arith))
+mul-raised c = omega (arith, c .index .ensures, c .before .before .before .before .before .before .pre .0 .pin (c .before .before .before .loop .i) (omega arith))
 
 element-copy-out-raised : tie.Need-element-copy-out-raised Inv-loop μ-loop
-element-copy-out-raised c = omega (arith, c .before .before .before .loop .inv .1 .len, c .wide .ensures, c .before .before .before .before .before .before .pre .0 .pin (c .before .before .before .loop .i) (omega arith))
+element-copy-out-raised c = omega (arith, c .before .before .before .loop .inv .1 .len, c .index .ensures, c .before .before .before .before .before .before .pre .0 .pin (c .before .before .before .loop .i) (omega arith))
 
 share-requires : tie.Need-share-requires Inv-loop μ-loop
-share-requires c κs = omega (arith, c .before .wide .ensures, c .before .before .before .before .before .before .before .pre .0 .pin (c .before .before .before .before .loop .i) (omega arith))
+share-requires c κs = omega (arith, c .before .index .ensures, c .before .before .before .before .before .before .before .pre .0 .pin (c .before .before .before .before .loop .i) (omega arith))
 
 raised-requires : tie.Need-raised-requires Inv-loop μ-loop
 raised-requires c κs =
     let start = c .before .before .before .before .before .before .before .before in
     let a = start .args in
-    share-small (now (a .blocks)) (a .u) (a .own) (a .near) (a .far) (c .before .before .wide .result) (c .share .result) (start .pre .1 .0) (start .pre .1 .1) (c .share .ensures)
+    share-small (now (a .blocks)) (a .u) (a .own) (a .near) (a .far) (c .before .before .index .result) (c .share .result) (start .pre .1 .0) (start .pre .1 .1) (c .share .ensures)
 
 mul-bounds : tie.Need-mul-bounds Inv-loop μ-loop
-mul-bounds c = omega (arith, c .before .before .before .wide .ensures, c .before .before .before .before .before .before .before .before .before .pre .0 .pin (c .before .before .before .before .before .before .loop .i) (omega arith))
+mul-bounds c = omega (arith, c .before .before .before .index .ensures, c .before .before .before .before .before .before .before .before .before .pre .0 .pin (c .before .before .before .before .before .before .loop .i) (omega arith))
 
 element-write-bounds : tie.Need-element-write-bounds Inv-loop μ-loop
-element-write-bounds c = omega (arith, c .before .before .before .before .before .before .loop .inv .1 .len, c .before .before .before .wide .ensures, c .before .before .before .before .before .before .before .before .before .pre .0 .pin (c .before .before .before .before .before .before .loop .i) (omega arith))
+element-write-bounds c = omega (arith, c .before .before .before .before .before .before .loop .inv .1 .len, c .before .before .before .index .ensures, c .before .before .before .before .before .before .before .before .before .pre .0 .pin (c .before .before .before .before .before .before .loop .i) (omega arith))
 
 add-i : tie.Need-add-i Inv-loop μ-loop
 add-i c = omega arith
@@ -64,7 +64,7 @@ loop-again : tie.Need-loop-again Inv-loop μ-loop
 loop-again c =
     let a = c .before .before .before .before .before .before .before .before .before .args in
     let l = c .before .before .before .before .before .before .loop in
-    (omega arith, lift-more (now (a .presentpins)) (a .first) (riseAt (now (a .blocks)) (a .u) (a .own) (a .near) (a .far)) (now (a .bounds)) (l .bounds) (l .i) (c .before .before .before .wide .result) (c .before .share .result) _ (l .inv .1) (c .before .before .before .wide .ensures) (omega (arith, c .before .before .before .wide .ensures, c .before .before .before .before .before .before .before .before .before .pre .0 .pin (l .i) (omega arith))) (c .before .share .ensures) (c .raised .ensures))
+    (omega arith, lift-more (now (a .presentpins)) (a .first) (riseAt (now (a .blocks)) (a .u) (a .own) (a .near) (a .far)) (now (a .bounds)) (l .bounds) (l .i) (c .before .before .before .index .result) (c .before .share .result) _ (l .inv .1) (c .before .before .before .index .ensures) (omega (arith, c .before .before .before .index .ensures, c .before .before .before .before .before .before .before .before .before .pre .0 .pin (l .i) (omega arith))) (c .before .share .ensures) (c .raised .ensures))
 
 returns : tie.Need-returns Inv-loop μ-loop
 returns c =
@@ -79,10 +79,10 @@ lift-net-spec =
     Inv-loop
     μ-loop
     loop-holds
-    add-wide
-    mul-wide
-    shared-slice-read-wide
-    wide-requires
+    add-index
+    mul-index
+    shared-slice-read-index
+    index-requires
     mul-raised
     element-copy-out-raised
     share-requires

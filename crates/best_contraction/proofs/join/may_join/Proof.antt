@@ -30,22 +30,22 @@ returns-3 c =
     let a = c .before .before .before .before .before .before .args in
     fits-heavy (now (a .blocks)) (now (a .weights)) (a .u) (a .own) (a .a) (a .limit) (a .y) (c .if3 .taken)
 
-sub-wide32 : tie.Need-sub-wide32
-sub-wide32 c = search needs
+sub-long : tie.Need-sub-long
+sub-long c = search needs
 
-mul-wide32 : tie.Need-mul-wide32
-mul-wide32 c = search needs
+mul-long : tie.Need-mul-long
+mul-long c = search needs
 
-shared-slice-read-wide32 : tie.Need-shared-slice-read-wide32
-shared-slice-read-wide32 c = search needs
+shared-slice-read-long : tie.Need-shared-slice-read-long
+shared-slice-read-long c = search needs
 
-wide32-requires : tie.Need-wide32-requires
-wide32-requires c κs = search needs
+long-requires : tie.Need-long-requires
+long-requires c κs = search needs
 
 returns-4 : tie.Need-returns-4
 returns-4 c =
     let a = c .before .before .before .before .before .before .before .before .args in
-    fits-left (now (a .blocks)) (now (a .weights)) (a .u) (a .own) (a .a) (a .limit) (a .y) (c .wide32 .result) (omega (arith, c .before .before .before .before .before .if1 .left)) (c .before .before .before .if2 .left) (c .before .before .if3 .left) (c .wide32 .ensures)
+    fits-left (now (a .blocks)) (now (a .weights)) (a .u) (a .own) (a .a) (a .limit) (a .y) (c .long .result) (omega (arith, c .before .before .before .before .before .if1 .left)) (c .before .before .before .if2 .left) (c .before .before .if3 .left) (c .long .ensures)
 
 pub may-join-spec : {M : Type 1} → statement M
 may-join-spec =
@@ -57,8 +57,8 @@ may-join-spec =
     shared-slice-read-if2
     returns-2
     returns-3
-    sub-wide32
-    mul-wide32
-    shared-slice-read-wide32
-    wide32-requires
+    sub-long
+    mul-long
+    shared-slice-read-long
+    long-requires
     returns-4)

@@ -26,22 +26,22 @@ mul-own c = omega arith
 shared-slice-read-own : tie.Need-shared-slice-read-own Inv-loop μ-loop
 shared-slice-read-own c = omega arith
 
-sub-wide32 : tie.Need-sub-wide32 Inv-loop μ-loop
-sub-wide32 c = omega arith
+sub-long : tie.Need-sub-long Inv-loop μ-loop
+sub-long c = omega arith
 
-mul-wide32 : tie.Need-mul-wide32 Inv-loop μ-loop
-mul-wide32 c = omega arith
+mul-long : tie.Need-mul-long Inv-loop μ-loop
+mul-long c = omega arith
 
-shared-slice-read-wide32 : tie.Need-shared-slice-read-wide32 Inv-loop μ-loop
-shared-slice-read-wide32 c = omega arith
+shared-slice-read-long : tie.Need-shared-slice-read-long Inv-loop μ-loop
+shared-slice-read-long c = omega arith
 
-wide32-requires : tie.Need-wide32-requires Inv-loop μ-loop
-wide32-requires c κs = search needs
+long-requires : tie.Need-long-requires Inv-loop μ-loop
+long-requires c κs = search needs
 
 loop-holds : tie.Need-loop-holds Inv-loop μ-loop
 loop-holds c =
     let a = c .before .before .before .before .before .args in
-    (omega arith, select-none (now (a .acc)) (now (a .blocks)) (now (a .weights)) (a .u) (getD (now (a .blocks)) (a .u - 1) 0) (c .wide32 .result) (a .limit))
+    (omega arith, select-none (now (a .acc)) (now (a .blocks)) (now (a .weights)) (a .u) (getD (now (a .blocks)) (a .u - 1) 0) (c .long .result) (a .limit))
 
 add-weigh-partner : tie.Need-add-weigh-partner Inv-loop μ-loop
 add-weigh-partner c = omega arith
@@ -68,14 +68,14 @@ loop-again : tie.Need-loop-again Inv-loop μ-loop
 loop-again c =
     let a = c .before .before .before .before .before .before .before .before .before .args in
     let l = c .before .before .before .loop in
-    (omega arith, select-more (now (a .acc)) (now (a .blocks)) (now (a .weights)) (a .u) (getD (now (a .blocks)) (a .u - 1) 0) (c .before .before .before .before .wide32 .result) (a .limit) (l .y) (l .best) (c .weigh-partner .result) (l .inv .1) (c .weigh-partner .ensures))
+    (omega arith, select-more (now (a .acc)) (now (a .blocks)) (now (a .weights)) (a .u) (getD (now (a .blocks)) (a .u - 1) 0) (c .before .before .before .before .long .result) (a .limit) (l .y) (l .best) (c .weigh-partner .result) (l .inv .1) (c .weigh-partner .ensures))
 
 returns : tie.Need-returns Inv-loop μ-loop
 returns c =
     let a = c .before .before .before .before .before .before .before .args in
     let l = c .before .loop in
     let e : l .y ≡ a .n = omega (arith, l .inv .0) in
-    l .inv .1 ∙ ap₂ {A = ℕ} {B = ℕ} {C = Partner} (λ k i. topTo (scoreIn (fits (now (a .blocks)) (now (a .weights)) (a .u) (getD (now (a .blocks)) (a .u - 1) 0) k (a .limit)) (λ z. getD (now (a .acc)) z 0)) i) (c .before .before .wide32 .ensures) e
+    l .inv .1 ∙ ap₂ {A = ℕ} {B = ℕ} {C = Partner} (λ k i. topTo (scoreIn (fits (now (a .blocks)) (now (a .weights)) (a .u) (getD (now (a .blocks)) (a .u - 1) 0) k (a .limit)) (λ z. getD (now (a .acc)) z 0)) i) (c .before .before .long .ensures) e
 
 pub select-spec : {M : Type 1} → statement M
 select-spec =
@@ -86,10 +86,10 @@ select-spec =
     sub-own
     mul-own
     shared-slice-read-own
-    sub-wide32
-    mul-wide32
-    shared-slice-read-wide32
-    wide32-requires
+    sub-long
+    mul-long
+    shared-slice-read-long
+    long-requires
     loop-holds
     add-weigh-partner
     add-weigh-partner-2

@@ -31,23 +31,23 @@ loop-holds c =
     let p = start .pre in
     (c .next-net .ensures .high, c .next-net .ensures .found, row-none (now (a .bits)) (now (a .presentpins)) (now (a .firsts)) (now (a .presentsizes)) (now (a .netWeights)) (a .u) (a .m) (a .n) (p .0) (now (a .acc)) _ (p .1 .0) (c .next-net .ensures))
 
-mul-wide : tie.Need-mul-wide Inv-loop μ-loop
-mul-wide c = omega (arith, c .before .before .before .before .before .before .before .before .before .pre .0 .nets)
+mul-index : tie.Need-mul-index Inv-loop μ-loop
+mul-index c = omega (arith, c .before .before .before .before .before .before .before .before .before .pre .0 .nets)
 
-shared-slice-read-wide : tie.Need-shared-slice-read-wide Inv-loop μ-loop
-shared-slice-read-wide c = omega (arith, c .before .before .before .before .before .before .before .before .before .before .pre .0 .in-firsts)
+shared-slice-read-index : tie.Need-shared-slice-read-index Inv-loop μ-loop
+shared-slice-read-index c = omega (arith, c .before .before .before .before .before .before .before .before .before .before .pre .0 .in-firsts)
 
-wide-requires : tie.Need-wide-requires Inv-loop μ-loop
-wide-requires c κs = search needs
+index-requires : tie.Need-index-requires Inv-loop μ-loop
+index-requires c κs = search needs
 
-mul-wide-2 : tie.Need-mul-wide-2 Inv-loop μ-loop
-mul-wide-2 c = omega (arith, c .before .before .before .before .before .before .before .before .before .before .before .pre .0 .nets)
+mul-index-2 : tie.Need-mul-index-2 Inv-loop μ-loop
+mul-index-2 c = omega (arith, c .before .before .before .before .before .before .before .before .before .before .before .pre .0 .nets)
 
-shared-slice-read-wide-2 : tie.Need-shared-slice-read-wide-2 Inv-loop μ-loop
-shared-slice-read-wide-2 c = omega (arith, c .before .before .before .before .before .before .before .before .before .before .before .before .pre .0 .in-sizes)
+shared-slice-read-index-2 : tie.Need-shared-slice-read-index-2 Inv-loop μ-loop
+shared-slice-read-index-2 c = omega (arith, c .before .before .before .before .before .before .before .before .before .before .before .before .pre .0 .in-sizes)
 
-wide-requires-2 : tie.Need-wide-requires-2 Inv-loop μ-loop
-wide-requires-2 c κs = search needs
+index-requires-2 : tie.Need-index-requires-2 Inv-loop μ-loop
+index-requires-2 c κs = search needs
 
 mul-term : tie.Need-mul-term Inv-loop μ-loop
 mul-term c = omega (arith, c .before .before .before .before .before .before .before .before .before .before .before .before .before .pre .0 .nets)
@@ -69,7 +69,7 @@ add-net-requires c κs =
     let a = c .before .before .before .before .before .before .before .before .before .before .before .before .before .before .before .before .args in
     let p = c .before .before .before .before .before .before .before .before .before .before .before .before .before .before .before .before .pre in
     let l = c .before .before .before .before .before .before .before .before .before .loop in
-    (row-stretch (now (a .bits)) (now (a .presentpins)) (now (a .firsts)) (now (a .presentsizes)) (now (a .netWeights)) (a .u) (a .m) (a .n) (p .0) (now (a .acc)) (l .acc) (l .e) _ _ (p .1 .0) (omega arith) (l .inv .2) (c .before .before .before .before .before .wide .ensures) (c .before .before .before .wide2 .ensures), c .term .ensures .1)
+    (row-stretch (now (a .bits)) (now (a .presentpins)) (now (a .firsts)) (now (a .presentsizes)) (now (a .netWeights)) (a .u) (a .m) (a .n) (p .0) (now (a .acc)) (l .acc) (l .e) _ _ (p .1 .0) (omega arith) (l .inv .2) (c .before .before .before .before .before .index .ensures) (c .before .before .before .index2 .ensures), c .term .ensures .1)
 
 sub-next-net-2 : tie.Need-sub-next-net-2 Inv-loop μ-loop
 sub-next-net-2 c = omega (arith, c .before .before .before .before .before .before .before .before .before .before .before .before .before .before .before .before .before .pre .1)
@@ -90,7 +90,7 @@ loop-again c =
     let a = c .before .before .before .before .before .before .before .before .before .before .before .before .before .before .before .before .before .before .args in
     let p = c .before .before .before .before .before .before .before .before .before .before .before .before .before .before .before .before .before .before .pre in
     let l = c .before .before .before .before .before .before .before .before .before .before .before .loop in
-    (c .next-net2 .ensures .high, c .next-net2 .ensures .found, row-more (now (a .bits)) (now (a .presentpins)) (now (a .firsts)) (now (a .presentsizes)) (now (a .netWeights)) (a .u) (a .m) (a .n) (p .0) (now (a .acc)) (l .acc) _ (l .e) _ _ _ _ (l .inv .2) (l .inv .1 (omega arith)) (c .before .before .before .before .before .before .before .wide .ensures) (c .before .before .before .before .before .wide2 .ensures) (c .before .before .term .ensures .0) (c .before .add-net .ensures) (c .next-net2 .ensures))
+    (c .next-net2 .ensures .high, c .next-net2 .ensures .found, row-more (now (a .bits)) (now (a .presentpins)) (now (a .firsts)) (now (a .presentsizes)) (now (a .netWeights)) (a .u) (a .m) (a .n) (p .0) (now (a .acc)) (l .acc) _ (l .e) _ _ _ _ (l .inv .2) (l .inv .1 (omega arith)) (c .before .before .before .before .before .before .before .index .ensures) (c .before .before .before .before .before .index2 .ensures) (c .before .before .term .ensures .0) (c .before .add-net .ensures) (c .next-net2 .ensures))
 
 returns : tie.Need-returns Inv-loop μ-loop
 returns c =
@@ -107,12 +107,12 @@ accumulate-spec =
     sub-next-net
     next-net-requires
     loop-holds
-    mul-wide
-    shared-slice-read-wide
-    wide-requires
-    mul-wide-2
-    shared-slice-read-wide-2
-    wide-requires-2
+    mul-index
+    shared-slice-read-index
+    index-requires
+    mul-index-2
+    shared-slice-read-index-2
+    index-requires-2
     mul-term
     shared-slice-read-term
     mul-term-2

@@ -22,44 +22,44 @@ loop-holds c =
     let p = c .before .pre in
     (omega arith, net-none (now (a .acc)) (now (a .presentpins)) (a .first) (a .n) (a .t) (p .0) (p .1))
 
-add-wide : tie.Need-add-wide Inv-loop μ-loop
-add-wide c = omega (arith, c .before .before .before .pre .0 .stretch)
+add-index : tie.Need-add-index Inv-loop μ-loop
+add-index c = omega (arith, c .before .before .before .pre .0 .stretch)
 
-mul-wide : tie.Need-mul-wide Inv-loop μ-loop
-mul-wide c = omega arith
+mul-index : tie.Need-mul-index Inv-loop μ-loop
+mul-index c = omega arith
 
-shared-slice-read-wide : tie.Need-shared-slice-read-wide Inv-loop μ-loop
-shared-slice-read-wide c = omega (arith, c .before .before .before .before .pre .0 .stretch)
+shared-slice-read-index : tie.Need-shared-slice-read-index Inv-loop μ-loop
+shared-slice-read-index c = omega (arith, c .before .before .before .before .pre .0 .stretch)
 
-wide-requires : tie.Need-wide-requires Inv-loop μ-loop
-wide-requires c κs = search needs
+index-requires : tie.Need-index-requires Inv-loop μ-loop
+index-requires c κs = search needs
 
 mul-acc : tie.Need-mul-acc Inv-loop μ-loop
-mul-acc c = omega (arith, c .wide .ensures, c .before .before .before .before .before .pre .0 .pin (c .before .before .before .loop .i) (omega arith))
+mul-acc c = omega (arith, c .index .ensures, c .before .before .before .before .before .pre .0 .pin (c .before .before .before .loop .i) (omega arith))
 
 element-copy-out-acc : tie.Need-element-copy-out-acc Inv-loop μ-loop
 element-copy-out-acc c =
     let a = c .before .before .before .before .before .args in
     let p = c .before .before .before .before .before .pre in
     let l = c .before .before .before .loop in
-    net-room (now (a .acc)) (now (a .presentpins)) (a .first) (a .n) (a .t) (p .0) (p .1) (l .acc) (l .i) (c .wide .result) (omega arith) (l .inv .1) (c .wide .ensures) .0
+    net-room (now (a .acc)) (now (a .presentpins)) (a .first) (a .n) (a .t) (p .0) (p .1) (l .acc) (l .i) (c .index .result) (omega arith) (l .inv .1) (c .index .ensures) .0
 
 add-acc : tie.Need-add-acc Inv-loop μ-loop
 add-acc c =
     let a = c .before .before .before .before .before .before .args in
     let p = c .before .before .before .before .before .before .pre in
     let l = c .before .before .before .before .loop in
-    omega (arith, net-room (now (a .acc)) (now (a .presentpins)) (a .first) (a .n) (a .t) (p .0) (p .1) (l .acc) (l .i) (c .before .wide .result) (omega arith) (l .inv .1) (c .before .wide .ensures))
+    omega (arith, net-room (now (a .acc)) (now (a .presentpins)) (a .first) (a .n) (a .t) (p .0) (p .1) (l .acc) (l .i) (c .before .index .result) (omega arith) (l .inv .1) (c .before .index .ensures))
 
 mul-acc-2 : tie.Need-mul-acc-2 Inv-loop μ-loop
-mul-acc-2 c = omega (arith, c .before .wide .ensures, c .before .before .before .before .before .before .pre .0 .pin (c .before .before .before .before .loop .i) (omega arith))
+mul-acc-2 c = omega (arith, c .before .index .ensures, c .before .before .before .before .before .before .pre .0 .pin (c .before .before .before .before .loop .i) (omega arith))
 
 element-write-acc : tie.Need-element-write-acc Inv-loop μ-loop
 element-write-acc c =
     let a = c .before .before .before .before .before .before .args in
     let p = c .before .before .before .before .before .before .pre in
     let l = c .before .before .before .before .loop in
-    net-room (now (a .acc)) (now (a .presentpins)) (a .first) (a .n) (a .t) (p .0) (p .1) (l .acc) (l .i) (c .before .wide .result) (omega arith) (l .inv .1) (c .before .wide .ensures) .0
+    net-room (now (a .acc)) (now (a .presentpins)) (a .first) (a .n) (a .t) (p .0) (p .1) (l .acc) (l .i) (c .before .index .result) (omega arith) (l .inv .1) (c .before .index .ensures) .0
 
 add-i : tie.Need-add-i Inv-loop μ-loop
 add-i c = omega arith
@@ -72,7 +72,7 @@ loop-again c =
     let a = c .before .before .before .before .before .before .args in
     let p = c .before .before .before .before .before .before .pre in
     let l = c .before .before .before .before .loop in
-    (omega arith, net-more (now (a .acc)) (now (a .presentpins)) (a .first) (a .n) (a .t) (p .0) (p .1) (l .acc) (l .i) (c .before .wide .result) (omega arith) (l .inv .1) (c .before .wide .ensures))
+    (omega arith, net-more (now (a .acc)) (now (a .presentpins)) (a .first) (a .n) (a .t) (p .0) (p .1) (l .acc) (l .i) (c .before .index .result) (omega arith) (l .inv .1) (c .before .index .ensures))
 
 returns : tie.Need-returns Inv-loop μ-loop
 returns c =
@@ -87,10 +87,10 @@ add-net-spec =
     Inv-loop
     μ-loop
     loop-holds
-    add-wide
-    mul-wide
-    shared-slice-read-wide
-    wide-requires
+    add-index
+    mul-index
+    shared-slice-read-index
+    index-requires
     mul-acc
     element-copy-out-acc
     add-acc

@@ -7,47 +7,47 @@ use Rattle.best_move.specs.Open.{Leads, bestInRow, gainIn, mayGo}
 use Rattle.best_move.proofs.open.best_with.Statement.{statement}
 use Rattle.best_move.proofs.open.best_with.Tie as tie
 
-mul-wide32 : tie.Need-mul-wide32
-mul-wide32 c = search needs
+mul-long : tie.Need-mul-long
+mul-long c = search needs
 
-shared-slice-read-wide32 : tie.Need-shared-slice-read-wide32
-shared-slice-read-wide32 c = search needs
+shared-slice-read-long : tie.Need-shared-slice-read-long
+shared-slice-read-long c = search needs
 
-wide32-requires : tie.Need-wide32-requires
-wide32-requires c κs = search needs
+long-requires : tie.Need-long-requires
+long-requires c κs = search needs
 
-mul-wide : tie.Need-mul-wide
-mul-wide c = search needs
+mul-index : tie.Need-mul-index
+mul-index c = search needs
 
-shared-slice-read-wide : tie.Need-shared-slice-read-wide
-shared-slice-read-wide c = search needs
+shared-slice-read-index : tie.Need-shared-slice-read-index
+shared-slice-read-index c = search needs
 
-wide-requires : tie.Need-wide-requires
-wide-requires c κs = search needs
+index-requires : tie.Need-index-requires
+index-requires c κs = search needs
 
 best-in-row-requires : tie.Need-best-in-row-requires
 best-in-row-requires c κs = search needs
 
 returns : tie.Need-returns
 returns c =
-    let at-wide = c .before .before .before in
-    let start = at-wide .before .before .before .before in
+    let at-index = c .before .before .before in
+    let start = at-index .before .before .before .before in
     λ b h.
     let a = start .args in
     subst (λ (x : ℕ). Leads (c .best-in-row .result) (bestInRow (gainIn (now (a .gains))) (λ b. mayGo (getD (now (a .loads)) (b - 1) 0) (getD (now (a .blocks)) (a .i) 0) x (getD (now (a .ceilings)) (b - 1) 0) b) (a .i + 1) (a .k) b))
-    (c .before .wide32 .ensures)
-    (subst (λ (x : ℕ). Leads (c .best-in-row .result) (bestInRow (gainIn (now (a .gains))) (λ b. mayGo (getD (now (a .loads)) (b - 1) 0) x (c .before .wide32 .result) (getD (now (a .ceilings)) (b - 1) 0) b) (a .i + 1) (a .k) b))
-    (at-wide .wide .ensures) (c .best-in-row .ensures b h))
+    (c .before .long .ensures)
+    (subst (λ (x : ℕ). Leads (c .best-in-row .result) (bestInRow (gainIn (now (a .gains))) (λ b. mayGo (getD (now (a .loads)) (b - 1) 0) x (c .before .long .result) (getD (now (a .ceilings)) (b - 1) 0) b) (a .i + 1) (a .k) b))
+    (at-index .index .ensures) (c .best-in-row .ensures b h))
 
 pub best-with-spec : {M : Type 1} → statement M
 best-with-spec =
     tie.close
     (tie.spec
-    mul-wide
-    shared-slice-read-wide
-    wide-requires
-    mul-wide32
-    shared-slice-read-wide32
-    wide32-requires
+    mul-index
+    shared-slice-read-index
+    index-requires
+    mul-long
+    shared-slice-read-long
+    long-requires
     best-in-row-requires
     returns)

@@ -18,13 +18,13 @@ same-length c = search needs
 returns : tie.Need-returns
 returns c = λ loads loaded h ceiling. refused-J _ _ _ _ _ (c .before .refuses-join .ensures) (c .if1 .taken)
 
-short-requires : tie.Need-short-requires
-short-requires c κs =
+narrow-requires : tie.Need-narrow-requires
+narrow-requires c κs =
     let start = c .before .before .before .before .before .before .before .before .before .before .before .before .before in
     omega (arith, (pair-of (now (start .args .blocks)) (start .args .n) (start .args .u) (start .args .v) (sym (c .before .refuses-join .ensures) ∙ c .if1 .left)) .1 .u-in, roomy (start .pre .ready) .few-vertices)
 
-short-requires-2 : tie.Need-short-requires-2
-short-requires-2 c κs =
+narrow-requires-2 : tie.Need-narrow-requires-2
+narrow-requires-2 c κs =
     let start = c .before .before .before .before .before .before .before .before .before .before .before .before .before .before in
     omega (arith, (pair-of (now (start .args .blocks)) (start .args .n) (start .args .u) (start .args .v) (sym (c .before .before .refuses-join .ensures) ∙ c .before .if1 .left)) .1 .v-in, roomy (start .pre .ready) .few-vertices)
 
@@ -111,12 +111,12 @@ returns-2 c =
     let at-join = c .before .before .before .before .before .before .before .before .before .before .before .before .before .before .before .before .before .before in
     let at-clear = at-join .before .before .before .before .before .before .before .before .before .before in
     let at-push = at-clear .before in
-    let at-short2 = at-push .before in
-    let at-short = at-short2 .before in
-    let at-if1 = at-short .before in
+    let at-narrow2 = at-push .before in
+    let at-narrow = at-narrow2 .before in
+    let at-if1 = at-narrow .before in
     let at-refuses-join = at-if1 .before in
     let start = at-refuses-join .before .before .before .before .before .before .before .before .before .before .before .before in
-    λ loads loaded h ceiling. accepted-J h _ _ _ _ _ _ (start .args .u) (start .args .v) (sym (at-refuses-join .refuses-join .ensures) ∙ at-if1 .if1 .left) refl (at-join .join .ensures loads loaded) (pushed-as (at-push .push .ensures) (at-short .short .ensures) (at-short2 .short2 .ensures)) (record { xs-same = at-clear .clear .ensures .0; ys-same = at-clear .clear .ensures .1; len-is = at-clear .clear .ensures .2 }) _ refl
+    λ loads loaded h ceiling. accepted-J h _ _ _ _ _ _ (start .args .u) (start .args .v) (sym (at-refuses-join .refuses-join .ensures) ∙ at-if1 .if1 .left) refl (at-join .join .ensures loads loaded) (pushed-as (at-push .push .ensures) (at-narrow .narrow .ensures) (at-narrow2 .narrow2 .ensures)) (record { xs-same = at-clear .clear .ensures .0; ys-same = at-clear .clear .ensures .1; len-is = at-clear .clear .ensures .2 }) _ refl
 
 pub call-join-spec : {M : Type 1} → statement M
 call-join-spec =
@@ -125,8 +125,8 @@ call-join-spec =
     refuses-join-requires
     same-length
     returns
-    short-requires
-    short-requires-2
+    narrow-requires
+    narrow-requires-2
     push-requires
     clear-requires
     sub-join

@@ -52,8 +52,8 @@ slice-copy-out-gain c =
     let start = c .before .before .before .before .before .before .before .before .before .before .before .before .before in
     omega (arith, (open-of (now (start .args .blocks)) (now (start .args .loads)) (now (start .args .ceilings)) (now (start .args .weights)) (start .args .n) (start .args .k) (start .args .u) (start .args .t) (sym (c .before .refuses-move .ensures) ∙ c .if1 .left)) .1 .u-in, roomy (start .pre .ready) .few-vertices, (open-of (now (start .args .blocks)) (now (start .args .loads)) (now (start .args .ceilings)) (now (start .args .weights)) (start .args .n) (start .args .k) (start .args .u) (start .args .t) (sym (c .before .refuses-move .ensures) ∙ c .if1 .left)) .1 .t-in, roomy (start .pre .ready) .few-blocks, roomy (start .pre .ready) .gains-fit)
 
-short-requires : tie.Need-short-requires
-short-requires c κs =
+narrow-requires : tie.Need-narrow-requires
+narrow-requires c κs =
     let start = c .before .before .before .before .before .before .before .before .before .before .before .before .before .before in
     omega (arith, (open-of (now (start .args .blocks)) (now (start .args .loads)) (now (start .args .ceilings)) (now (start .args .weights)) (start .args .n) (start .args .k) (start .args .u) (start .args .t) (sym (c .before .before .refuses-move .ensures) ∙ c .before .if1 .left)) .1 .u-in, roomy (start .pre .ready) .few-vertices)
 
@@ -88,8 +88,8 @@ sub-go c =
     let start = at-refuses-move .before .before .before .before .before .before .before .before .before .before .before .before in
     omega (arith, (open-of (now (start .args .blocks)) (now (start .args .loads)) (now (start .args .ceilings)) (now (start .args .weights)) (start .args .n) (start .args .k) (start .args .u) (start .args .t) (sym (at-refuses-move .refuses-move .ensures) ∙ at-if1 .if1 .left)) .0)
 
-short-requires-2 : tie.Need-short-requires-2
-short-requires-2 c κs =
+narrow-requires-2 : tie.Need-narrow-requires-2
+narrow-requires-2 c κs =
     let at-if1 = c .before .before .before .before .before .before .before .before .before in
     let at-refuses-move = at-if1 .before in
     let start = at-refuses-move .before .before .before .before .before .before .before .before .before .before .before .before in
@@ -100,7 +100,7 @@ go-requires c κs =
     let at-if1 = c .before .before .before .before .before .before .before .before .before .before in
     let at-refuses-move = at-if1 .before in
     let start = at-refuses-move .before .before .before .before .before .before .before .before .before .before .before .before in
-    record { aboves = start .pre .aboves; loaded = start .pre .loaded; goes = goes-as (start .pre .ready) ((open-of (now (start .args .blocks)) (now (start .args .loads)) (now (start .args .ceilings)) (now (start .args .weights)) (start .args .n) (start .args .k) (start .args .u) (start .args .t) (sym (at-refuses-move .refuses-move .ensures) ∙ at-if1 .if1 .left)) .1) (c .short2 .ensures) }
+    record { aboves = start .pre .aboves; loaded = start .pre .loaded; goes = goes-as (start .pre .ready) ((open-of (now (start .args .blocks)) (now (start .args .loads)) (now (start .args .ceilings)) (now (start .args .weights)) (start .args .n) (start .args .k) (start .args .u) (start .args .t) (sym (at-refuses-move .refuses-move .ensures) ∙ at-if1 .if1 .left)) .1) (c .narrow2 .ensures) }
 
 same-length-2 : tie.Need-same-length-2
 same-length-2 c = search needs
@@ -117,13 +117,13 @@ same-length-5 c = search needs
 returns-2 : tie.Need-returns-2
 returns-2 c =
     let at-go = c .before .before .before .before .before .before .before in
-    let at-short2 = at-go .before in
-    let at-push = at-short2 .before .before .before .before .before .before in
-    let at-short = at-push .before .before in
-    let at-if1 = at-short .before .before in
+    let at-narrow2 = at-go .before in
+    let at-push = at-narrow2 .before .before .before .before .before .before in
+    let at-narrow = at-push .before .before in
+    let at-if1 = at-narrow .before .before in
     let at-refuses-move = at-if1 .before in
     let start = at-refuses-move .before .before .before .before .before .before .before .before .before .before .before .before in
-    λ aboves loaded S h ceiling q. accepted-M h _ _ _ _ _ (now (start .args .ceilings)) (start .args .u) (start .args .t) (at-short2 .short2 .result) _ (sym (at-refuses-move .refuses-move .ensures) ∙ at-if1 .if1 .left) (at-short2 .short2 .ensures) (at-go .go .ensures aboves loaded) (roomy (start .pre .ready) .journal-short) refl (pushed-as (at-push .push .ensures) (at-short .short .ensures) refl) q _ (read32 _ (gain-small (start .pre .ready .runs .sound) ((open-of (now (start .args .blocks)) (now (start .args .loads)) (now (start .args .ceilings)) (now (start .args .weights)) (start .args .n) (start .args .k) (start .args .u) (start .args .t) (sym (at-refuses-move .refuses-move .ensures) ∙ at-if1 .if1 .left)) .1)))
+    λ aboves loaded S h ceiling q. accepted-M h _ _ _ _ _ (now (start .args .ceilings)) (start .args .u) (start .args .t) (at-narrow2 .narrow2 .result) _ (sym (at-refuses-move .refuses-move .ensures) ∙ at-if1 .if1 .left) (at-narrow2 .narrow2 .ensures) (at-go .go .ensures aboves loaded) (roomy (start .pre .ready) .journal-short) refl (pushed-as (at-push .push .ensures) (at-narrow .narrow .ensures) refl) q _ (read32 _ (gain-small (start .pre .ready .runs .sound) ((open-of (now (start .args .blocks)) (now (start .args .loads)) (now (start .args .ceilings)) (now (start .args .weights)) (start .args .n) (start .args .k) (start .args .u) (start .args .t) (sym (at-refuses-move .refuses-move .ensures) ∙ at-if1 .if1 .left)) .1)))
 
 pub call-move-spec : {M : Type 1} → statement M
 call-move-spec =
@@ -138,13 +138,13 @@ call-move-spec =
     add-gain
     mul-gain-2
     slice-copy-out-gain
-    short-requires
+    narrow-requires
     sub-push
     mul-push
     slice-read-push
     push-requires
     sub-go
-    short-requires-2
+    narrow-requires-2
     go-requires
     same-length-2
     same-length-3

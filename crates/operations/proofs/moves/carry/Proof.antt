@@ -17,21 +17,21 @@ index-requires c κs = search needs
 index-requires-2 : tie.Need-index-requires-2
 index-requires-2 c κs = search needs
 
-mul-wide : tie.Need-mul-wide
-mul-wide c = search needs
+mul-long : tie.Need-mul-long
+mul-long c = search needs
 
-shared-slice-read-wide : tie.Need-shared-slice-read-wide
-shared-slice-read-wide c = search needs
+shared-slice-read-long : tie.Need-shared-slice-read-long
+shared-slice-read-long c = search needs
 
-wide-requires : tie.Need-wide-requires
-wide-requires c κs = search needs
+long-requires : tie.Need-long-requires
+long-requires c κs = search needs
 
 shift-load-requires : tie.Need-shift-load-requires
 shift-load-requires c κs =
     let at-index2 = c .before .before in
     let at-index = at-index2 .before in
     let start = at-index .before .before .before .before .before .before .before .before .before .before .before .before in
-    shifts-as (now (start .args .loads)) (at-index .index .ensures) (at-index2 .index2 .ensures) (c .wide .ensures) (start .pre .shifts)
+    shifts-as (now (start .args .loads)) (at-index .index .ensures) (at-index2 .index2 .ensures) (c .long .ensures) (start .pre .shifts)
 
 move-vertex-requires : tie.Need-move-vertex-requires
 move-vertex-requires c κs = c .before .before .before .before .before .before .before .before .before .before .before .before .before .before .before .before .before .before .before .before .pre .moves
@@ -52,11 +52,11 @@ returns : tie.Need-returns
 returns c =
     let at-move-vertex = c .before .before .before .before .before .before .before in
     let at-shift-load = at-move-vertex .before .before .before .before .before in
-    let at-wide = at-shift-load .before in
-    let at-index2 = at-wide .before .before in
+    let at-long = at-shift-load .before in
+    let at-index2 = at-long .before .before in
     let at-index = at-index2 .before in
     let start = at-index .before .before .before .before .before .before .before .before .before .before .before .before in
-    (at-move-vertex .move-vertex .ensures, shifted-as (now (start .args .loads)) (at-index .index .ensures) (at-index2 .index2 .ensures) (at-wide .wide .ensures) (at-shift-load .shift-load .ensures))
+    (at-move-vertex .move-vertex .ensures, shifted-as (now (start .args .loads)) (at-index .index .ensures) (at-index2 .index2 .ensures) (at-long .long .ensures) (at-shift-load .shift-load .ensures))
 
 pub carry-spec : {M : Type 1} → statement M
 carry-spec =
@@ -66,9 +66,9 @@ carry-spec =
     slice-read-index
     index-requires
     index-requires-2
-    mul-wide
-    shared-slice-read-wide
-    wide-requires
+    mul-long
+    shared-slice-read-long
+    long-requires
     shift-load-requires
     move-vertex-requires
     same-length

@@ -35,8 +35,8 @@ walk-requires c κs =
     let start = at-refuses-walk .before .before .before .before .before .before .before .before .before .before .before in
     walk-asks (start .args .u) (start .args .v) (start .pre) (sym (at-refuses-walk .refuses-walk .ensures) ∙ at-if1 .if1 .left)
 
-short-requires : tie.Need-short-requires
-short-requires c κs =
+narrow-requires : tie.Need-narrow-requires
+narrow-requires c κs =
     let at-walk = c .before .before .before .before .before .before .before in
     let start = at-walk .before .before .before .before .before .before .before .before .before .before .before .before .before .before .before .before .before .before .before in
     walk-few (start .pre) (at-walk .walk .ensures) .0
@@ -44,8 +44,8 @@ short-requires c κs =
 wide-requires : tie.Need-wide-requires
 wide-requires c κs = search needs
 
-short-requires-2 : tie.Need-short-requires-2
-short-requires-2 c κs =
+narrow-requires-2 : tie.Need-narrow-requires-2
+narrow-requires-2 c κs =
     let at-walk = c .before .before .before .before .before .before .before .before .before in
     let start = at-walk .before .before .before .before .before .before .before .before .before .before .before .before .before .before .before .before .before .before .before in
     walk-few (start .pre) (at-walk .walk .ensures) .1
@@ -67,13 +67,13 @@ same-length-5 c = search needs
 
 returns-2 : tie.Need-returns-2
 returns-2 c =
-    let at-short = c .before .before .before in
-    let at-walk = at-short .before .before .before .before .before .before .before .before in
+    let at-narrow = c .before .before .before in
+    let at-walk = at-narrow .before .before .before .before .before .before .before .before in
     let at-clear = at-walk .before .before .before .before .before .before in
     let at-if1 = at-clear .before in
     let at-refuses-walk = at-if1 .before in
     let start = at-refuses-walk .before .before .before .before .before .before .before .before .before .before .before in
-    λ aboves loaded S h ceiling q. accepted-W h ceiling _ _ _ _ _ _ (start .args .u) (start .args .v) q (sym (at-refuses-walk .refuses-walk .ensures) ∙ at-if1 .if1 .left) (at-walk .walk .ensures aboves loaded) (record { xs-same = at-clear .clear .ensures .0; ys-same = at-clear .clear .ensures .1; len-is = at-clear .clear .ensures .2 }) _ _ (c .before .before .wide .ensures ∙ at-short .short .ensures) (c .wide2 .ensures ∙ c .before .short2 .ensures)
+    λ aboves loaded S h ceiling q. accepted-W h ceiling _ _ _ _ _ _ (start .args .u) (start .args .v) q (sym (at-refuses-walk .refuses-walk .ensures) ∙ at-if1 .if1 .left) (at-walk .walk .ensures aboves loaded) (record { xs-same = at-clear .clear .ensures .0; ys-same = at-clear .clear .ensures .1; len-is = at-clear .clear .ensures .2 }) _ _ (c .before .before .wide .ensures ∙ at-narrow .narrow .ensures) (c .wide2 .ensures ∙ c .before .narrow2 .ensures)
 
 pub call-walk-spec : {M : Type 1} → statement M
 call-walk-spec =
@@ -86,9 +86,9 @@ call-walk-spec =
     sub-walk
     sub-walk-2
     walk-requires
-    short-requires
+    narrow-requires
     wide-requires
-    short-requires-2
+    narrow-requires-2
     wide-requires-2
     same-length-2
     same-length-3

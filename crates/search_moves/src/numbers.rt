@@ -1,8 +1,0 @@
-// Numbers of one width read at another.
-ghost use mathlib.Core.Path.{_≡_};
-
-pub fn index(x: u16) -> usize
-    ensures { λ r. ⌜ r ≡ x ⌝ }
-{
-    x as usize
-}
