@@ -19,10 +19,11 @@ unfoldable pub share : List ℕ → ℕ → ℕ → ℕ → ℕ → ℤ
 share counts crow own w x =
     cond (eqb x own) (pos 0) (pos (when (getD counts (crow + own) 0) 1 w) -ℤ pos (when (getD counts (crow + x) 0) 0 w))
 
-pub share-is : (counts : List ℕ) (crow own w x f d : ℕ) (a b s r : ℤ) → f ≡ when (getD counts (crow + own) 0) 1 w →
-    d ≡ when (getD counts (crow + x) 0) 0 w → a ≡ pos f → b ≡ pos d → s ≡ a -ℤ b → r ≡ cond (eqb x own) (pos 0) s → r ≡ share counts crow own w x
+-- the difference of the halves f and d, and 0 at the own block
+pub share-is : (counts : List ℕ) (crow own w x f d : ℕ) (s r : ℤ) → f ≡ when (getD counts (crow + own) 0) 1 w →
+    d ≡ when (getD counts (crow + x) 0) 0 w → s ≡ pos f -ℤ pos d → r ≡ cond (eqb x own) (pos 0) s → r ≡ share counts crow own w x
 unfolding share
-share-is counts crow own w x f d a b s r ef ed ea eb es er = rw (er, es, ea, eb, ef, ed) refl
+share-is counts crow own w x f d s r ef ed es er = rw (er, es, ef, ed) refl
 
 pub when-le : (n want w : ℕ) → when n want w ≤ w
 unfolding when

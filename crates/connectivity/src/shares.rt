@@ -9,25 +9,8 @@ ghost use mir.Val.{SFits};
 ghost use Rattle.connectivity.specs.Share.{share, when};
 ghost use Rattle.connectivity.specs.Raised.{Raised, Ready};
 ghost use Rattle.connectivity.specs.Laid.{signed};
-
-// The weight `w` if `n` is `want`, else 0.
-fn when_is(n: u16, want: u16, w: u16) -> u16
-    ensures { λ r. ⌜ r ≡ when n want w ⌝ }
-{
-    if n == want { w } else { 0 }
-}
-
-// The weight `w` if the count `n` is 0, else 0. By arithmetic, since a test becomes a branch where the blocks are few, and a processor can't
-// predict which counts are 0.
-fn when_none(n: u16, w: u16) -> u16
-    ensures { λ r. ⌜ r ≡ when n 0 w ⌝ }
-{
-    let count = n as u32;
-    let weight = w as u32;
-    let none = (65536 - count) / 65536;
-    let given = none * weight;
-    given as u16
-}
+use crate::halves::net_halves;
+use crate::halves::when_is;
 
 // The number as a signed one.
 pub fn wide(x: u16) -> i32
@@ -54,14 +37,6 @@ pub fn sub_at(g: &mut [i32], i: usize, s: i32)
     g[i] = g[i] - s;
 }
 
-// The difference of two numbers.
-fn less(a: i32, b: i32) -> i32
-    requires { ⌜ SFits w32 (a -ℤ b) ⌝ }
-    ensures { λ r. ⌜ r ≡ a -ℤ b ⌝ }
-{
-    a - b
-}
-
 // Nothing at a vertex's own block, else the share. A choice between two values and no early return, so that the loops over the blocks have no
 // branch.
 fn unless(own: bool, share: i32) -> i32
@@ -70,15 +45,15 @@ fn unless(own: bool, share: i32) -> i32
     if own { 0 } else { share }
 }
 
-// The share of a net of weight `w` in the gain of the block `x` for a vertex of the block `own`. What leaving that block frees is the same for
-// all blocks, and given.
+// The share of a net of weight `w` in the gain of the block `x` for a vertex of the block `own`: the difference of its halves. What leaving
+// that block frees is the same for all blocks, and given.
 fn share_of(counts: &[u16], crow: usize, own: usize, w: u16, x: usize, freed: u16) -> i32
     requires { ⌜ crow + x < length (now counts) ⌝ }
     requires { ⌜ freed ≡ when (getD (now counts) (crow + own) 0) 1 w ⌝ }
     ensures { λ r. ⌜ r ≡ share (now (counts .entry)) crow own w x ⌝ }
 {
-    let drawn = when_none(counts[crow + x], w);
-    unless(x == own, less(wide(freed), wide(drawn)))
+    let halves = net_halves(counts, crow + x, w, freed);
+    unless(x == own, halves.difference())
 }
 
 // Adds to the `k` gains at `row`, of a vertex of the block `own`, the shares of a net of weight `w` whose counts start at `crow`.

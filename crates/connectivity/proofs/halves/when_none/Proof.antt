@@ -2,8 +2,8 @@
 use native.Mathlib.Omega.{arith}
 use borrow.Author.Needs.{needs}
 use Rattle.connectivity.specs.Share.{when-none, when-le}
-use Rattle.connectivity.proofs.shares.when_none.Statement.{statement}
-use Rattle.connectivity.proofs.shares.when_none.Tie as tie
+use Rattle.connectivity.proofs.halves.when_none.Statement.{statement}
+use Rattle.connectivity.proofs.halves.when_none.Tie as tie
 
 sub-none : tie.Need-sub-none
 sub-none c = search needs

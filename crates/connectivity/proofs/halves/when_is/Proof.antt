@@ -2,8 +2,8 @@
 use mathlib.Core.Path.{refl}
 use borrow.Author.Tests.{eq-eqb, ne-eqb}
 use Rattle.connectivity.specs.Share.{when}
-use Rattle.connectivity.proofs.shares.when_is.Statement.{statement}
-use Rattle.connectivity.proofs.shares.when_is.Tie as tie
+use Rattle.connectivity.proofs.halves.when_is.Statement.{statement}
+use Rattle.connectivity.proofs.halves.when_is.Tie as tie
 
 returns : tie.Need-returns
 unfolding when
