@@ -7,7 +7,6 @@ use mathlib.Core.Path.{_≡_, refl, subst}
 use mathlib.Core.Bool.{Bool, true, false, not, _&&_, cond}
 use mathlib.Core.List.{List, [], _∷_}
 use lib.Dec.{eqb}
-use lib.IntN.{natAbs}
 use lib.ListN.{length}
 use Rattle.model.specs.Catalogue.{Limits, Hypergraph, vertices, isVertex, isBlock}
 use Rattle.model.specs.Measure.{Contraction, onBoard, metric, hasRoom}
@@ -16,7 +15,7 @@ use Rattle.model.specs.Search.{Coarse, Fine, coarsen, refine, refusesW, doesW, 
 use Rattle.guarantees.specs.Calls.{Legal, AllInside, Recorded, coarsened}
 use Rattle.guarantees.specs.Ends.{Placed}
 use Rattle.guarantees.specs.Ranges.{Ranges}
-use Rattle.guarantees.specs.Bounds.{gain-le, metric-le}
+use Rattle.guarantees.specs.Bounds.{freed-le, drawn-le, metric-le}
 use Rattle.guarantees.specs.WeightBounds.{weight-le, loaded-le}
 use Rattle.guarantees.specs.SearchBounds.{walk-counts, tried-le, polish-count, refine-counts}
 use Rattle.guarantees.specs.StateBounds.{stack-le, Listed}
@@ -24,7 +23,7 @@ use Rattle.guarantees.specs.StateBounds.{stack-le, Listed}
 abbrev pub Bounded : Answer → Type 0
 Bounded (saysJ w) = w ≤ 67107840
 Bounded (saysS u v) = (u ≤ 1024) × (v ≤ 1024)
-Bounded (saysM g c) = (natAbs g ≤ 1024000) × (c ≤ 15360000)
+Bounded (saysM f d c) = (f ≤ 1024000) × (d ≤ 1024000) × (c ≤ 15360000)
 Bounded (saysB v b c) = (v ≤ 1024) × (b ≤ 16) × (c ≤ 15360000)
 Bounded (saysW t k c) = (t ≤ 1024) × (k ≤ t) × (c ≤ 15360000)
 Bounded (saysP m c) = (m ≤ 15360000) × (c ≤ 15360000)
@@ -90,7 +89,11 @@ module _ (limits : Limits) (small : limits .vertexLimit ≤ 1024) (narrow : limi
 
     bounded-M : (v t : ℕ) → Bounded (doesM h s v t .answer)
     unfolding doesM
-    bounded-M v t = (gain-le limits narrow h (r .loaded) (r .nets-high) (s .stack) (s .block) v t, metric-in _ _)
+    bounded-M v t = (
+      freed-le limits narrow h (r .loaded) (r .nets-high) (s .stack) (s .block) v,
+      drawn-le limits narrow h (r .loaded) (r .nets-high) (s .stack) (s .block) v t,
+      metric-in _ _,
+    )
 
     bounded-B : (ms : List Move) → Recorded h (s .stack) ms → Listed h ms → Bounded (doesB h s ms .answer)
     unfolding doesB

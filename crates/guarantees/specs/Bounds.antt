@@ -1,5 +1,6 @@
--- How large the numbers of a loaded catalogue get: a gain's size is at most 1,024,000 and the metric at most 15,360,000, which fit 32 bits
--- (gain-le, metric-le), and a rating is at most 5,160,960,000, which fits 64 (rating-le). Rests on Loads. Assumes nothing.
+-- How large the numbers of a loaded catalogue get: a gain's two halves and its size are at most 1,024,000 and the metric at most 15,360,000, which
+-- fit 32 bits (freed-le, drawn-le, gain-le, metric-le), and a rating is at most 5,160,960,000, which fits 64 (rating-le). Rests on Loads.
+-- Assumes nothing.
 use Prim.Native.Nat.{ℕ, _-_, _*_, _/_, _≤_}
 use native.Mathlib.Nat.{mul-le-mul-left, div-le-self}
 use native.Mathlib.Omega.{arith}

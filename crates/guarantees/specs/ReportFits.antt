@@ -7,7 +7,6 @@ use native.Mathlib.Nat.{mul-suc}
 use native.Mathlib.Omega.{arith}
 use mathlib.Core.Path.{_≡_, refl}
 use mathlib.Core.List.{List, [], _∷_, _++_}
-use lib.IntN.{ℤ, pos, negsuc, natAbs}
 use lib.ListN.{length, length-append}
 use Rattle.laws.specs.Fold.{sumOver}
 use Rattle.laws.specs.Sum.{foldTo}
@@ -16,7 +15,7 @@ use Rattle.model.specs.Measure.{representative, connectivity, metric}
 use Rattle.model.specs.Machine.{Call, Answer, saysJ, saysS, saysM, saysB, saysW, saysP, saysA, saysNO, State, fresh}
 use Rattle.model.specs.Search.{call}
 use Rattle.model.specs.Grammar.{bytes}
-use Rattle.model.specs.Report.{digits, signed, tail, row, answerRow, lotRows, buyRows, closing}
+use Rattle.model.specs.Report.{digits, tail, row, answerRow, lotRows, buyRows, closing}
 use Rattle.model.specs.Engine.{after, answers, run}
 use Rattle.model.specs.Demand.{Accepted}
 use Rattle.guarantees.specs.Numbers.{digits-le}
@@ -40,11 +39,6 @@ pub row-length : (word : String) (fs : List (List ℕ)) → length (row word fs)
 unfolding row
 row-length word fs = omega (arith, length-append (bytes word) (tail fs), tail-length fs)
 
-signed-le : (g : ℤ) → natAbs g ≤ 1024000 → length (signed g) ≤ 8
-unfolding signed
-signed-le (pos n) l = omega (arith, digits-le 6 n (omega arith))
-signed-le (negsuc n) l = omega (arith, digits-le 6 (n + 1) (omega arith))
-
 -- the metric has at most 8 digits
 metric-digits : (c : ℕ) → c ≤ 15360000 → length (digits c) ≤ 8
 metric-digits c l = digits-le 7 c (omega arith)
@@ -53,7 +47,7 @@ pub answer-le : (a : Answer) → Bounded a → length (answerRow a) ≤ 41
 unfolding answerRow sumOver bytes
 answer-le (saysJ w) b = omega (arith, row-length "J" (digits w ∷ []), digits-le 7 w (omega arith))
 answer-le (saysS u v) b = omega (arith, row-length "S" (digits u ∷ digits v ∷ []), digits-le 3 u (omega arith), digits-le 3 v (omega arith))
-answer-le (saysM g c) b = omega (arith, row-length "M" (signed g ∷ digits c ∷ []), signed-le g (b .0), metric-digits c (b .1))
+answer-le (saysM f d c) b = omega (arith, row-length "M" (digits f ∷ digits d ∷ digits c ∷ []), digits-le 6 f (omega arith), digits-le 6 d (omega arith), metric-digits c (b .2))
 answer-le (saysB v t c) b = omega (arith, row-length "B" (digits v ∷ digits t ∷ digits c ∷ []), digits-le 3 v (omega arith), digits-le 1 t (omega arith), metric-digits c (b .2))
 answer-le (saysW t k c) b = omega (arith, row-length "W" (digits t ∷ digits k ∷ digits c ∷ []), digits-le 3 t (omega arith), digits-le 3 k (omega arith), metric-digits c (b .2))
 answer-le (saysP m c) b = omega (arith, row-length "P" (digits m ∷ digits c ∷ []), metric-digits m (b .0), metric-digits c (b .1))

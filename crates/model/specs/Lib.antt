@@ -1,6 +1,6 @@
 -- Document 01 as definitions, in the terms of hypergraph partitioning; and its proved table. Assumes nothing.
 -- Catalogue  the loaded catalogue as a hypergraph; the limits of an entry; the capacity
--- Measure    representative, pins, pin counts, weights, connectivity metric, gain
+-- Measure    representative, pins, pin counts, weights, connectivity metric, gain and its halves
 -- Machine    the plain machine's state; the calls J, S, M, B and their refusals
 -- Search     the best pair, walks, polish, ratings; the calls W, P, A; what every call does
 -- Grammar    the sale file: lines, fields, numbers, refusals 1 to 7

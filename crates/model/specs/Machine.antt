@@ -3,10 +3,9 @@ use Prim.Native.Nat.{ℕ, zero, suc}
 use mathlib.Core.Bool.{not, _&&_, cond}
 use mathlib.Core.List.{List, [], _∷_}
 use lib.Dec.{eqb}
-use lib.IntN.{ℤ}
 use Rattle.laws.specs.Place.{place}
 use Rattle.model.specs.Catalogue.{Hypergraph, drafted, isVertex, isBlock}
-use Rattle.model.specs.Measure.{Contraction, onBoard, weight, metric, gain, hasRoom}
+use Rattle.model.specs.Measure.{Contraction, onBoard, weight, metric, freed, drawn, hasRoom}
 
 -- a call line
 pub data Call : Type 0 where
@@ -22,7 +21,7 @@ pub data Call : Type 0 where
 pub data Answer : Type 0 where
   saysJ : ℕ → Answer
   saysS : ℕ → ℕ → Answer
-  saysM : ℤ → ℕ → Answer
+  saysM : ℕ → ℕ → ℕ → Answer
   saysB : ℕ → ℕ → ℕ → Answer
   saysW : ℕ → ℕ → ℕ → Answer
   saysP : ℕ → ℕ → Answer
@@ -80,11 +79,11 @@ refusesM h ceiling s v t =
     (cond (eqb (s .block v) t) 12
     (cond (not (hasRoom h ceiling (s .stack) (s .block) v t)) 14 0)))
 
--- M accepted
+-- M accepted: the weights freed and newly drawn in are those before the move
 unfoldable pub doesM : Hypergraph → State → ℕ → ℕ → Step
 doesM h s v t = record {
   state = record { stack = s .stack; block = place (s .block) v t; journal = record { vertex = v; from = s .block v } ∷ s .journal };
-  answer = saysM (gain h (s .stack) (s .block) v t) (metric h (s .stack) (place (s .block) v t));
+  answer = saysM (freed h (s .stack) (s .block) v) (drawn h (s .stack) (s .block) v t) (metric h (s .stack) (place (s .block) v t));
 }
 
 -- S: the parted lot returns in its partner's present session

@@ -70,15 +70,15 @@ module _ (h : Hypergraph) (cs : List Contraction) (block : ℕ → ℕ) where
   unfoldable pub metric : ℕ
   metric = sumOver (h .nets) (λ e. e .weight * (connectivity e - 1))
 
-  -- weights of v's buyers with count(v's own session) = 1
+  -- the weights freed: those of v's buyers with count(v's own session) = 1
   unfoldable pub freed : ℕ → ℕ
   freed v = sumOver (h .nets) (λ e. cond (pin cs e v && eqb (pinCount e (block v)) 1) (e .weight) 0)
 
-  -- weights of v's buyers with count(t) = 0
+  -- the weights newly drawn in: those of v's buyers with count(t) = 0
   unfoldable pub drawn : ℕ → ℕ → ℕ
   drawn v t = sumOver (h .nets) (λ e. cond (pin cs e v && eqb (pinCount e t) 0) (e .weight) 0)
 
-  -- gain(lot, session)
+  -- gain(lot, session): the weights freed less the weights newly drawn in, and 0 at the lot's own session
   unfoldable pub gain : ℕ → ℕ → ℤ
   gain v t = cond (eqb (block v) t) (pos 0) (pos (freed v) -ℤ pos (drawn v t))
 

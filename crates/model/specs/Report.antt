@@ -4,7 +4,6 @@ use Prim.Native.String.{String}
 use mathlib.Core.Bool.{cond}
 use mathlib.Core.List.{List, [], _∷_, _++_}
 use lib.Dec.{ltb}
-use lib.IntN.{ℤ, pos, negsuc}
 use Rattle.laws.specs.Sum.{foldTo}
 use Rattle.model.specs.Catalogue.{Net, Hypergraph, vertices}
 use Rattle.model.specs.Measure.{representative, connectivity, metric}
@@ -22,11 +21,6 @@ digitsOf (suc fuel) n =
 unfoldable pub digits : ℕ → List ℕ
 digits n = digitsOf n n
 
--- a number with its sign: `negsuc n` is -(n + 1)
-unfoldable pub signed : ℤ → List ℕ
-signed (pos n) = digits n
-signed (negsuc n) = 45 ∷ digits (n + 1)
-
 -- the fields after the word, each behind a comma, and the line feed
 unfoldable pub tail : List (List ℕ) → List ℕ
 tail [] = 10 ∷ []
@@ -40,7 +34,7 @@ row word fs = bytes word ++ tail fs
 unfoldable pub refusal : Answer → ℕ
 refusal (saysJ w) = 0
 refusal (saysS u v) = 0
-refusal (saysM g c) = 0
+refusal (saysM f d c) = 0
 refusal (saysB v b c) = 0
 refusal (saysW t k c) = 0
 refusal (saysP m c) = 0
@@ -51,7 +45,7 @@ refusal (saysNO q) = q
 unfoldable pub answerRow : Answer → List ℕ
 answerRow (saysJ w) = row "J" (digits w ∷ [])
 answerRow (saysS u v) = row "S" (digits u ∷ digits v ∷ [])
-answerRow (saysM g c) = row "M" (signed g ∷ digits c ∷ [])
+answerRow (saysM f d c) = row "M" (digits f ∷ digits d ∷ digits c ∷ [])
 answerRow (saysB v b c) = row "B" (digits v ∷ digits b ∷ digits c ∷ [])
 answerRow (saysW t k c) = row "W" (digits t ∷ digits k ∷ digits c ∷ [])
 answerRow (saysP m c) = row "P" (digits m ∷ digits c ∷ [])

@@ -63,7 +63,21 @@ pub table :
 unfolding sum sumTo sumOver any averageWeight nearest capacity above climb representative pin size pinCount connectivity metric freed drawn gain place rating
 table = (refl, refl, refl, refl, refl, refl, refl, refl, refl, refl)
 
--- the cap to the nearest bale: 28.6 is 29, 28.4 is 28, 32.5 is 32, 33.5 is 34; and slack 1,000 is twice ⌈W/k⌉
+-- ---- M-103: the starred gains in their two halves, freed and newly drawn in: 3 − 0, 3 − 1, 0 − 2, and 2 − 2 while 5 is joined into 2, where
+-- the buyer of 2 and 5 has the one mark 2: leaving session 1 frees it, and session 2 is newly drawn in
+pub halves-table :
+    (freed five [] (drafted five) 1 ≡ 3)
+    × (drawn five [] (drafted five) 1 2 ≡ 0)
+    × (freed five [] (drafted five) 3 ≡ 3)
+    × (drawn five [] (drafted five) 3 1 ≡ 1)
+    × (freed five [] (drafted five) 2 ≡ 0)
+    × (drawn five [] (drafted five) 2 2 ≡ 2)
+    × (freed five joined (place (drafted five) 5 0) 2 ≡ 2)
+    × (drawn five joined (place (drafted five) 5 0) 2 2 ≡ 2)
+unfolding sum sumTo sumOver any above climb representative pin pinCount freed drawn place
+halves-table = (refl, refl, refl, refl, refl, refl, refl, refl)
+
+-- ---- M-106: the cap to the nearest bale: 28.6 is 29, 28.4 is 28, 32.5 is 32, 33.5 is 34; and slack 1,000 is twice ⌈W/k⌉
 pub caps :
     (capacity (lotOf 51 100) ≡ 29)
     × (capacity (lotOf 40 420) ≡ 28)
