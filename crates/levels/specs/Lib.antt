@@ -6,6 +6,7 @@
 -- ContractNet  a contraction in one net; Contract in all nets
 -- SplitNet     its undo in one net; Uncontract in all nets
 -- Operations   the contracts of the operations: the machine's steps
+-- Halves       the halves of a gain over all nets
 pub mod World
 pub mod Running
 pub mod Reading
@@ -15,3 +16,4 @@ pub mod Contract
 pub mod SplitNet
 pub mod Uncontract
 pub mod Operations
+pub mod Halves

@@ -1,4 +1,5 @@
-// The operations on the tables: a vertex moved, one contracted into another, a contraction undone.
+// The operations on the tables: a vertex moved, one contracted into another, a contraction undone. And a gain's halves, read from the tables.
+pub mod halves;
 mod nets;
 
 ghost use Prim.Native.Nat.{_+_, _<_};
