@@ -1,4 +1,4 @@
--- What 32-bit signed operations make of an `i32`, in ℕ; the text of a number by its sign. Rests on model's `signed`.
+-- What 32-bit signed operations make of an `i32`, in ℕ. Rests on Output's `signOf`.
 use Prim.Native.Nat.{ℕ, suc, _+_, _-_, _^_, _<_}
 use mathlib.Core.Path.{_≡_, refl, sym, subst}
 use mathlib.Core.Bool.{true, false}
@@ -10,10 +10,7 @@ use borrow.Author.Tests.{le-ltb, ltb-true}
 use mir.Syntax.{w32}
 use mir.Val.{SFits, toZ, ofZ}
 use mir.ValLaws.{toZ-ofZ}
-use mathlib.Core.List.{List, _∷_}
-use Rattle.model.specs.Report.{digits, signed}
 use Rattle.text.specs.Output.{signOf}
-use Rattle.text.specs.declared.Sign.{Sign}
 use Rattle.text.specs.declared.Sign.the-variants.{Plus, Minus}
 
 flip : (n : ℕ) → negsuc 0 -ℤ negsuc n ≡ pos n
@@ -49,13 +46,3 @@ pub record Above (x : ℤ) : Type 0 where
 pub above : (x : ℤ) → SFits w32 x → ltZ (toZ w32 (ofZ w32 x)) (pos 0) ≡ false → Above x
 above (pos n) f t = record { n = n; small = f .sfits; is = toZ-ofZ w32 (pos n) f; sign = refl }
 above (negsuc n) f t = absurd (let z : true ≡ false = rw (toZ-ofZ w32 (negsuc n) f) at t in let y : _≡_ {A = ℕ} 0 1 = cc in omega arith)
-
--- the text of a number whose side of 0 is known
-abbrev pub text : Sign → List ℕ
-text (Plus n) = digits n
-text (Minus n) = 45 ∷ digits n
-
-pub signed-text : (x : ℤ) → signed x ≡ text (signOf x)
-unfolding signed
-signed-text (pos n) = refl
-signed-text (negsuc n) = refl

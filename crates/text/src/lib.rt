@@ -7,7 +7,7 @@ ghost use Prim.Native.Nat.{_+_, _-_, _≤_, _<_};
 ghost use lib.ListN.{length};
 ghost use lib.Seq.{slice};
 ghost use Rattle.model.specs.Grammar.{same, parts, fields, at as fieldAt};
-ghost use Rattle.model.specs.Report.{digits, signed};
+ghost use Rattle.model.specs.Report.{digits};
 ghost use Rattle.text.specs.Field.{FirstAt, Without, DigitsEnd, NumberEnd, FieldRead, counted, formOf, Numbered, Third};
 ghost use Rattle.text.specs.Output.{written, signOf};
 
@@ -244,18 +244,4 @@ pub fn side(x: i32) -> Sign
         return Sign::Minus(m + 1);
     }
     Sign::Plus(x as u32)
-}
-
-// Writes x in base ten from `at` on, after a - where it is below 0, and says where it ends.
-pub fn put_signed(out: &mut [u8], at: usize, x: i32) -> usize
-    requires { ⌜ at + length (signed x) ≤ length (now out) ⌝ }
-    ensures { λ r. ⌜ (r ≡ at + length (signed x)) × (now (out .exit) ≡ written (now (out .entry)) at (signed x)) ⌝ }
-{
-    match side(x) {
-        Sign::Plus(n) => put_number(out, at, n),
-        Sign::Minus(n) => {
-            out[at] = b'-';
-            put_number(out, at + 1, n)
-        }
-    }
 }
