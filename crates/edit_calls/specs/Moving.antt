@@ -6,12 +6,11 @@ use mathlib.Core.Bool.{not, _&&_}
 use mathlib.Core.List.{List, _∷_}
 use borrow.Author.Tests.{eqb-false, not-true, not-false}
 use lib.Dec.{eqb}
-use lib.IntN.{ℤ}
 use lib.ListN.{getD}
 use Rattle.laws.specs.Choice.{cond-zero}
 use Rattle.laws.specs.Place.{place}
 use Rattle.model.specs.Catalogue.{Hypergraph}
-use Rattle.model.specs.Measure.{above, gain}
+use Rattle.model.specs.Measure.{Contraction, above, metric, freed, drawn}
 use Rattle.model.specs.Machine.{callM, callB, saysM, saysB, saysNO, Move, State, settle, refusesM, doesM, doesB}
 use Rattle.model.specs.Report.{refusal}
 use Rattle.model.specs.Search.{callUnder}
@@ -20,10 +19,10 @@ use Rattle.guarantees.specs.Calls.{Recorded}
 use Rattle.guarantees.specs.Caps.{CeilingIs}
 use Rattle.guarantees.specs.StateBounds.{Listed}
 use Rattle.guarantees.specs.Reversals.{Apart}
-use Rattle.connectivity.specs.Raised.{at}
+use Rattle.levels.specs.Halves.{HalvesOf, HalvesNeeds, HalvesFound}
 use Rattle.operations.specs.Pairs.{pairs-none, pairs-some, Pushed, pairs-push}
-use Rattle.operations.specs.Tables.{Tables, Sound}
-use Rattle.operations.specs.Move.{Open, Goes, Went, own-block, in-range, gain-read}
+use Rattle.operations.specs.Tables.{Tables, Sound, runningOf}
+use Rattle.operations.specs.Move.{Open, Goes, Went, own-block, on-board, in-range}
 use Rattle.operations.specs.Keeping.{keeps-none}
 use Rattle.edit_calls.specs.Refusal.{known, here, refusalM, refusalM-is, known-range}
 use Rattle.edit_calls.specs.Steps.{Runs, Ready, told}
@@ -48,13 +47,22 @@ open-of blocks loads ceilings weights n k u t q =
       },
     )
 
-pub refused-M : {h : Hypergraph} {ceiling : ℕ → ℕ} (T : Tables) {S J : Two} (ceilings : List ℕ) (u t q total : ℕ) (g : ℤ) → CeilingIs ceilings h ceiling → q ≡ refusalM (T .blocks) (T .loads) ceilings (T .weights) (T .n) (T .k) u t → (q ≡ 0 → ⊥)
-    → Called h ceiling T T S S J J (callM u t) (told q (saysM g total))
+-- the halves of an open pair can be worked out
+halves-of : {h : Hypergraph} {cs : List Contraction} {block : ℕ → ℕ} {T : Tables} {u t : ℕ} → Sound h cs block T → Open (T .blocks) (T .n) (T .k) u t → HalvesOf h cs block (runningOf T) (T .n) (T .m) (T .k) u t
+halves-of {T = T} {u = u} s o =
+    let on = on-board s u (o .u-in) (o .on) in
+    record { loaded = T .loaded; follows = s .follows; on-board = on; u-in = o .u-in; own-in = in-range s u (o .u-in) on; t-in = o .t-in }
+
+pub halves-needs : {T : Tables} {S J : Two} {u t : ℕ} → Ready T S J → Open (T .blocks) (T .n) (T .k) u t → HalvesNeeds (T .counts) (T .bits) (T .blocks) (T .netWeights) (T .m) u t
+halves-needs {T} g o = record { h = g .h; cs = g .s .stack; block = g .s .block; visited = T .visited; gains = T .gains; pins = T .pins; sizes = T .sizes; firsts = T .firsts; n = T .n; k = T .k; of = halves-of (g .runs .sound) o }
+
+pub refused-M : {h : Hypergraph} {ceiling : ℕ → ℕ} (T : Tables) {S J : Two} (ceilings : List ℕ) (u t q f d total : ℕ) → CeilingIs ceilings h ceiling → q ≡ refusalM (T .blocks) (T .loads) ceilings (T .weights) (T .n) (T .k) u t → (q ≡ 0 → ⊥)
+    → Called h ceiling T T S S J J (callM u t) (told q (saysM f d total))
 unfolding callUnder
-refused-M {h} {ceiling} T ceilings u t q total g qc e n = record {
+refused-M {h} {ceiling} T ceilings u t q f d total qc e n = record {
   steps = λ s r. refused (callM u t)
       (ap (λ (z : ℕ). settle z s (doesM h s u t)) (sym (e ∙ refusalM-is (r .sound) ceiling ceilings qc s refl refl u t))
-      ∙ settle-no q s (doesM h s u t) (saysM g total) n) r;
+      ∙ settle-no q s (doesM h s u t) (saysM f d total) n) r;
   keeps = λ s r. keeps-none T;
   unchanged = λ _. (refl, refl, refl);
 }
@@ -79,9 +87,18 @@ module _ (h : Hypergraph) (T T′ : Tables) (S J J′ : Two) (ceilings : List �
         pairs-push (λ v x. record { vertex = v; from = x }) (omega (arith, room, r .journal-whole .xs-whole)) (omega (arith, room, r .journal-whole .ys-whole)) p
         ∙ ap₂ (λ (x : ℕ) (l : List Move). record { vertex = u; from = x } ∷ l) from-M (r .journal-is)
 
-  pub accepted-M : {ceiling : ℕ → ℕ} → CeilingIs ceilings h ceiling → (g : ℤ) → g ≡ at (T .gains) (16 * (u - 1) + (t - 1)) → Called h ceiling T T′ S S J J′ (callM u t) (saysM g (T′ .total))
+    -- the answer's numbers are the machine's
+    says-M : {fr dr : ℕ} → HalvesFound (T .counts) (T .bits) (T .blocks) (T .netWeights) (T .m) (u - 1) t fr dr →
+        saysM fr dr (T′ .total) ≡ saysM (freed h (s .stack) (s .block) u) (drawn h (s .stack) (s .block) u t) (metric h (s .stack) (place (s .block) u t))
+    says-M q =
+        let are = q .are h (s .stack) (s .block) (T .visited) (T .gains) (T .pins) (T .sizes) (T .firsts) (T .n) (T .k) (halves-of (r .sound) (ok .1)) in
+        let fr-is = are .0 ∙ ap (freed h (s .stack) (s .block)) u-is in
+        let dr-is = are .1 ∙ ap (λ (x : ℕ). drawn h (s .stack) (s .block) x t) u-is in
+        cc (fr-is, dr-is, sound-M .total-is)
+
+  pub accepted-M : {ceiling : ℕ → ℕ} → CeilingIs ceilings h ceiling → {fr dr : ℕ} → HalvesFound (T .counts) (T .bits) (T .blocks) (T .netWeights) (T .m) (u - 1) t fr dr → Called h ceiling T T′ S S J J′ (callM u t) (saysM fr dr (T′ .total))
   unfolding callUnder doesM refusal
-  accepted-M {ceiling} qc g q = record {
+  accepted-M {ceiling} qc {fr} {dr} q = record {
     steps = λ s r. stepped (callM u t) (doesM h s u t)
         (settle-yes (refusesM h ceiling s u t) s (doesM h s u t) (sym (refusalM-is (r .sound) ceiling ceilings qc s refl refl u t) ∙ e))
         r (record {
@@ -90,7 +107,7 @@ module _ (h : Hypergraph) (T T′ : Tables) (S J J′ : Two) (ceilings : List �
           journal-is = journal-M s r;
           stack-whole = r .stack-whole;
           journal-whole = pushed-whole p (r .journal-whole);
-        }) (ap₂ saysM (q ∙ gain-read (r .sound) (u - 1) t (ok .1) ∙ ap (λ (x : ℕ). gain h (s .stack) (s .block) x t) u-is) (sound-M s r .total-is)) (omega (arith, p .len-is));
+        }) (says-M s r q) (omega (arith, p .len-is));
     keeps = λ s r. w .keeps;
     unchanged = λ l. absurd (omega arith);
   }

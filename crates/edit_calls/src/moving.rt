@@ -9,9 +9,11 @@ ghost use Rattle.operations.specs.Tables.{tables};
 ghost use Rattle.edit_calls.specs.Steps.{told};
 ghost use Rattle.edit_calls.specs.Called.{ReadyM, Called};
 use crate::refusals::refuses_move;
+use connectivity::halves::Halves;
 use incidence::numbers::index;
 use incidence::numbers::narrow;
 use incidence::numbers::wide;
+use levels::halves::halves;
 use operations::moves::back;
 use operations::moves::go;
 use operations::pairs::Journal;
@@ -20,7 +22,7 @@ use operations::pairs::Journal;
 pub struct MoveTurn {
     pub journal: Journal,
     pub no: u32,
-    pub gain: i32,
+    pub halves: Halves,
     pub total: u32,
 }
 
@@ -56,18 +58,18 @@ pub fn call_move(
 ) -> MoveTurn
     requires { ⌜ ReadyM (λ aboves loadedsizes. tables (now counts) (now visited) (now gains) (now presentpins) (now presentsizes) (now bits) (now blocks) (now weights) aboves (now loads) (now netweights) (now firsts) loadedsizes n m k total) (two (journal .vertices) (journal .blocks) (journal .len)) ⌝ }
     ensures { λ r. ⌜ ((aboves loadedsizes : List ℕ) (S : Two) (h : Hypergraph) (ceiling : ℕ → ℕ) → CeilingIs (now (ceilings .entry)) h ceiling → Called h ceiling (tables (now (counts .entry)) (now (visited .entry)) (now (gains .entry)) (now (presentpins .entry)) (now (presentsizes .entry)) (now (bits .entry)) (now (blocks .entry)) (now (weights .entry)) aboves (now (loads .entry)) (now (netweights .entry)) (now (firsts .entry)) loadedsizes n m k total)
-        (tables (now (counts .exit)) (now (visited .exit)) (now (gains .exit)) (now (presentpins .exit)) (now (presentsizes .exit)) (now (bits .exit)) (now (blocks .exit)) (now (weights .exit)) aboves (now (loads .exit)) (now (netweights .exit)) (now (firsts .exit)) loadedsizes n m k (r .total)) S S (two (journal .vertices) (journal .blocks) (journal .len)) (two (r .journal .vertices) (r .journal .blocks) (r .journal .len)) (callM u t) (told (r .no) (saysM (r .gain) (r .total)))) ⌝ }
+        (tables (now (counts .exit)) (now (visited .exit)) (now (gains .exit)) (now (presentpins .exit)) (now (presentsizes .exit)) (now (bits .exit)) (now (blocks .exit)) (now (weights .exit)) aboves (now (loads .exit)) (now (netweights .exit)) (now (firsts .exit)) loadedsizes n m k (r .total)) S S (two (journal .vertices) (journal .blocks) (journal .len)) (two (r .journal .vertices) (r .journal .blocks) (r .journal .len)) (callM u t) (told (r .no) (saysM (r .halves .freed) (r .halves .drawn) (r .total)))) ⌝ }
 {
     let no = refuses_move(blocks, loads, ceilings, weights, n, k, u, t);
     if no != 0 {
         return MoveTurn {
             journal: journal,
             no: no,
-            gain: 0,
+            halves: Halves { freed: 0, drawn: 0 },
             total: total,
         };
     }
-    let gain = gains[16 * (u - 1) + (t - 1)];
+    let worth = halves(counts, bits, blocks, netweights, m, u - 1, t);
     let next = journal.push(narrow(u), blocks[u - 1]);
     let after = go(
         counts,
@@ -91,7 +93,7 @@ pub fn call_move(
     MoveTurn {
         journal: next,
         no: 0,
-        gain: gain,
+        halves: worth,
         total: after,
     }
 }

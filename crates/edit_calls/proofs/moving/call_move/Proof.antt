@@ -1,11 +1,10 @@
+-- `call_move`: an accepted M works the halves out, records the move and makes it.
 use native.Mathlib.Omega.{arith}
 use mathlib.Core.Path.{refl, sym, _∙_}
 use denote.Ref.{now}
 use borrow.Author.Needs.{needs}
-use Rattle.laws.specs.Integer.{read32}
-use Rattle.operations.specs.Move.{gain-small}
 use Rattle.edit_calls.specs.Called.{roomy, pushed-as}
-use Rattle.edit_calls.specs.Moving.{open-of, goes-as, refused-M, accepted-M}
+use Rattle.edit_calls.specs.Moving.{open-of, goes-as, halves-needs, refused-M, accepted-M}
 use Rattle.edit_calls.proofs.moving.call_move.Statement.{statement}
 use Rattle.edit_calls.proofs.moving.call_move.Tie as tie
 
@@ -20,84 +19,70 @@ same-length c = search needs
 returns : tie.Need-returns
 returns c =
     let start = c .before .before .before .before .before .before .before .before .before .before .before .before .before in
-    λ aboves loaded S h ceiling q. refused-M _ (now (start .args .ceilings)) _ _ _ _ _ q (c .before .refuses-move .ensures) (c .if1 .taken)
+    λ aboves loaded S h ceiling q. refused-M _ (now (start .args .ceilings)) _ _ _ _ _ _ q (c .before .refuses-move .ensures) (c .if1 .taken)
 
-sub-gain : tie.Need-sub-gain
-sub-gain c =
-    let start = c .before .before .before .before .before .before .before .before .before .before .before .before .before in
-    omega (arith, (open-of (now (start .args .blocks)) (now (start .args .loads)) (now (start .args .ceilings)) (now (start .args .weights)) (start .args .n) (start .args .k) (start .args .u) (start .args .t) (sym (c .before .refuses-move .ensures) ∙ c .if1 .left)) .0)
-
-mul-gain : tie.Need-mul-gain
-mul-gain c =
-    let start = c .before .before .before .before .before .before .before .before .before .before .before .before .before in
-    omega (arith, (open-of (now (start .args .blocks)) (now (start .args .loads)) (now (start .args .ceilings)) (now (start .args .weights)) (start .args .n) (start .args .k) (start .args .u) (start .args .t) (sym (c .before .refuses-move .ensures) ∙ c .if1 .left)) .1 .u-in, roomy (start .pre .ready) .few-vertices)
-
-sub-gain-2 : tie.Need-sub-gain-2
-sub-gain-2 c =
-    let start = c .before .before .before .before .before .before .before .before .before .before .before .before .before in
-    omega (arith, (open-of (now (start .args .blocks)) (now (start .args .loads)) (now (start .args .ceilings)) (now (start .args .weights)) (start .args .n) (start .args .k) (start .args .u) (start .args .t) (sym (c .before .refuses-move .ensures) ∙ c .if1 .left)) .1 .t-in)
-
-add-gain : tie.Need-add-gain
-add-gain c =
-    let start = c .before .before .before .before .before .before .before .before .before .before .before .before .before in
-    omega (arith, (open-of (now (start .args .blocks)) (now (start .args .loads)) (now (start .args .ceilings)) (now (start .args .weights)) (start .args .n) (start .args .k) (start .args .u) (start .args .t) (sym (c .before .refuses-move .ensures) ∙ c .if1 .left)) .1 .u-in, roomy (start .pre .ready) .few-vertices, (open-of (now (start .args .blocks)) (now (start .args .loads)) (now (start .args .ceilings)) (now (start .args .weights)) (start .args .n) (start .args .k) (start .args .u) (start .args .t) (sym (c .before .refuses-move .ensures) ∙ c .if1 .left)) .1 .t-in, roomy (start .pre .ready) .few-blocks)
-
-mul-gain-2 : tie.Need-mul-gain-2
-mul-gain-2 c =
-    let start = c .before .before .before .before .before .before .before .before .before .before .before .before .before in
-    omega (arith, (open-of (now (start .args .blocks)) (now (start .args .loads)) (now (start .args .ceilings)) (now (start .args .weights)) (start .args .n) (start .args .k) (start .args .u) (start .args .t) (sym (c .before .refuses-move .ensures) ∙ c .if1 .left)) .1 .u-in, roomy (start .pre .ready) .few-vertices, (open-of (now (start .args .blocks)) (now (start .args .loads)) (now (start .args .ceilings)) (now (start .args .weights)) (start .args .n) (start .args .k) (start .args .u) (start .args .t) (sym (c .before .refuses-move .ensures) ∙ c .if1 .left)) .1 .t-in, roomy (start .pre .ready) .few-blocks)
-
-slice-copy-out-gain : tie.Need-slice-copy-out-gain
-slice-copy-out-gain c =
-    let start = c .before .before .before .before .before .before .before .before .before .before .before .before .before in
-    omega (arith, (open-of (now (start .args .blocks)) (now (start .args .loads)) (now (start .args .ceilings)) (now (start .args .weights)) (start .args .n) (start .args .k) (start .args .u) (start .args .t) (sym (c .before .refuses-move .ensures) ∙ c .if1 .left)) .1 .u-in, roomy (start .pre .ready) .few-vertices, (open-of (now (start .args .blocks)) (now (start .args .loads)) (now (start .args .ceilings)) (now (start .args .weights)) (start .args .n) (start .args .k) (start .args .u) (start .args .t) (sym (c .before .refuses-move .ensures) ∙ c .if1 .left)) .1 .t-in, roomy (start .pre .ready) .few-blocks, roomy (start .pre .ready) .gains-fit)
-
-narrow-requires : tie.Need-narrow-requires
-narrow-requires c κs =
-    let start = c .before .before .before .before .before .before .before .before .before .before .before .before .before .before in
-    omega (arith, (open-of (now (start .args .blocks)) (now (start .args .loads)) (now (start .args .ceilings)) (now (start .args .weights)) (start .args .n) (start .args .k) (start .args .u) (start .args .t) (sym (c .before .before .refuses-move .ensures) ∙ c .before .if1 .left)) .1 .u-in, roomy (start .pre .ready) .few-vertices)
-
-sub-push : tie.Need-sub-push
-sub-push c =
+sub-halves : tie.Need-sub-halves
+sub-halves c =
     let at-refuses-move = c .before .before .before in
     let start = at-refuses-move .before .before .before .before .before .before .before .before .before .before .before .before in
     omega (arith, (open-of (now (start .args .blocks)) (now (start .args .loads)) (now (start .args .ceilings)) (now (start .args .weights)) (start .args .n) (start .args .k) (start .args .u) (start .args .t) (sym (at-refuses-move .refuses-move .ensures) ∙ c .before .before .if1 .left)) .0)
 
-mul-push : tie.Need-mul-push
-mul-push c =
+halves-requires : tie.Need-halves-requires
+halves-requires c κs =
     let at-refuses-move = c .before .before .before in
     let start = at-refuses-move .before .before .before .before .before .before .before .before .before .before .before .before in
-    omega (arith, (open-of (now (start .args .blocks)) (now (start .args .loads)) (now (start .args .ceilings)) (now (start .args .weights)) (start .args .n) (start .args .k) (start .args .u) (start .args .t) (sym (at-refuses-move .refuses-move .ensures) ∙ c .before .before .if1 .left)) .1 .u-in, roomy (start .pre .ready) .few-vertices)
+    halves-needs (start .pre .ready) ((open-of (now (start .args .blocks)) (now (start .args .loads)) (now (start .args .ceilings)) (now (start .args .weights)) (start .args .n) (start .args .k) (start .args .u) (start .args .t) (sym (at-refuses-move .refuses-move .ensures) ∙ c .before .before .if1 .left)) .1)
+
+narrow-requires : tie.Need-narrow-requires
+narrow-requires c κs =
+    let at-if1 = c .before .before .before in
+    let at-refuses-move = at-if1 .before in
+    let start = c .before .before .before .before .before .before .before .before .before .before .before .before .before .before .before .before in
+    omega (arith, (open-of (now (start .args .blocks)) (now (start .args .loads)) (now (start .args .ceilings)) (now (start .args .weights)) (start .args .n) (start .args .k) (start .args .u) (start .args .t) (sym (at-refuses-move .refuses-move .ensures) ∙ at-if1 .if1 .left)) .1 .u-in, roomy (start .pre .ready) .few-vertices)
+
+sub-push : tie.Need-sub-push
+sub-push c =
+    let at-if1 = c .before .before .before .before in
+    let at-refuses-move = c .before .before .before .before .before in
+    let start = at-refuses-move .before .before .before .before .before .before .before .before .before .before .before .before in
+    omega (arith, (open-of (now (start .args .blocks)) (now (start .args .loads)) (now (start .args .ceilings)) (now (start .args .weights)) (start .args .n) (start .args .k) (start .args .u) (start .args .t) (sym (at-refuses-move .refuses-move .ensures) ∙ at-if1 .if1 .left)) .0)
+
+mul-push : tie.Need-mul-push
+mul-push c =
+    let at-if1 = c .before .before .before .before in
+    let at-refuses-move = c .before .before .before .before .before in
+    let start = at-refuses-move .before .before .before .before .before .before .before .before .before .before .before .before in
+    omega (arith, (open-of (now (start .args .blocks)) (now (start .args .loads)) (now (start .args .ceilings)) (now (start .args .weights)) (start .args .n) (start .args .k) (start .args .u) (start .args .t) (sym (at-refuses-move .refuses-move .ensures) ∙ at-if1 .if1 .left)) .1 .u-in, roomy (start .pre .ready) .few-vertices)
 
 slice-read-push : tie.Need-slice-read-push
 slice-read-push c =
-    let at-if1 = c .before .before .before in
+    let at-if1 = c .before .before .before .before .before in
     let at-refuses-move = at-if1 .before in
     let start = at-refuses-move .before .before .before .before .before .before .before .before .before .before .before .before in
     omega (arith, (open-of (now (start .args .blocks)) (now (start .args .loads)) (now (start .args .ceilings)) (now (start .args .weights)) (start .args .n) (start .args .k) (start .args .u) (start .args .t) (sym (at-refuses-move .refuses-move .ensures) ∙ at-if1 .if1 .left)) .1 .u-in, roomy (start .pre .ready) .blocks-fit)
 
 push-requires : tie.Need-push-requires
 push-requires c κs =
-    let start = c .before .before .before .before .before .before .before .before .before .before .before .before .before .before .before .before in
+    let start = c .before .before .before .before .before .before .before .before .before .before .before .before .before .before .before .before .before .before in
     (roomy (start .pre .ready) .journal-short, roomy (start .pre .ready) .journal-whole .xs-whole, roomy (start .pre .ready) .journal-whole .ys-whole)
 
 sub-go : tie.Need-sub-go
 sub-go c =
-    let at-if1 = c .before .before .before .before .before .before .before .before .before in
+    let at-if1 = c .before .before .before .before .before .before .before .before .before .before .before in
     let at-refuses-move = at-if1 .before in
     let start = at-refuses-move .before .before .before .before .before .before .before .before .before .before .before .before in
     omega (arith, (open-of (now (start .args .blocks)) (now (start .args .loads)) (now (start .args .ceilings)) (now (start .args .weights)) (start .args .n) (start .args .k) (start .args .u) (start .args .t) (sym (at-refuses-move .refuses-move .ensures) ∙ at-if1 .if1 .left)) .0)
 
 narrow-requires-2 : tie.Need-narrow-requires-2
 narrow-requires-2 c κs =
-    let at-if1 = c .before .before .before .before .before .before .before .before .before in
+    let at-if1 = c .before .before .before .before .before .before .before .before .before .before .before in
     let at-refuses-move = at-if1 .before in
     let start = at-refuses-move .before .before .before .before .before .before .before .before .before .before .before .before in
     omega (arith, (open-of (now (start .args .blocks)) (now (start .args .loads)) (now (start .args .ceilings)) (now (start .args .weights)) (start .args .n) (start .args .k) (start .args .u) (start .args .t) (sym (at-refuses-move .refuses-move .ensures) ∙ at-if1 .if1 .left)) .1 .t-in, roomy (start .pre .ready) .few-blocks)
 
 go-requires : tie.Need-go-requires
 go-requires c κs =
-    let at-if1 = c .before .before .before .before .before .before .before .before .before .before in
+    let at-if1 = c .before .before .before .before .before .before .before .before .before .before .before .before in
     let at-refuses-move = at-if1 .before in
     let start = at-refuses-move .before .before .before .before .before .before .before .before .before .before .before .before in
     record { aboves = start .pre .aboves; loaded = start .pre .loaded; goes = goes-as (start .pre .ready) ((open-of (now (start .args .blocks)) (now (start .args .loads)) (now (start .args .ceilings)) (now (start .args .weights)) (start .args .n) (start .args .k) (start .args .u) (start .args .t) (sym (at-refuses-move .refuses-move .ensures) ∙ at-if1 .if1 .left)) .1) (c .narrow2 .ensures) }
@@ -116,14 +101,15 @@ same-length-5 c = search needs
 
 returns-2 : tie.Need-returns-2
 returns-2 c =
+    let at-halves = c .before .before .before .before .before .before .before .before .before .before .before .before .before .before .before .before .before in
     let at-go = c .before .before .before .before .before .before .before in
     let at-narrow2 = at-go .before in
     let at-push = at-narrow2 .before .before .before .before .before .before in
     let at-narrow = at-push .before .before in
-    let at-if1 = at-narrow .before .before in
+    let at-if1 = at-narrow .before .before .before .before in
     let at-refuses-move = at-if1 .before in
     let start = at-refuses-move .before .before .before .before .before .before .before .before .before .before .before .before in
-    λ aboves loaded S h ceiling q. accepted-M h _ _ _ _ _ (now (start .args .ceilings)) (start .args .u) (start .args .t) (at-narrow2 .narrow2 .result) _ (sym (at-refuses-move .refuses-move .ensures) ∙ at-if1 .if1 .left) (at-narrow2 .narrow2 .ensures) (at-go .go .ensures aboves loaded) (roomy (start .pre .ready) .journal-short) refl (pushed-as (at-push .push .ensures) (at-narrow .narrow .ensures) refl) q _ (read32 _ (gain-small (start .pre .ready .runs .sound) ((open-of (now (start .args .blocks)) (now (start .args .loads)) (now (start .args .ceilings)) (now (start .args .weights)) (start .args .n) (start .args .k) (start .args .u) (start .args .t) (sym (at-refuses-move .refuses-move .ensures) ∙ at-if1 .if1 .left)) .1)))
+    λ aboves loaded S h ceiling q. accepted-M h _ _ _ _ _ (now (start .args .ceilings)) (start .args .u) (start .args .t) (at-narrow2 .narrow2 .result) _ (sym (at-refuses-move .refuses-move .ensures) ∙ at-if1 .if1 .left) (at-narrow2 .narrow2 .ensures) (at-go .go .ensures aboves loaded) (roomy (start .pre .ready) .journal-short) refl (pushed-as (at-push .push .ensures) (at-narrow .narrow .ensures) refl) q (at-halves .halves .ensures)
 
 pub call-move-spec : {M : Type 1} → statement M
 call-move-spec =
@@ -132,12 +118,8 @@ call-move-spec =
     refuses-move-requires
     same-length
     returns
-    sub-gain
-    mul-gain
-    sub-gain-2
-    add-gain
-    mul-gain-2
-    slice-copy-out-gain
+    sub-halves
+    halves-requires
     narrow-requires
     sub-push
     mul-push
