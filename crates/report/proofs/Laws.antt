@@ -8,9 +8,7 @@ use native.Mathlib.Numerals.{add-one}
 use native.Mathlib.Nat.{add-zero}
 use lib.ListN.{length, take, drop, set, getD, length-append, take-append-drop}
 use lib.Seq.{take-at, take-suc, take-all, drop-append-add, drop-drop, length-take-le}
-use lib.IntN.{ℤ}
-use Rattle.model.specs.Grammar.{bytes}
-use Rattle.model.specs.Report.{digits, signed, tail, row}
+use Rattle.model.specs.Report.{digits, tail}
 use Rattle.text.specs.Output.{written}
 use Rattle.text.proofs.Digits.{written-one, length-written}
 use Rattle.report.specs.Wrote.{Wrote, numbers}
@@ -117,11 +115,3 @@ pub fields-end : {l m : List ℕ} {at p : ℕ} (xs : List ℕ) (i : ℕ) → len
 fields-end {l} {m} {at} {p} xs i h f w =
     let all : Wrote l m at (commas xs) p = subst (λ (t : List ℕ). Wrote l m at (commas t) p) (take-all i xs h) w in
     rw (commas-tail xs) (wrote-snoc 10 (omega (arith, tail-length xs)) all)
-
--- ---- the line of a move
-pub move-row : (g : ℤ) (c : ℕ) → row "M" (signed g ∷ digits c ∷ []) ≡ 77 ∷ ((44 ∷ signed g) ++ tail (numbers (c ∷ [])))
-unfolding row bytes tail
-move-row g c = refl
-
-pub move-length : (g : ℤ) (c : ℕ) → length (row "M" (signed g ∷ digits c ∷ [])) ≡ length (signed g) + 2 + length (tail (numbers (c ∷ [])))
-move-length g c = omega (arith, ap length (move-row g c), length-append (44 ∷ signed g) (tail (numbers (c ∷ []))))

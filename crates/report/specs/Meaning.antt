@@ -6,7 +6,7 @@ use Rattle.report.specs.declared.answers.Answer.the-variants.{Contracted
 abbrev pub answerOf : Answer → ModelAnswer
 answerOf (Contracted weight) = saysJ weight
 answerOf (Uncontracted into gone) = saysS into gone
-answerOf (Moved gain total) = saysM gain total
+answerOf (Moved freed drawn total) = saysM freed drawn total
 answerOf (Reversed vertex block total) = saysB vertex block total
 answerOf (Walked tried kept total) = saysW tried kept total
 answerOf (Polished moves total) = saysP moves total

@@ -1,11 +1,9 @@
 // What a call answers, and the lines of answers and refusals.
 use crate::fields::put_row;
-use crate::fields::put_signed_field;
-use crate::fields::put_tail;
 ghost use mathlib.Core.List.{[], _∷_};
 ghost use Prim.Native.Nat.{_+_, _≤_};
 ghost use lib.ListN.{length};
-ghost use Rattle.model.specs.Report.{digits, signed, row, answerRow};
+ghost use Rattle.model.specs.Report.{digits, row, answerRow};
 ghost use Rattle.report.specs.Wrote.{Wrote};
 ghost use Rattle.report.specs.Meaning.{answerOf};
 
@@ -22,7 +20,8 @@ pub enum Answer {
     },
     // M
     Moved {
-        gain: i32,
+        freed: u32,
+        drawn: u32,
         total: u32,
     },
     // B
@@ -56,16 +55,6 @@ pub enum Answer {
     },
 }
 
-// Writes the line of a move: its gain has a sign.
-fn put_move(out: &mut [u8], at: usize, gain: i32, total: u32) -> usize
-    requires { ⌜ at + length (row "M" (signed gain ∷ digits total ∷ [])) ≤ length (now out) ⌝ }
-    ensures { λ r. ⌜ Wrote (now (out .entry)) (now (out .exit)) at (row "M" (signed gain ∷ digits total ∷ [])) r ⌝ }
-{
-    out[at] = b'M';
-    let p = put_signed_field(out, at + 1, gain);
-    put_tail(out, p, &[total])
-}
-
 // Writes the line of an answer.
 pub fn put_answer(out: &mut [u8], at: usize, a: Answer) -> usize
     requires { ⌜ at + length (answerRow (answerOf a)) ≤ length (now out) ⌝ }
@@ -74,7 +63,11 @@ pub fn put_answer(out: &mut [u8], at: usize, a: Answer) -> usize
     match a {
         Answer::Contracted { weight } => put_row(out, at, b"J", &[weight]),
         Answer::Uncontracted { into, gone } => put_row(out, at, b"S", &[into, gone]),
-        Answer::Moved { gain, total } => put_move(out, at, gain, total),
+        Answer::Moved {
+            freed,
+            drawn,
+            total,
+        } => { put_row(out, at, b"M", &[freed, drawn, total]) }
         Answer::Reversed {
             vertex,
             block,

@@ -1,10 +1,9 @@
 // A line of the report: a word, fields behind commas, a line feed. Each function writes from `at` on and says where its text ends.
 use text::put_number;
-use text::put_signed;
 ghost use mathlib.Core.List.{_∷_, _++_};
 ghost use Prim.Native.Nat.{_+_, _≤_};
 ghost use lib.ListN.{length};
-ghost use Rattle.model.specs.Report.{digits, signed, tail};
+ghost use Rattle.model.specs.Report.{digits, tail};
 ghost use Rattle.report.specs.Wrote.{Wrote, numbers};
 
 // Writes a word.
@@ -29,17 +28,8 @@ fn put_field(out: &mut [u8], at: usize, x: u32) -> usize
     put_number(out, at + 1, x)
 }
 
-// Writes a comma and a number with its sign.
-pub fn put_signed_field(out: &mut [u8], at: usize, x: i32) -> usize
-    requires { ⌜ at + 1 + length (signed x) ≤ length (now out) ⌝ }
-    ensures { λ r. ⌜ Wrote (now (out .entry)) (now (out .exit)) at (44 ∷ signed x) r ⌝ }
-{
-    out[at] = b',';
-    put_signed(out, at + 1, x)
-}
-
 // Writes fields and the line feed.
-pub fn put_tail(out: &mut [u8], at: usize, xs: &[u32]) -> usize
+fn put_tail(out: &mut [u8], at: usize, xs: &[u32]) -> usize
     requires { ⌜ at + length (tail (numbers (now xs))) ≤ length (now out) ⌝ }
     ensures { λ r. ⌜ Wrote (now (out .entry)) (now (out .exit)) at (tail (numbers (now (xs .entry)))) r ⌝ }
 {

@@ -1,10 +1,6 @@
 -- `report::answers::put_answer` meets its contract. In each arm the answer is known, and its line computes to what the arm writes.
-use mathlib.Core.Path.{_≡_, ap}
-use mir.Syntax.{w32}
-use mir.Val.{toZ, ofZ}
-use mir.ValLaws.{toZ-ofZ}
 use Rattle.model.specs.Grammar.{bytes}
-use Rattle.model.specs.Report.{signed, row, answerRow}
+use Rattle.model.specs.Report.{row, answerRow}
 use borrow.Author.Needs.{needs}
 use Rattle.report.proofs.answers.put_answer.Statement.{statement}
 use Rattle.report.proofs.answers.put_answer.Tie as tie
@@ -38,16 +34,6 @@ put-row-requires-2 c κs = rw (c .before .before .before .before .a2 .given .1) 
 enum-known-a-3 : tie.Need-enum-known-a-3
 enum-known-a-3 c = search needs
 
-put-move-requires : tie.Need-put-move-requires
-unfolding answerRow
-put-move-requires c κs =
-    let start = c .before .before .before .before .before in
-    let e : signed (toZ w32 (ofZ w32 (c .before .before .a3 .given .0 .0))) ≡ signed (c .before .before .a3 .given .0 .0) = ap signed (toZ-ofZ w32 (c .before .before .a3 .given .0 .0) (search needs)) in
-    rw e (rw (c .before .before .a3 .given .1) at (start .pre))
-
-enum-known-a-4 : tie.Need-enum-known-a-4
-enum-known-a-4 c = search needs
-
 slice-aggregate-put-row-5 : tie.Need-slice-aggregate-put-row-5
 slice-aggregate-put-row-5 c = search needs
 
@@ -56,10 +42,10 @@ slice-aggregate-put-row-6 c = search needs
 
 put-row-requires-3 : tie.Need-put-row-requires-3
 unfolding answerRow row bytes
-put-row-requires-3 c κs = rw (c .before .before .before .before .a4 .given .1) at (c .before .before .before .before .before .before .before .pre)
+put-row-requires-3 c κs = rw (c .before .before .before .before .a3 .given .1) at (c .before .before .before .before .before .before .before .pre)
 
-enum-known-a-5 : tie.Need-enum-known-a-5
-enum-known-a-5 c = search needs
+enum-known-a-4 : tie.Need-enum-known-a-4
+enum-known-a-4 c = search needs
 
 slice-aggregate-put-row-7 : tie.Need-slice-aggregate-put-row-7
 slice-aggregate-put-row-7 c = search needs
@@ -69,10 +55,10 @@ slice-aggregate-put-row-8 c = search needs
 
 put-row-requires-4 : tie.Need-put-row-requires-4
 unfolding answerRow row bytes
-put-row-requires-4 c κs = rw (c .before .before .before .before .a5 .given .1) at (c .before .before .before .before .before .before .before .pre)
+put-row-requires-4 c κs = rw (c .before .before .before .before .a4 .given .1) at (c .before .before .before .before .before .before .before .pre)
 
-enum-known-a-6 : tie.Need-enum-known-a-6
-enum-known-a-6 c = search needs
+enum-known-a-5 : tie.Need-enum-known-a-5
+enum-known-a-5 c = search needs
 
 slice-aggregate-put-row-9 : tie.Need-slice-aggregate-put-row-9
 slice-aggregate-put-row-9 c = search needs
@@ -82,10 +68,10 @@ slice-aggregate-put-row-10 c = search needs
 
 put-row-requires-5 : tie.Need-put-row-requires-5
 unfolding answerRow row bytes
-put-row-requires-5 c κs = rw (c .before .before .before .before .a6 .given .1) at (c .before .before .before .before .before .before .before .pre)
+put-row-requires-5 c κs = rw (c .before .before .before .before .a5 .given .1) at (c .before .before .before .before .before .before .before .pre)
 
-enum-known-a-7 : tie.Need-enum-known-a-7
-enum-known-a-7 c = search needs
+enum-known-a-6 : tie.Need-enum-known-a-6
+enum-known-a-6 c = search needs
 
 slice-aggregate-put-row-11 : tie.Need-slice-aggregate-put-row-11
 slice-aggregate-put-row-11 c = search needs
@@ -95,10 +81,10 @@ slice-aggregate-put-row-12 c = search needs
 
 put-row-requires-6 : tie.Need-put-row-requires-6
 unfolding answerRow row bytes
-put-row-requires-6 c κs = rw (c .before .before .before .before .a7 .given .1) at (c .before .before .before .before .before .before .before .pre)
+put-row-requires-6 c κs = rw (c .before .before .before .before .a6 .given .1) at (c .before .before .before .before .before .before .before .pre)
 
-enum-known-a-8 : tie.Need-enum-known-a-8
-enum-known-a-8 c = search needs
+enum-known-a-7 : tie.Need-enum-known-a-7
+enum-known-a-7 c = search needs
 
 slice-aggregate-put-row-13 : tie.Need-slice-aggregate-put-row-13
 slice-aggregate-put-row-13 c = search needs
@@ -108,7 +94,20 @@ slice-aggregate-put-row-14 c = search needs
 
 put-row-requires-7 : tie.Need-put-row-requires-7
 unfolding answerRow row bytes
-put-row-requires-7 c κs = rw (c .before .before .before .before .a8 .given .1) at (c .before .before .before .before .before .before .before .pre)
+put-row-requires-7 c κs = rw (c .before .before .before .before .a7 .given .1) at (c .before .before .before .before .before .before .before .pre)
+
+enum-known-a-8 : tie.Need-enum-known-a-8
+enum-known-a-8 c = search needs
+
+slice-aggregate-put-row-15 : tie.Need-slice-aggregate-put-row-15
+slice-aggregate-put-row-15 c = search needs
+
+slice-aggregate-put-row-16 : tie.Need-slice-aggregate-put-row-16
+slice-aggregate-put-row-16 c = search needs
+
+put-row-requires-8 : tie.Need-put-row-requires-8
+unfolding answerRow row bytes
+put-row-requires-8 c κs = rw (c .before .before .before .before .a8 .given .1) at (c .before .before .before .before .before .before .before .pre)
 
 same-length : tie.Need-same-length
 same-length c = search needs
@@ -128,46 +127,43 @@ same-length-3 : tie.Need-same-length-3
 same-length-3 c = search needs
 
 returns-3 : tie.Need-returns-3
-unfolding answerRow
-returns-3 c =
-    let at-a3 = c .before .before .before .before .before in
-    let e : signed (toZ w32 (ofZ w32 (at-a3 .a3 .given .0 .0))) ≡ signed (at-a3 .a3 .given .0 .0) = ap signed (toZ-ofZ w32 (at-a3 .a3 .given .0 .0) (search needs)) in
-    rw (at-a3 .a3 .given .1) (rw e at (c .before .before .put-move .ensures))
+unfolding answerRow row bytes
+returns-3 c = rw (c .before .before .before .before .before .before .before .a3 .given .1) (c .before .before .put-row3 .ensures)
 
 same-length-4 : tie.Need-same-length-4
 same-length-4 c = search needs
 
 returns-4 : tie.Need-returns-4
 unfolding answerRow row bytes
-returns-4 c = rw (c .before .before .before .before .before .before .before .a4 .given .1) (c .before .before .put-row3 .ensures)
+returns-4 c = rw (c .before .before .before .before .before .before .before .a4 .given .1) (c .before .before .put-row4 .ensures)
 
 same-length-5 : tie.Need-same-length-5
 same-length-5 c = search needs
 
 returns-5 : tie.Need-returns-5
 unfolding answerRow row bytes
-returns-5 c = rw (c .before .before .before .before .before .before .before .a5 .given .1) (c .before .before .put-row4 .ensures)
+returns-5 c = rw (c .before .before .before .before .before .before .before .a5 .given .1) (c .before .before .put-row5 .ensures)
 
 same-length-6 : tie.Need-same-length-6
 same-length-6 c = search needs
 
 returns-6 : tie.Need-returns-6
 unfolding answerRow row bytes
-returns-6 c = rw (c .before .before .before .before .before .before .before .a6 .given .1) (c .before .before .put-row5 .ensures)
+returns-6 c = rw (c .before .before .before .before .before .before .before .a6 .given .1) (c .before .before .put-row6 .ensures)
 
 same-length-7 : tie.Need-same-length-7
 same-length-7 c = search needs
 
 returns-7 : tie.Need-returns-7
 unfolding answerRow row bytes
-returns-7 c = rw (c .before .before .before .before .before .before .before .a7 .given .1) (c .before .before .put-row6 .ensures)
+returns-7 c = rw (c .before .before .before .before .before .before .before .a7 .given .1) (c .before .before .put-row7 .ensures)
 
 same-length-8 : tie.Need-same-length-8
 same-length-8 c = search needs
 
 returns-8 : tie.Need-returns-8
 unfolding answerRow row bytes
-returns-8 c = rw (c .before .before .before .before .before .before .before .a8 .given .1) (c .before .before .put-row7 .ensures)
+returns-8 c = rw (c .before .before .before .before .before .before .before .a8 .given .1) (c .before .before .put-row8 .ensures)
 
 pub put-answer-spec : {M : Type 1} → statement M
 put-answer-spec =
@@ -182,27 +178,29 @@ put-answer-spec =
     slice-aggregate-put-row-4
     put-row-requires-2
     enum-known-a-3
-    put-move-requires
-    enum-known-a-4
     slice-aggregate-put-row-5
     slice-aggregate-put-row-6
     put-row-requires-3
-    enum-known-a-5
+    enum-known-a-4
     slice-aggregate-put-row-7
     slice-aggregate-put-row-8
     put-row-requires-4
-    enum-known-a-6
+    enum-known-a-5
     slice-aggregate-put-row-9
     slice-aggregate-put-row-10
     put-row-requires-5
-    enum-known-a-7
+    enum-known-a-6
     slice-aggregate-put-row-11
     slice-aggregate-put-row-12
     put-row-requires-6
-    enum-known-a-8
+    enum-known-a-7
     slice-aggregate-put-row-13
     slice-aggregate-put-row-14
     put-row-requires-7
+    enum-known-a-8
+    slice-aggregate-put-row-15
+    slice-aggregate-put-row-16
+    put-row-requires-8
     same-length
     returns
     same-length-2
