@@ -2,7 +2,7 @@
 //! Rests on `measure` for every number it answers and on `search` for W, P and A.
 
 use crate::catalogue::{Call, Catalogue};
-use crate::measure::{Standing, View};
+use crate::measure::{Halves, Standing, View};
 use crate::search;
 
 /// A call's lot or session is unknown.
@@ -33,7 +33,8 @@ pub enum Answer {
         v: usize,
     },
     M {
-        gain: i64,
+        freed: u64,
+        drawn: u64,
         total: u64,
     },
     B {
@@ -173,11 +174,12 @@ impl<'a> Machine<'a> {
         if !view.space(u, t) {
             return Err(OVER_THE_CAP);
         }
-        let gain = view.gain(u, t);
+        let Halves { freed, drawn } = view.halves(u, t);
         self.record.push((u, self.sessions[u]));
         self.sessions[u] = t;
         Ok(Answer::M {
-            gain,
+            freed,
+            drawn,
             total: self.total(),
         })
     }

@@ -132,6 +132,22 @@ impl<'a> Standing<'a> {
     }
 }
 
+/// What a move frees and what it costs, as sums of the lot's buyers' weights.
+#[derive(Clone, Copy, Debug, PartialEq, Eq)]
+pub struct Halves {
+    /// Of the buyers whose only mark in the lot's session is the lot.
+    pub freed: u64,
+    /// Of the buyers with no mark in the target.
+    pub drawn: u64,
+}
+
+impl Halves {
+    /// The difference, which may be negative.
+    pub fn gain(&self) -> i64 {
+        self.freed as i64 - self.drawn as i64
+    }
+}
+
 /// What follows from the standing lots together with their sessions.
 pub struct View<'a> {
     standing: &'a Standing<'a>,
@@ -212,23 +228,28 @@ impl<'a> View<'a> {
             .sum()
     }
 
-    /// By how much the total falls if board lot `u` goes to session `t`.
-    pub fn gain(&self, u: usize, t: usize) -> i64 {
+    /// The two halves of board lot `u`'s gain to session `t`; nothing at its own session.
+    pub fn halves(&self, u: usize, t: usize) -> Halves {
         let s = self.session(u);
+        let mut halves = Halves { freed: 0, drawn: 0 };
         if t == s {
-            return 0;
+            return halves;
         }
-        let mut gain = 0;
         for &buyer in self.standing.buyers(u) {
-            let weight = self.standing.catalogue.buyer(buyer).weight as i64;
+            let weight = self.standing.catalogue.buyer(buyer).weight;
             if self.count(buyer, s) == 1 {
-                gain += weight;
+                halves.freed += weight;
             }
             if self.count(buyer, t) == 0 {
-                gain -= weight;
+                halves.drawn += weight;
             }
         }
-        gain
+        halves
+    }
+
+    /// By how much the total falls if board lot `u` goes to session `t`.
+    pub fn gain(&self, u: usize, t: usize) -> i64 {
+        self.halves(u, t).gain()
     }
 
     /// Whether session `t` has space for board lot `u` under the cap.

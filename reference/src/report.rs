@@ -18,7 +18,11 @@ pub fn answer_line(answer: &Result<Answer, u32>) -> String {
         Err(number) => format!("NO,{number}\n"),
         Ok(Answer::J { bales }) => format!("J,{bales}\n"),
         Ok(Answer::S { u, v }) => format!("S,{u},{v}\n"),
-        Ok(Answer::M { gain, total }) => format!("M,{gain},{total}\n"),
+        Ok(Answer::M {
+            freed,
+            drawn,
+            total,
+        }) => format!("M,{freed},{drawn},{total}\n"),
         Ok(Answer::B { u, session, total }) => format!("B,{u},{session},{total}\n"),
         Ok(Answer::W { tried, kept, total }) => format!("W,{tried},{kept},{total}\n"),
         Ok(Answer::P { moves, total }) => format!("P,{moves},{total}\n"),

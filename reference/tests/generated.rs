@@ -98,20 +98,35 @@ fn check_state(machine: &Machine) {
     }
 }
 
-/// The gain of every pair is the fall of the total when the move is made.
+/// The gain of every pair is the fall of the total when the move is made; what it frees are the
+/// weights of buyers that visit one session less, what it draws in those of buyers with one more.
 fn check_gains(machine: &Machine) {
+    let catalogue = machine.catalogue;
     let standing = machine.standing();
     let view = View::of(&standing, &machine.sessions);
     for lot in standing.board() {
-        for session in machine.catalogue.session_numbers() {
+        let from = machine.sessions[lot];
+        for session in catalogue.session_numbers() {
             let mut sessions = machine.sessions.clone();
             sessions[lot] = session;
-            let after = View::of(&standing, &sessions).total();
+            let after = View::of(&standing, &sessions);
             assert_eq!(
                 view.gain(lot, session),
-                view.total() as i64 - after as i64,
+                view.total() as i64 - after.total() as i64,
                 "lot {lot} to {session}"
             );
+            // Buyers that visit a session in one view and not in the other.
+            let weights = |one: &View, other: &View, visited: usize| -> u64 {
+                let buyers = catalogue.buyer_numbers();
+                buyers
+                    .filter(|&buyer| one.count(buyer, visited) > 0)
+                    .filter(|&buyer| other.count(buyer, visited) == 0)
+                    .map(|buyer| catalogue.buyer(buyer).weight)
+                    .sum()
+            };
+            let halves = view.halves(lot, session);
+            assert_eq!(halves.freed, weights(&view, &after, from));
+            assert_eq!(halves.drawn, weights(&after, &view, session));
         }
     }
 }
@@ -165,8 +180,12 @@ fn check_answer(before: &Machine, old_total: u64, machine: &Machine, answer: Ans
             assert_eq!(machine.total(), old_total);
             assert_eq!(machine.joins.len() + 1, before.joins.len());
         }
-        Answer::M { gain, total } => {
-            assert_eq!(total as i64, old_total as i64 - gain);
+        Answer::M {
+            freed,
+            drawn,
+            total,
+        } => {
+            assert_eq!(total + freed, old_total + drawn);
             let mut reversed = machine.clone();
             assert!(reversed.call(&Call::B).is_ok());
             assert_eq!(&reversed, before, "B takes back M");
@@ -234,7 +253,12 @@ fn splits_bring_back_the_board_of_the_joins() {
 fn all_answers_have_their_lines() {
     let line = |answer| answer_line(&answer);
     assert_eq!(line(Ok(Answer::J { bales: 20 })), "J,20\n");
-    assert_eq!(line(Ok(Answer::M { gain: -7, total: 9 })), "M,-7,9\n");
+    let moved = Answer::M {
+        freed: 3,
+        drawn: 10,
+        total: 9,
+    };
+    assert_eq!(line(Ok(moved)), "M,3,10,9\n");
     assert_eq!(line(Err(14)), "NO,14\n");
 }
 

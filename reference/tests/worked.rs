@@ -3,7 +3,7 @@
 
 use std::collections::BTreeSet;
 
-use reference::measure::{cap, View};
+use reference::measure::{cap, Halves, View};
 use reference::search::rating;
 use reference::tables::{entry, BuyerRecord, LotRecord};
 use reference::{parse, run_calls, tables_after, Call, Machine};
@@ -22,13 +22,23 @@ fn starred_cases() {
     assert_eq!(view.gain(1, 2), 3);
     assert_eq!(view.gain(3, 1), 2);
     assert_eq!(view.gain(2, 2), -2);
+    assert_eq!(view.halves(1, 2), halves(3, 0));
+    assert_eq!(view.halves(3, 1), halves(3, 1));
+    assert_eq!(view.halves(2, 2), halves(0, 2));
+    assert_eq!(view.halves(2, 1), halves(0, 0));
     assert_eq!(rating(&machine, 2, 5), 10_080);
 
     machine
         .call(&Call::J { u: 2, v: 5 })
         .expect("the join is accepted");
     let standing = machine.standing();
-    assert_eq!(View::of(&standing, &machine.sessions).gain(2, 2), 0);
+    let view = View::of(&standing, &machine.sessions);
+    assert_eq!(view.gain(2, 2), 0);
+    assert_eq!(view.halves(2, 2), halves(2, 2));
+}
+
+fn halves(freed: u64, drawn: u64) -> Halves {
+    Halves { freed, drawn }
 }
 
 /// The cap of a sale of two sessions with the given bales and slack.
