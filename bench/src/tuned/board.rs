@@ -140,10 +140,6 @@ impl<const B: usize> Board<B> {
         self.block[x] != OFF_BOARD
     }
 
-    pub fn gain(&self, x: usize, b: usize) -> i32 {
-        self.freed[x] - self.drawn[x][b]
-    }
-
     pub fn pins_of(&self, e: usize) -> &[u16] {
         let first = self.firsts[e] as usize;
         &self.pins[first..first + self.sizes[e] as usize]

@@ -78,10 +78,10 @@ fn answer<const B: usize>(
             unless(!board.on_board(u), 10)?;
             unless(board.block[u] as usize == t, 12)?;
             unless(board.loads[t] + board.weights[u] > board.capacity, 14)?;
-            let gain = board.gain(u, t);
+            let (freed, drawn) = (board.freed[u] as u32, board.drawn[u][t] as u32);
             board.journal.push((u as u16, board.block[u]));
             board.go(u, t);
-            report.moved(gain, board.total as u32);
+            report.line(b"M", [freed, drawn, board.total as u32]);
         }
         Call::Reverse => {
             let (u, block) = board.journal.pop().ok_or(15u32)?;

@@ -33,16 +33,6 @@ impl Report {
         self.bytes.push(b'\n');
     }
 
-    /// The answer of a move: its gain has a sign.
-    pub fn moved(&mut self, gain: i32, total: u32) {
-        self.bytes
-            .extend_from_slice(if gain < 0 { b"M,-" } else { b"M," });
-        self.number(gain.unsigned_abs());
-        self.bytes.push(b',');
-        self.number(total);
-        self.bytes.push(b'\n');
-    }
-
     pub fn refused_file(&mut self, refusal: Refusal) {
         self.line(b"NO", [refusal.number, refusal.line as u32]);
     }
