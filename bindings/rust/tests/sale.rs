@@ -132,7 +132,7 @@ fn the_worked_sale_with_its_calls_apart() {
     assert_eq!(outcome.record.moves().count(), 0);
 
     let (outcome, answers) = memory.run_list(&sale, &[b'M'.into(), 1, 2]);
-    assert_eq!(answers, b"M,3,0\n");
+    assert_eq!(answers, b"M,3,0,0\n");
     assert_eq!(outcome.record.moves().collect::<Vec<_>>(), [(1, 1)]);
 
     let (outcome, answers) = memory.run_list(&sale, &[b'X'.into(), 0, 0]);
