@@ -1,18 +1,13 @@
 -- The call that a letter's byte and two numbers are, by kinds: J and S; M, B, W and P; A. Rests on model's Grammar. Assumes nothing.
-use Prim.Native.Nat.{ℕ, zero, suc, _<_, _^_}
+use Prim.Native.Nat.{ℕ, zero, suc}
 use native.Mathlib.Omega.{arith}
 use mathlib.Core.Path.{_≡_, refl, sym, ap, _∙_, subst}
 use mathlib.Core.Bool.{Bool, true, false, cond, _||_}
 use borrow.Author.Tests.{eq-eqb, ne-eqb}
 use lib.Dec.{eqb}
-use lib.IntN.{ℤ}
-use lib.Signed.{mag}
-use mir.Syntax.{w32}
-use mir.Val.{ofZ, toZ}
 use Rattle.laws.specs.Choice.{cond-yes, cond-no}
-use Rattle.laws.specs.Integer.{read32}
 use Rattle.model.specs.Catalogue.{Hypergraph}
-use Rattle.model.specs.Machine.{Call, callJ, callS, callM, callB, callW, callP, callA, Answer, saysM, saysNO}
+use Rattle.model.specs.Machine.{Call, callJ, callS, callM, callB, callW, callP, callA, Answer, saysNO}
 use Rattle.model.specs.Grammar.{asks, nothing, callOf, letterJ, letterS, letterM, letterB, letterW, letterP, letterA}
 use Rattle.model.specs.Lent.{Two}
 use Rattle.operations.specs.Tables.{Tables}
@@ -108,7 +103,3 @@ module _ (letter x y : ℕ) where
 -- a step of the same call, with the same answer
 pub called-as : {h : Hypergraph} {ceiling : ℕ → ℕ} {T T′ : Tables} {S S′ J J′ : Two} {c c′ : Call} {a a′ : Answer} → c′ ≡ c → a′ ≡ a → Called h ceiling T T′ S S′ J J′ c a → Called h ceiling T T′ S S′ J J′ c′ a′
 called-as {h} {ceiling} {T} {T′} {S} {S′} {J} {J′} {c} {c′} {a} {a′} p q d = subst (λ (x : Call). Called h ceiling T T′ S S′ J J′ x a′) (sym p) (subst (λ (x : Answer). Called h ceiling T T′ S S′ J J′ c x) (sym q) d)
-
--- a signed number that was read from a struct
-pub moved-as : {a : Answer} (q : ℕ) (g : ℤ) (total : ℕ) → mag g < 2 ^ 31 → a ≡ told q (saysM (toZ w32 (ofZ w32 g)) total) → a ≡ told q (saysM g total)
-moved-as q g total f e = e ∙ ap (λ (z : ℤ). told q (saysM z total)) (read32 g f)

@@ -101,7 +101,8 @@ fn moving(
             answer: answer(
                 t.no,
                 Answer::Moved {
-                    gain: t.gain,
+                    freed: t.halves.freed,
+                    drawn: t.halves.drawn,
                     total: t.total,
                 },
             ),

@@ -1,6 +1,6 @@
 use borrow.Author.Needs.{needs}
 use mathlib.Core.Path.{refl}
-use Rattle.any_call.specs.Kinds.{is-M, is-B, is-W, is-P, called-as, moved-as}
+use Rattle.any_call.specs.Kinds.{is-M, is-B, is-W, is-P, called-as}
 use Rattle.any_call.proofs.performing.moving.Statement.{statement}
 use Rattle.any_call.proofs.performing.moving.Tie as tie
 
@@ -24,10 +24,10 @@ same-length-4 c = search needs
 
 returns : tie.Need-returns
 returns c =
-    let at-call-move = c .before .before .before .before .before .before .before .before .before .before in
+    let at-call-move = c .before .before .before .before .before .before .before .before .before in
     let at-if1 = at-call-move .before .before .before .before .before .before in
     let start = at-if1 .before .before .before .before .before .before .before .before .before .before in
-    λ aboves loaded S h ceiling q. called-as (is-M (start .args .letter) (start .args .x) (start .args .y) (at-if1 .if1 .taken)) (moved-as (at-call-move .call-move .result .no) _ (at-call-move .call-move .result .total) (c .before .struct-told .given .1 .1 .0 .1) (c .answer .ensures)) (at-call-move .call-move .ensures aboves loaded S h ceiling q)
+    λ aboves loaded S h ceiling q. called-as (is-M (start .args .letter) (start .args .x) (start .args .y) (at-if1 .if1 .taken)) (c .answer .ensures) (at-call-move .call-move .ensures aboves loaded S h ceiling q)
 
 call-back-requires : tie.Need-call-back-requires
 call-back-requires c κs = search needs
