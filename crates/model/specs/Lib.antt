@@ -20,7 +20,7 @@
 --
 -- What the customers' functions promise is stated by these files alone. They use, and a reader must believe as well:
 --   from laws  Choice `one`; Sum `sumTo`, `countTo`, `foldTo`; Fold `sumOver`, `all`, `any`; Place `place`; Occurrence `occ`
---   from the kit  ℕ with its arithmetic, ≤ and <; Bool with `not`, `&&`, `||`, `cond`, and the tests `eqb`, `leb`, `ltb`; ℤ with `pos`,
+--   from the kit  ℕ with its arithmetic, `max`, ≤ and <; Bool with `not`, `&&`, `||`, `cond`, and the tests `eqb`, `leb`, `ltb`; ℤ with `pos`,
 --     `negsuc`, -ℤ, `ltZ`; List with ++, `length`, `getD`, `take`, `drop`; String as its characters' codes; ≡, Unit, ⊥, ×
 pub mod Catalogue
 pub mod Measure

@@ -1,11 +1,11 @@
 -- Document 01, "Measure, cap and gain": representative, present pins, weights, pin counts, connectivity and gain. Rests on Catalogue. Assumes nothing.
-use Prim.Native.Nat.{ℕ, zero, suc, _+_, _-_, _*_}
+use Prim.Native.Nat.{ℕ, zero, suc, _+_, _-_, _*_, max}
 use mathlib.Core.Bool.{Bool, cond, _&&_}
 use mathlib.Core.List.{List, [], _∷_}
 use lib.Dec.{eqb, leb, ltb}
 use lib.IntN.{ℤ, pos, _-ℤ_}
 use lib.ListN.{length}
-use Rattle.laws.specs.Sum.{sumTo, countTo}
+use Rattle.laws.specs.Sum.{sumTo, countTo, foldTo}
 use Rattle.laws.specs.Fold.{sumOver, any}
 use Rattle.model.specs.Catalogue.{Net, Hypergraph, vertices, loaded}
 
@@ -57,6 +57,10 @@ module _ (h : Hypergraph) (cs : List Contraction) (block : ℕ → ℕ) where
   -- a session's bales: those of its board lots together
   unfoldable pub blockWeight : ℕ → ℕ
   blockWeight b = sumTo (vertices h) (λ u. cond (onBoard cs u && eqb (block u) b) (weight h cs u) 0)
+
+  -- the heaviest session's bales
+  unfoldable pub heaviest : ℕ
+  heaviest = foldTo (h .blocks) (λ most b. max most (blockWeight b)) 0
 
   -- pin count: count(buyer, session)
   unfoldable pub pinCount : Net → ℕ → ℕ

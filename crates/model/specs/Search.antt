@@ -13,7 +13,7 @@ use Rattle.laws.specs.Sum.{countTo, foldTo}
 use Rattle.laws.specs.Fold.{sumOver, any}
 use Rattle.laws.specs.Place.{place}
 use Rattle.model.specs.Catalogue.{Hypergraph, vertices, isVertex, averageWeight, capacities}
-use Rattle.model.specs.Measure.{Contraction, onBoard, pin, size, weight, blockWeight, metric, gain, hasRoom, adjacent}
+use Rattle.model.specs.Measure.{Contraction, onBoard, pin, size, weight, blockWeight, heaviest, metric, gain, hasRoom, adjacent}
 use Rattle.model.specs.Machine.{Call, callJ, callS, callM, callB, callW, callP, callA, saysW, saysP, saysA, Move, State, Step, settle, refusesJ, doesJ, refusesM, doesM, uncontract, doesS, doesB}
 
 -- the best pair so far: two numbers and what they are valued at
@@ -42,24 +42,30 @@ reversed zero ms block = block
 reversed (suc n) [] block = block
 reversed (suc n) (m ∷ ms) block = reversed n ms (place block (m .vertex) (m .from))
 
+-- what a walk values a prefix at: its total, and its heaviest session in bales
+pub record Worth : Type 0 where
+  pub total : ℕ
+  pub heaviest : ℕ
+
 -- a walk (localized FM search) on its way: the partition, the moves made (the latest first), who is a candidate, how many moves
--- were tried, the length of the kept prefix, and its total
+-- were tried, the length of the kept prefix, and its worth
 pub record Walk : Type 0 where
   pub block : ℕ → ℕ
   pub journal : List Move
   pub candidate : ℕ → Bool
   pub tried : ℕ
   pub kept : ℕ
-  pub lowest : ℕ
+  pub worth : Worth
 
 -- P (greedy polish) on its way: the partition, and how many moves were made
 pub record Polish : Type 0 where
   pub block : ℕ → ℕ
   pub made : ℕ
 
--- W keeps the first prefix of lowest total: a later one is kept if its total is lower
-abbrev pub isKept : ℕ → ℕ → Bool
-isKept now lowest = ltb now lowest
+-- W keeps the prefix of lowest total, then of lowest heaviest session, then the first: so a later one is kept in place of another if its total
+-- is lower, or is the same with a lighter heaviest session (M-105)
+unfoldable pub isKept : Worth → Worth → Bool
+isKept now kept = ltb (now .total) (kept .total) || (eqb (now .total) (kept .total) && ltb (now .heaviest) (kept .heaviest))
 
 -- a walk stops when so many moves have been made since the kept prefix
 abbrev pub patience : ℕ
@@ -70,21 +76,25 @@ module _ (h : Hypergraph) (cs : List Contraction) where
   abbrev pub mayMove : ℕ → Bool
   mayMove v = onBoard cs v
 
-  -- one move of a walk, to a partition whose total is `now`
-  unfoldable pub walkMove : Walk → ℕ → ℕ → ℕ → Walk
+  -- a partition's worth
+  abbrev pub worthOf : (ℕ → ℕ) → Worth
+  worthOf block = record { total = metric h cs block; heaviest = heaviest h cs block }
+
+  -- one move of a walk, to a partition whose worth is `now`
+  unfoldable pub walkMove : Walk → ℕ → ℕ → Worth → Walk
   walkMove w v t now = record {
     block = place (w .block) v t;
     journal = record { vertex = v; from = w .block v } ∷ w .journal;
     candidate = λ x. w .candidate x || adjacent h cs v x;
     tried = suc (w .tried);
-    kept = cond (isKept now (w .lowest)) (suc (w .tried)) (w .kept);
-    lowest = cond (isKept now (w .lowest)) now (w .lowest);
+    kept = cond (isKept now (w .worth)) (suc (w .tried)) (w .kept);
+    worth = cond (isKept now (w .worth)) now (w .worth);
   }
 
   -- one turn of a walk, by the best open pair; `on` is the turns after it
   unfoldable pub walkTurn : Walk → (Walk → Walk) → Best → Walk
   walkTurn w on none = w
-  walkTurn w on (best v t g) = on (walkMove w v t (metric h cs (place (w .block) v t)))
+  walkTurn w on (best v t g) = on (walkMove w v t (worthOf (place (w .block) v t)))
 
   -- the partition that a walk leaves
   unfoldable pub walked : Walk → ℕ → ℕ
@@ -126,7 +136,7 @@ module _ (h : Hypergraph) (ceiling : ℕ → ℕ) (cs : List Contraction) where
     candidate = λ x. eqb x u || eqb x v;
     tried = 0;
     kept = 0;
-    lowest = metric h cs block;
+    worth = worthOf h cs block;
   })
 
   -- the pair that P takes

@@ -6,9 +6,9 @@ use Rattle.laws.specs.Sum.{sum, sumTo, foldTo}
 use Rattle.laws.specs.Fold.{sumOver, any, all}
 use Rattle.laws.specs.Place.{place}
 use Rattle.model.specs.Catalogue.{mainLimits, averageWeight, nearest, capacity}
-use Rattle.model.specs.Measure.{above, climb, representative, pin, size, weight, blockWeight, pinCount, connectivity, metric, freed, drawn, gain, hasRoom, adjacent}
+use Rattle.model.specs.Measure.{above, climb, representative, pin, size, weight, blockWeight, heaviest, pinCount, connectivity, metric, freed, drawn, gain, hasRoom, adjacent}
 use Rattle.model.specs.Machine.{fresh, settle, refusesJ, contract, doesJ, refusesM, doesM, uncontract, doesS, doesB}
-use Rattle.model.specs.Search.{better, consider, bestPair, reversed, canGo, isOpen, walkBest, walkMove, walkTurn, walkOn, walk, walked, polishBest, polishTurn, polishOn, polish, rating, canJoin, joinBest, boardSize, joinTurn, coarsen, refine, refusesW, doesW, doesP, refusesA, doesA, callUnder}
+use Rattle.model.specs.Search.{better, consider, bestPair, reversed, isKept, canGo, isOpen, walkBest, walkMove, walkTurn, walkOn, walk, walked, polishBest, polishTurn, polishOn, polish, rating, canJoin, joinBest, boardSize, joinTurn, coarsen, refine, refusesW, doesW, doesP, refusesA, doesA, callUnder}
 use Rattle.model.specs.Grammar.{bytes, same, parts, isNumber, onward, value, fields, isLine, saleLine, overfull, grown, withLot, lotLine, mark, marking, withNet, netRead, buyLine, asked, withCall, callLine, line, ending, lines, parse}
 use Rattle.model.specs.Report.{digitsOf, digits, tail, row, answerRow, lotRows, buyRows, closing}
 use Rattle.model.specs.Engine.{after, answers, run, outcome, engine}
@@ -34,6 +34,8 @@ pub sales :
     × Gives "SALE,7,7,2,700\nLOT,4,1\nLOT,6,2\nLOT,2,2\nLOT,5,2\nLOT,5,1\nLOT,1,2\nLOT,5,1\nBUY,3,2,6\nBUY,1,6,4,5,7\nBUY,1,5,4,1\nBUY,6,2\nBUY,2,7\nBUY,1,2,5,3,4\nBUY,8,2,6\nJ,1,7\nJ,6,7\nP\nB\nW,5,7\nM,2,1\nB\nM,3,2\nS\nS\nS\nS\nS\nS\nS\nS\nA\nW,1,2\n" "J,9\nNO,10\nP,1,2\nNO,15\nNO,10\nNO,14\nNO,15\nNO,12\nS,1,7\nNO,15\nNO,15\nNO,15\nNO,15\nNO,15\nNO,15\nNO,15\nA,3,18,2,0,1\nW,7,0,1\nTOTAL,3,1\nLOT,1,2\nLOT,2,2\nLOT,3,2\nLOT,4,2\nLOT,5,2\nLOT,6,2\nLOT,7,1\nBUY,1,1\nBUY,2,2\nBUY,3,1\nBUY,4,1\nBUY,5,1\nBUY,6,1\nBUY,7,1\n"
     × Gives "SALE,7,7,2,700\nLOT,4,1\nLOT,4,2\nLOT,1,1\nLOT,6,2\nLOT,4,1\nLOT,1,2\nLOT,6,1\nBUY,6,2\nBUY,3,7,3,6\nBUY,5,1,2\nBUY,2,7,4\nBUY,6,6,1\nBUY,9,4,2\nBUY,1,4,5,7\nW,2,5\nJ,6,4\nJ,5,6\nS\nJ,1,7\nM,6,1\nW,3,6\nB\nS\nS\nS\nS\nS\nS\nS\nS\nA\nW,1,2\n" "W,7,6,6\nJ,7\nNO,13\nS,6,4\nNO,13\nNO,12\nW,7,2,1\nNO,15\nNO,15\nNO,15\nNO,15\nNO,15\nNO,15\nNO,15\nNO,15\nNO,15\nA,3,18,0,0,1\nW,7,0,1\nTOTAL,17,1\nLOT,1,1\nLOT,2,1\nLOT,3,1\nLOT,4,1\nLOT,5,2\nLOT,6,1\nLOT,7,1\nBUY,1,1\nBUY,2,1\nBUY,3,1\nBUY,4,1\nBUY,5,1\nBUY,6,1\nBUY,7,2\n"
     × Gives "SALE,7,7,2,700\nLOT,4,1\nLOT,2,2\nLOT,2,2\nLOT,4,2\nLOT,4,1\nLOT,5,2\nLOT,2,1\nBUY,1,6,2,1,3\nBUY,6,7,5\nBUY,7,6,4,2\nBUY,3,1,4\nBUY,2,1,6\nBUY,8,1,7\nBUY,5,3,5\nM,4,1\nB\nJ,2,6\nW,1,7\nJ,4,7\nB\nJ,6,5\nM,6,2\nS\nS\nS\nS\nS\nS\nS\nS\nA\nW,1,2\n" "M,3,7,15\nB,4,2,11\nJ,7\nW,6,3,7\nJ,6\nNO,15\nNO,10\nNO,10\nS,4,7\nS,2,6\nNO,15\nNO,15\nNO,15\nNO,15\nNO,15\nNO,15\nA,3,18,2,0,6\nW,7,0,6\nTOTAL,11,6\nLOT,1,1\nLOT,2,2\nLOT,3,1\nLOT,4,2\nLOT,5,1\nLOT,6,2\nLOT,7,1\nBUY,1,2\nBUY,2,1\nBUY,3,1\nBUY,4,2\nBUY,5,2\nBUY,6,1\nBUY,7,1\n"
-    × Gives "SALE,7,7,2,700\nLOT,3,1\nLOT,3,2\nLOT,5,1\nLOT,5,2\nLOT,5,1\nLOT,5,2\nLOT,6,1\nBUY,9,1,5\nBUY,6,3,1\nBUY,6,1,7,6,4\nBUY,9,6\nBUY,8,5,7,4,6\nBUY,2,1,7\nBUY,7,2\nS\nW,4,4\nP\nJ,2,6\nW,4,3\nW,4,6\nW,7,5\nW,4,4\nS\nS\nS\nS\nS\nS\nS\nS\nA\nW,1,2\n" "NO,15\nW,6,0,14\nP,0,14\nJ,8\nW,6,0,14\nNO,10\nW,6,0,14\nW,6,0,14\nS,2,6\nNO,15\nNO,15\nNO,15\nNO,15\nNO,15\nNO,15\nNO,15\nA,3,15,2,0,6\nW,7,0,6\nTOTAL,14,6\nLOT,1,2\nLOT,2,2\nLOT,3,1\nLOT,4,2\nLOT,5,2\nLOT,6,2\nLOT,7,2\nBUY,1,1\nBUY,2,2\nBUY,3,1\nBUY,4,1\nBUY,5,1\nBUY,6,1\nBUY,7,1\n"
-unfolding sum sumTo foldTo sumOver any all averageWeight nearest capacity above climb representative weight blockWeight bytes same parts isNumber onward value fields isLine saleLine overfull grown withLot lotLine mark marking withNet netRead buyLine asked withCall callLine line ending lines parse pin size pinCount connectivity metric freed drawn gain hasRoom adjacent place fresh settle refusesJ contract doesJ refusesM doesM uncontract doesS doesB better consider bestPair reversed canGo isOpen walkBest walkMove walkTurn walkOn walk walked polishBest polishTurn polishOn polish rating canJoin joinBest boardSize joinTurn coarsen refine refusesW doesW doesP refusesA doesA callUnder digitsOf digits tail row answerRow lotRows buyRows closing after answers run outcome engine
-sales = (refl, refl, refl, refl, refl, refl, refl)
+    × Gives "SALE,7,7,2,700\nLOT,3,1\nLOT,3,2\nLOT,5,1\nLOT,5,2\nLOT,5,1\nLOT,5,2\nLOT,6,1\nBUY,9,1,5\nBUY,6,3,1\nBUY,6,1,7,6,4\nBUY,9,6\nBUY,8,5,7,4,6\nBUY,2,1,7\nBUY,7,2\nS\nW,4,4\nP\nJ,2,6\nW,4,3\nW,4,6\nW,7,5\nW,4,4\nS\nS\nS\nS\nS\nS\nS\nS\nA\nW,1,2\n" "NO,15\nW,6,0,14\nP,0,14\nJ,8\nW,6,0,14\nNO,10\nW,6,0,14\nW,6,0,14\nS,2,6\nNO,15\nNO,15\nNO,15\nNO,15\nNO,15\nNO,15\nNO,15\nA,3,15,8,0,6\nW,7,0,6\nTOTAL,14,6\nLOT,1,1\nLOT,2,2\nLOT,3,2\nLOT,4,1\nLOT,5,1\nLOT,6,1\nLOT,7,1\nBUY,1,1\nBUY,2,2\nBUY,3,1\nBUY,4,1\nBUY,5,1\nBUY,6,1\nBUY,7,1\n"
+    -- M-105: a walk of the same total is kept if its heaviest session is lighter, and not if that is equal or heavier
+    × Gives "SALE,3,0,2,1000\nLOT,10,1\nLOT,10,1\nLOT,5,1\nW,1,1\nW,3,3\nW,1,1\n" "W,1,1,0\nW,1,0,0\nW,1,0,0\nTOTAL,0,0\nLOT,1,2\nLOT,2,1\nLOT,3,1\n"
+unfolding sum sumTo foldTo sumOver any all averageWeight nearest capacity above climb representative weight blockWeight heaviest bytes same parts isNumber onward value fields isLine saleLine overfull grown withLot lotLine mark marking withNet netRead buyLine asked withCall callLine line ending lines parse pin size pinCount connectivity metric freed drawn gain hasRoom adjacent place fresh settle refusesJ contract doesJ refusesM doesM uncontract doesS doesB better consider bestPair reversed isKept canGo isOpen walkBest walkMove walkTurn walkOn walk walked polishBest polishTurn polishOn polish rating canJoin joinBest boardSize joinTurn coarsen refine refusesW doesW doesP refusesA doesA callUnder digitsOf digits tail row answerRow lotRows buyRows closing after answers run outcome engine
+sales = (refl, refl, refl, refl, refl, refl, refl, refl)
