@@ -16,7 +16,7 @@ use Rattle.laws.specs.Place.{place, place-back}
 use Rattle.laws.specs.Choice.{and-left, and-right, cond-zero}
 use Rattle.model.specs.Catalogue.{Hypergraph, vertices, isVertex, isBlock, capacities}
 use Rattle.model.specs.Measure.{Contraction, above, onBoard, weight, blockWeight, gain, metric, hasRoom}
-use Rattle.model.specs.Search.{Best, none, best, Walk, Polish, mayMove, canGo, isOpen, walkBest, walkMove, walkTurn, walkOn, walk, walked, polishBest, polishTurn, polishOn, polish, Fine, refine, refusesW, doesW, doesP, refusesA, doesA, callUnder, call, patience}
+use Rattle.model.specs.Search.{Best, none, best, Walk, Polish, worthOf, mayMove, canGo, isOpen, walkBest, walkMove, walkTurn, walkOn, walk, walked, polishBest, polishTurn, polishOn, polish, Fine, refine, refusesW, doesW, doesP, refusesA, doesA, callUnder, call, patience}
 use Rattle.model.specs.Machine.{Call, callJ, callS, callM, callB, callW, callP, callA, Move, State, Step, settle, refusesJ, contract, doesJ, refusesM, doesM, uncontract, doesS, doesB}
 use Rattle.model.specs.Engine.{after as afterCalls}
 use Rattle.guarantees.specs.Tops.{Top, best-top}
@@ -100,7 +100,7 @@ module _ (h : Hypergraph) (ceiling : ℕ → ℕ) (cs : List Contraction) where
     abbrev Each : Walk → Type 0
     Each w = (i : ℕ) → i ≤ w .tried → Q (prefix h cs w i)
 
-    move-keeps : (w : Walk) (v t : ℕ) → Each w → Pair h cs v t → canGo h ceiling cs (w .block) v t ≡ true → Each (walkMove h cs w v t (metric h cs (place (w .block) v t)))
+    move-keeps : (w : Walk) (v t : ℕ) → Each w → Pair h cs v t → canGo h ceiling cs (w .block) v t ≡ true → Each (walkMove h cs w v t (worthOf h cs (place (w .block) v t)))
     unfolding walkMove
     move-keeps w v t ok r q i l = go (ℕ-discrete i (suc (w .tried)))
       where
@@ -116,7 +116,7 @@ module _ (h : Hypergraph) (ceiling : ℕ → ℕ) (cs : List Contraction) where
         → (b : Best) → Top (isOpen h ceiling cs w) (gain h cs (w .block)) (Pair h cs) b → Each (walkTurn h cs w (walkOn h ceiling cs n) b)
     unfolding walkTurn
     step-keeps n w ok ih none top = ok
-    step-keeps n w ok ih (best v t g) top = ih (walkMove h cs w v t (metric h cs (place (w .block) v t))) (move-keeps w v t ok (top .there) (open-can w v t (top .open-pair)))
+    step-keeps n w ok ih (best v t g) top = ih (walkMove h cs w v t (worthOf h cs (place (w .block) v t))) (move-keeps w v t ok (top .there) (open-can w v t (top .open-pair)))
 
     walk-keeps : (n : ℕ) (w : Walk) → Each w → Each (walkOn h ceiling cs n w)
     unfolding walkOn walkBest

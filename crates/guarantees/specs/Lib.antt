@@ -8,7 +8,9 @@
 --    uncontracted hypergraph: ClumpGain (clump-gain; clump-gains for the gain table's entries).
 -- 3. A call under a ceiling that the state is within leaves a state within it: Caps (held-call). From an accepted catalogue, after every list of
 --    calls, no block is above the capacity: Reached (within-capacity).
--- 4. No W, P or A, under any ceiling, ends on a higher metric: NeverHigher (never-higher). A walk keeps the first prefix of lowest metric: Walks (first-lowest).
+-- 4. No W, P or A, under any ceiling, ends on a higher metric: NeverHigher (never-higher). A walk keeps the prefix of lowest metric,
+--    then of lightest heaviest block, then the first: Walks (first-lowest); so at the same metric no W ends with a heavier heaviest block:
+--    NeverHigher (W-level).
 --    No definition stops for want of fuel: Fuel (walk-rests, polish-rests, coarsen-rests, climb-rests, digits-fuel).
 -- 5. When an accepted A ends, under any ceiling, no single move with room lowers the metric: Optimum (A-best; P-best for P).
 -- 6. An accepted file is within every range of document 01: Ranges (accepted-ranges, accepted-book).
@@ -17,7 +19,7 @@
 --    Stretches (size-le, size-fresh, stretch-le, marks-le). The report fits into the lent output: ReportFits (report-fits), whatever the file:
 --    Refusals (engine-fits).
 -- 8. Demand 3's machine half, one theorem about the whole list: MachineHalf (machine-half).
--- Beneath them: Reversals, Climbs, Tops, Ends, Calls, Clumps, Caps, Reading, Loads, Numbers, Bounds, WeightBounds, StateBounds.
+-- Beneath them: Reversals, Climbs, Tops, Ends, Kept, Calls, Clumps, Caps, Reading, Loads, Numbers, Bounds, WeightBounds, StateBounds.
 pub mod Moves
 pub mod Commutes
 pub mod Climbs
@@ -26,6 +28,7 @@ pub mod Weights
 pub mod Splits
 pub mod Tops
 pub mod Ends
+pub mod Kept
 pub mod Walks
 pub mod Reading
 pub mod Calls

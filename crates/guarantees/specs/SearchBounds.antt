@@ -17,7 +17,7 @@ use Rattle.laws.specs.Sum.{countTo, countTo-le, sumTo-nil}
 use Rattle.model.specs.Catalogue.{Hypergraph, vertices}
 use Rattle.model.specs.Measure.{Contraction, metric, gain}
 use Rattle.model.specs.Machine.{uncontract}
-use Rattle.model.specs.Search.{Best, none, best, Walk, Polish, Fine, isOpen, walkBest, walkMove, walkTurn, walkOn, walk, walked, polishBest, polishTurn, polishOn, polish, refine, patience}
+use Rattle.model.specs.Search.{Best, none, best, Worth, Walk, Polish, Fine, isKept, worthOf, isOpen, walkBest, walkMove, walkTurn, walkOn, walk, walked, polishBest, polishTurn, polishOn, polish, refine, patience}
 use Rattle.guarantees.specs.Tops.{Top, best-top}
 use Rattle.guarantees.specs.Ends.{Pair}
 use Rattle.guarantees.specs.Walks.{moved, still, moved-more}
@@ -35,19 +35,19 @@ module _ (h : Hypergraph) (ceiling : ℕ → ℕ) (cs : List Contraction) where
   kept-next true t k l = omega arith
   kept-next false t k l = omega arith
 
-  counts-move : (w : Walk) (v t n : ℕ) → Counts h cs w → Pair h cs v t → isOpen h ceiling cs w v t ≡ true → Counts h cs (walkMove h cs w v t n)
+  counts-move : (w : Walk) (v t : ℕ) (n : Worth) → Counts h cs w → Pair h cs v t → isOpen h ceiling cs w v t ≡ true → Counts h cs (walkMove h cs w v t n)
   unfolding walkMove
   counts-move w v t n k r o = record {
     each-once = omega (arith, k .each-once, moved-more h cs w v t n (r .0) (r .1) (still h ceiling cs w v t o));
     journaled = omega (arith, k .journaled);
-    kept-le = kept-next (ltb n (w .lowest)) (w .tried) (w .kept) (k .kept-le);
+    kept-le = kept-next (isKept n (w .worth)) (w .tried) (w .kept) (k .kept-le);
   }
 
   counts-turn : (n : ℕ) (w : Walk) → Counts h cs w → ((x : Walk) → Counts h cs x → Counts h cs (walkOn h ceiling cs n x))
       → (b : Best) → Top (isOpen h ceiling cs w) (gain h cs (w .block)) (Pair h cs) b → Counts h cs (walkTurn h cs w (walkOn h ceiling cs n) b)
   unfolding walkTurn
   counts-turn n w k ih none top = k
-  counts-turn n w k ih (best v t g) top = ih _ (counts-move w v t (metric h cs (place (w .block) v t)) k (top .there) (top .open-pair))
+  counts-turn n w k ih (best v t g) top = ih _ (counts-move w v t (worthOf h cs (place (w .block) v t)) k (top .there) (top .open-pair))
 
   counts-on : (n : ℕ) (w : Walk) → Counts h cs w → Counts h cs (walkOn h ceiling cs n w)
   unfolding walkOn walkBest

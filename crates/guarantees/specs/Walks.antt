@@ -1,24 +1,26 @@
--- A walk ends by its own rule: so many moves were made since the kept prefix, or no pair is open (walk-ends). What it keeps is the first prefix of
--- lowest metric, the empty one included (first-lowest), so W ends on no higher metric (walked-metric). Rests on Tops and Ends. Assumes nothing.
+-- A walk ends by its own rule: so many moves were made since the kept prefix, or no pair is open (walk-ends). What it keeps is the prefix of
+-- lowest metric, then of lightest heaviest block, then the first, the empty one included (first-lowest). So W ends on no higher metric
+-- (walked-metric), and on the same one with no heavier heaviest block (walked-level). Rests on Tops, Ends and Kept. Assumes nothing.
 use Prim.Native.Nat.{ℕ, zero, suc, _+_, _-_, _≤_, _<_}
 use native.Mathlib.Decide.{ℕ-discrete}
 use native.Mathlib.Omega.{arith}
 use mathlib.Core.Path.{_≡_, refl, sym, ap, _∙_, subst}
-use mathlib.Core.Logic.{_⊎_, inl, inr}
+use mathlib.Core.Logic.{_⊎_, inl, inr, ⊎-elim}
 use mathlib.Core.Bool.{Bool, true, false, not, _||_, _&&_, true≢false, cond}
 use mathlib.Core.List.{List, [], _∷_}
-use borrow.Author.Tests.{eq-eqb, ne-eqb, not-true, ltb-true, ltb-false}
-use lib.Dec.{eqb, leb, ltb}
+use borrow.Author.Tests.{eq-eqb, ne-eqb, not-true, leb-true, leb-false}
+use lib.Dec.{eqb, leb}
 use Rattle.laws.specs.Choice.{one, and-left, and-right}
 use Rattle.laws.specs.Sum.{countTo, sumTo-change, countTo-full}
 use Rattle.laws.specs.Fold.{any}
 use Rattle.laws.specs.Place.{place, place-back}
 use Rattle.model.specs.Catalogue.{Hypergraph, vertices}
-use Rattle.model.specs.Measure.{Contraction, above, metric, gain}
+use Rattle.model.specs.Measure.{Contraction, above, heaviest, metric, gain}
 use Rattle.model.specs.Machine.{Move}
-use Rattle.model.specs.Search.{Best, none, best, Walk, isOpen, walkBest, walkMove, walkTurn, walkOn, walk, walked, reversed, patience}
+use Rattle.model.specs.Search.{Best, none, best, Worth, Walk, isKept, worthOf, isOpen, walkBest, walkMove, walkTurn, walkOn, walk, walked, reversed, patience}
 use Rattle.guarantees.specs.Tops.{Top, best-top}
 use Rattle.guarantees.specs.Ends.{Placed, Pair, placed-move, can-on}
+use Rattle.guarantees.specs.Kept.{kept-says, kept-not, kept-self, kept-above, kept-below}
 
 pub reversed-none : (ms : List Move) (p : ℕ → ℕ) → reversed 0 ms p ≡ p
 unfolding reversed
@@ -43,9 +45,18 @@ module _ (h : Hypergraph) (cs : List Contraction) where
     pub placed : (i : ℕ) → i ≤ w .tried → Placed h cs (prefix w i)
     pub starts : prefix w 0 ≡ p
     pub kept-le : w .kept ≤ w .tried
-    pub lowest-is : metric h cs (prefix w (w .kept)) ≡ w .lowest
-    pub lowest-le : (i : ℕ) → i ≤ w .tried → w .lowest ≤ metric h cs (prefix w i)
-    pub first : (i : ℕ) → i < w .kept → w .lowest < metric h cs (prefix w i)
+    pub worth-is : worthOf h cs (prefix w (w .kept)) ≡ w .worth
+    pub unbeaten : (i : ℕ) → i ≤ w .tried → isKept (worthOf h cs (prefix w i)) (w .worth) ≡ false
+    pub first : (i : ℕ) → i < w .kept → isKept (w .worth) (worthOf h cs (prefix w i)) ≡ true
+
+  -- q is the prefix that a walk has kept: none is better by the order, and it is better than every shorter one. So none has a lower metric;
+  -- of those with the same metric none has a lighter heaviest block; and of those none is shorter
+  pub record Kept (w : Walk) (q : ℕ → ℕ) : Type 0 where
+    pub unbeaten : (i : ℕ) → i ≤ w .tried → isKept (worthOf h cs (prefix w i)) (worthOf h cs q) ≡ false
+    pub first : (i : ℕ) → i < w .kept → isKept (worthOf h cs q) (worthOf h cs (prefix w i)) ≡ true
+    pub lowest : (i : ℕ) → i ≤ w .tried → metric h cs q ≤ metric h cs (prefix w i)
+    pub lightest : (i : ℕ) → i ≤ w .tried → metric h cs (prefix w i) ≡ metric h cs q → heaviest h cs q ≤ heaviest h cs (prefix w i)
+    pub shortest : (i : ℕ) → i ≤ w .tried → metric h cs (prefix w i) ≡ metric h cs q → heaviest h cs (prefix w i) ≡ heaviest h cs q → w .kept ≤ i
 
   pub prefix-now : (w : Walk) → prefix w (w .tried) ≡ w .block
   prefix-now w = ap (λ (n : ℕ). reversed n (w .journal) (w .block)) (less (w .tried)) ∙ reversed-none (w .journal) (w .block)
@@ -70,10 +81,10 @@ module _ (h : Hypergraph) (cs : List Contraction) where
         less : (i : ℕ) → i ≡ suc (w .tried) → suc (w .tried) - i ≡ 0
         less i q = omega arith
 
-    abbrev now : ℕ
-    now = metric h cs (place (w .block) v t)
+    abbrev now : Worth
+    now = worthOf h cs (place (w .block) v t)
 
-    -- the next walk, by whether its metric is a new lowest
+    -- the next walk, by whether its prefix is kept
     abbrev by : Bool → Walk
     by b = record {
       block = place (w .block) v t;
@@ -81,7 +92,7 @@ module _ (h : Hypergraph) (cs : List Contraction) where
       candidate = walkMove h cs w v t now .candidate;
       tried = suc (w .tried);
       kept = cond b (suc (w .tried)) (w .kept);
-      lowest = cond b now (w .lowest);
+      worth = cond b now (w .worth);
     }
 
     module _ (p : ℕ → ℕ) (g : Going p w) (on : above cs v ≡ 0) (tl : 1 ≤ t) (tu : t ≤ h .blocks) where
@@ -96,38 +107,34 @@ module _ (h : Hypergraph) (cs : List Contraction) where
       placed-new : Placed h cs (place (w .block) v t)
       placed-new = placed-move h cs (w .block) v t (subst (Placed h cs) (prefix-now w) (g .placed (w .tried) (omega arith))) on tl tu
 
-      going-by : (b : Bool) → ltb now (w .lowest) ≡ b → Going p (by b)
-      going-by true e =
-          let l : now < w .lowest = ltb-true _ _ e in
-          record {
-            placed = each (Placed h cs) placed-new (g .placed);
-            starts = after-old 0 (omega arith) ∙ g .starts;
-            kept-le = omega arith;
-            lowest-is = ap (metric h cs) (after-new (suc (w .tried)) refl);
-            lowest-le = each (λ q. now ≤ metric h cs q) (omega arith) (λ i k. omega (arith, g .lowest-le i k));
-            first = λ i k. omega (arith, ap (metric h cs) (after-old i (omega arith)), g .lowest-le i (omega arith));
-          }
-      going-by false e =
-          let l : w .lowest ≤ now = ltb-false _ _ e in
-          record {
-            placed = each (Placed h cs) placed-new (g .placed);
-            starts = after-old 0 (omega arith) ∙ g .starts;
-            kept-le = omega (arith, g .kept-le);
-            lowest-is = ap (metric h cs) (after-old (w .kept) (g .kept-le)) ∙ g .lowest-is;
-            lowest-le = each (λ q. w .lowest ≤ metric h cs q) l (g .lowest-le);
-            first = λ i k. omega (arith, ap (metric h cs) (after-old i (omega (arith, g .kept-le))), g .first i k);
-          }
+      going-by : (b : Bool) → isKept now (w .worth) ≡ b → Going p (by b)
+      going-by true e = record {
+        placed = each (Placed h cs) placed-new (g .placed);
+        starts = after-old 0 (omega arith) ∙ g .starts;
+        kept-le = omega arith;
+        worth-is = ap (worthOf h cs) (after-new (suc (w .tried)) refl);
+        unbeaten = each (λ q. isKept (worthOf h cs q) now ≡ false) (kept-self now) (λ i k. kept-below now (w .worth) _ e (g .unbeaten i k));
+        first = λ i k. subst (λ (q : ℕ → ℕ). isKept now (worthOf h cs q) ≡ true) (sym (after-old i (omega arith))) (kept-above now (w .worth) _ e (g .unbeaten i (omega arith)));
+      }
+      going-by false e = record {
+        placed = each (Placed h cs) placed-new (g .placed);
+        starts = after-old 0 (omega arith) ∙ g .starts;
+        kept-le = omega (arith, g .kept-le);
+        worth-is = ap (worthOf h cs) (after-old (w .kept) (g .kept-le)) ∙ g .worth-is;
+        unbeaten = each (λ q. isKept (worthOf h cs q) (w .worth) ≡ false) e (g .unbeaten);
+        first = λ i k. subst (λ (q : ℕ → ℕ). isKept (w .worth) (worthOf h cs q) ≡ true) (sym (after-old i (omega (arith, g .kept-le)))) (g .first i k);
+      }
 
-      going-move : Going p (walkMove h cs w v t (metric h cs (place (w .block) v t)))
+      going-move : Going p (walkMove h cs w v t now)
       unfolding walkMove
-      going-move = going-by (ltb now (w .lowest)) refl
+      going-move = going-by (isKept now (w .worth)) refl
 
   -- ---- the end
   abbrev pub moved : Walk → ℕ → Bool
   moved w x = any (w .journal) (λ m. eqb (m .vertex) x)
 
   -- a move of a vertex that has not moved yet
-  pub moved-more : (w : Walk) (v t n : ℕ) → 1 ≤ v → v ≤ vertices h → moved w v ≡ false → countTo (vertices h) (moved (walkMove h cs w v t n)) ≡ countTo (vertices h) (moved w) + 1
+  pub moved-more : (w : Walk) (v t : ℕ) (n : Worth) → 1 ≤ v → v ≤ vertices h → moved w v ≡ false → countTo (vertices h) (moved (walkMove h cs w v t n)) ≡ countTo (vertices h) (moved w) + 1
   unfolding walkMove any
   moved-more w v t n l u q = omega (
     arith,
@@ -135,6 +142,13 @@ module _ (h : Hypergraph) (cs : List Contraction) where
     ap one q,
     ap (λ (b : Bool). one (b || moved w v)) (eq-eqb v v refl),
   )
+
+not-before : (k i : ℕ) → (i < k → ⊥) → k ≤ i
+not-before k i n = go (leb k i) refl
+  where
+    go : (t : Bool) → leb k i ≡ t → k ≤ i
+    go true e = leb-true k i e
+    go false e = absurd (n (leb-false k i e))
 
 -- the same under a ceiling of each block
 module _ (h : Hypergraph) (ceiling : ℕ → ℕ) (cs : List Contraction) where
@@ -167,9 +181,9 @@ module _ (h : Hypergraph) (ceiling : ℕ → ℕ) (cs : List Contraction) where
       → (b : Best) → walkBest h ceiling cs w ≡ b → Top (isOpen h ceiling cs w) (gain h cs (w .block)) (Pair h cs) b → Ended p (walkTurn h cs w (walkOn h ceiling cs n) b)
   unfolding walkTurn
   turn-end n p w g l ih none q top = record { going = g; over = inr q }
-  turn-end n p w g l ih (best v t f) q top = ih (walkMove h cs w v t (metric h cs (place (w .block) v t)))
+  turn-end n p w g l ih (best v t f) q top = ih (walkMove h cs w v t (worthOf h cs (place (w .block) v t)))
       (going-move h cs w v t p g (open-on w v t (top .open-pair)) (top .there .2) (top .there .3))
-      (omega (arith, moved-more h cs w v t (metric h cs (place (w .block) v t)) (top .there .0) (top .there .1) (still w v t (top .open-pair))))
+      (omega (arith, moved-more h cs w v t (worthOf h cs (place (w .block) v t)) (top .there .0) (top .there .1) (still w v t (top .open-pair))))
 
   -- with as many turns as there are vertices left to move, a walk ends by its own rule
   walk-end : (n : ℕ) (p : ℕ → ℕ) (w : Walk) → Going h cs p w → vertices h ≤ countTo (vertices h) (moved h cs w) + n → Ended p (walkOn h ceiling cs n w)
@@ -182,30 +196,45 @@ module _ (h : Hypergraph) (ceiling : ℕ → ℕ) (cs : List Contraction) where
       go ih true e = record { going = g; over = inl e }
       go ih false e = turn-end n p w g l ih (walkBest h ceiling cs w) refl (best-top (isOpen h ceiling cs w) (gain h cs (w .block)) (h .blocks) (vertices h))
 
-  -- W ends by its rule, having kept the first prefix h cs of lowest metric
+  -- W ends by its rule, having kept the prefix that comes first by the order
   pub walk-ends : (p : ℕ → ℕ) (u v : ℕ) → Placed h cs p → Ended p (walk h ceiling cs p u v)
   unfolding walk reversed
   walk-ends p u v ok = walk-end (vertices h) p _ (record {
     placed = λ i l. subst (Placed h cs) (sym (reversed-nil (0 - i) p)) ok;
     starts = refl;
     kept-le = omega arith;
-    lowest-is = refl;
-    lowest-le = λ i l. omega (arith, ap (metric h cs) (reversed-nil (0 - i) p));
+    worth-is = refl;
+    unbeaten = λ i l. subst (λ (q : ℕ → ℕ). isKept (worthOf h cs q) (worthOf h cs p) ≡ false) (sym (reversed-nil (0 - i) p)) (kept-self (worthOf h cs p));
     first = λ i l. absurd (omega arith);
   }) (omega arith)
 
-  -- what W leaves has every vertex on the board in a block, and a metric that is the walk's lowest, at most the one before
-  pub walked-metric : (p : ℕ → ℕ) (u v : ℕ) → Placed h cs p → Placed h cs (walked h cs (walk h ceiling cs p u v)) × (metric h cs (walked h cs (walk h ceiling cs p u v)) ≡ walk h ceiling cs p u v .lowest) × (metric h cs (walked h cs (walk h ceiling cs p u v)) ≤ metric h cs p)
-  unfolding walked
-  walked-metric p u v ok =
-      let g = walk-ends p u v ok .going in
-      (g .placed _ (g .kept-le), g .lowest-is, omega (arith, g .lowest-is, g .lowest-le 0 (omega arith), ap (metric h cs) (g .starts)))
+  module _ (p : ℕ → ℕ) (u v : ℕ) (ok : Placed h cs p) where
+    -- no prefix of the walk comes before what W leaves: lower metric, then lighter heaviest block, then shorter
+    pub first-lowest : Kept h cs (walk h ceiling cs p u v) (walked h cs (walk h ceiling cs p u v))
+    unfolding walked
+    first-lowest =
+        let w = walk h ceiling cs p u v in
+        let g = walk-ends p u v ok .going in
+        let q = walked h cs w in
+        let unbeaten : (i : ℕ) → i ≤ w .tried → isKept (worthOf h cs (prefix h cs w i)) (worthOf h cs q) ≡ false = λ i l. subst (λ (x : Worth). isKept (worthOf h cs (prefix h cs w i)) x ≡ false) (sym (g .worth-is)) (g .unbeaten i l) in
+        let first : (i : ℕ) → i < w .kept → isKept (worthOf h cs q) (worthOf h cs (prefix h cs w i)) ≡ true = λ i l. subst (λ (x : Worth). isKept x (worthOf h cs (prefix h cs w i)) ≡ true) (sym (g .worth-is)) (g .first i l) in
+        record {
+          unbeaten = unbeaten;
+          first = first;
+          lowest = λ i l. kept-not _ _ (unbeaten i l) .0;
+          lightest = λ i l e. kept-not _ _ (unbeaten i l) .1 e;
+          shortest = λ i l e f. not-before (w .kept) i (λ k. ⊎-elim (λ x. omega (arith, x, e)) (λ x. omega (arith, x .1, f)) (kept-says _ _ (first i k)));
+        }
 
-  -- no prefix h cs of the walk has a lower metric than what W leaves, and every shorter one has a higher
-  pub first-lowest : (p : ℕ → ℕ) (u v : ℕ) → Placed h cs p
-      → ((i : ℕ) → i ≤ walk h ceiling cs p u v .tried → metric h cs (walked h cs (walk h ceiling cs p u v)) ≤ metric h cs (prefix h cs (walk h ceiling cs p u v) i))
-      × ((i : ℕ) → i < walk h ceiling cs p u v .kept → metric h cs (walked h cs (walk h ceiling cs p u v)) < metric h cs (prefix h cs (walk h ceiling cs p u v) i))
-  first-lowest p u v ok =
-      let g = walk-ends p u v ok .going in
-      let low = walked-metric p u v ok .1 in
-      (λ i l. omega (arith, low, g .lowest-le i l), λ i l. omega (arith, low, g .first i l))
+    -- what W leaves has every vertex on the board in a block, and the worth of the walk's kept prefix; its metric is at most the one before
+    pub walked-metric : Placed h cs (walked h cs (walk h ceiling cs p u v)) × (worthOf h cs (walked h cs (walk h ceiling cs p u v)) ≡ walk h ceiling cs p u v .worth) × (metric h cs (walked h cs (walk h ceiling cs p u v)) ≤ metric h cs p)
+    unfolding walked
+    walked-metric =
+        let g = walk-ends p u v ok .going in
+        (g .placed _ (g .kept-le), g .worth-is, omega (arith, first-lowest .lowest 0 (omega arith), ap (metric h cs) (g .starts)))
+
+    -- at the same metric, what W leaves has no heavier heaviest block than what was there before
+    pub walked-level : metric h cs (walked h cs (walk h ceiling cs p u v)) ≡ metric h cs p → heaviest h cs (walked h cs (walk h ceiling cs p u v)) ≤ heaviest h cs p
+    walked-level e =
+        let s = walk-ends p u v ok .going .starts in
+        omega (arith, first-lowest .lightest 0 (omega arith) (ap (metric h cs) s ∙ sym e), ap (heaviest h cs) s)
