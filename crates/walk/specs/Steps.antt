@@ -1,5 +1,5 @@
 -- A walk on its way: what the code's variables are for model's walk (At), and what one turn and one move of it ask and do. Rests on Tabled and
--- Back. Assumes nothing.
+-- Back, and on Kept for a prefix's worth. Assumes nothing.
 use Prim.Native.Nat.{ℕ, _+_, _-_, _<_, _≤_}
 use mathlib.Core.Path.{_≡_}
 use mathlib.Core.Bool.{not, _&&_, cond}
@@ -9,8 +9,8 @@ use lib.IntN.{ℤ}
 use lib.ListN.{length, getD}
 use Rattle.laws.specs.Place.{place}
 use Rattle.model.specs.Catalogue.{Hypergraph}
-use Rattle.model.specs.Measure.{Contraction, metric}
-use Rattle.model.specs.Search.{Best, none, Walk, bestPair, walkMove, walkOn, walk, walked, patience, mayMove}
+use Rattle.model.specs.Measure.{Contraction}
+use Rattle.model.specs.Search.{Best, none, Worth, Walk, worthOf, bestPair, walkMove, walkOn, walk, walked, patience, mayMove}
 use Rattle.model.specs.Lent.{journalOf}
 use Rattle.guarantees.specs.Caps.{CeilingIs}
 use Rattle.guarantees.specs.Walks.{moved}
@@ -19,18 +19,19 @@ use Rattle.operations.specs.Move.{Open}
 use Rattle.best_move.specs.Open.{gainIn, openIn}
 use Rattle.search_moves.specs.Marks.{candidateBit, movedBit, Covered}
 use Rattle.walk.specs.Back.{Backs}
+use Rattle.walk.specs.Kept.{worth}
 
--- the code's variables beside the tables: the candidates, the journal, how many moves were tried, the length of the kept prefix, its metric
+-- the code's variables beside the tables: the candidates, the journal, how many moves were tried, the length of the kept prefix, its worth
 pub record Locals : Type 0 where
   pub marks : List ℕ
   pub vertices : List ℕ
   pub blocks : List ℕ
   pub tried : ℕ
   pub kept : ℕ
-  pub low : ℕ
+  pub worth : Worth
 
-abbrev pub locals : List ℕ → List ℕ → List ℕ → ℕ → ℕ → ℕ → Locals
-locals marks vertices blocks tried kept low = record { marks = marks; vertices = vertices; blocks = blocks; tried = tried; kept = kept; low = low }
+abbrev pub locals : List ℕ → List ℕ → List ℕ → ℕ → ℕ → ℕ → ℕ → Locals
+locals marks vertices blocks tried kept low heaviest = record { marks = marks; vertices = vertices; blocks = blocks; tried = tried; kept = kept; worth = worth low heaviest }
 
 -- tables and variables are those of the walk w. A candidate that has moved, or may not move, is not marked
 pub record At (h : Hypergraph) (cs : List Contraction) (w : Walk) (T : Tables) (L : Locals) : Type 0 where
@@ -41,7 +42,7 @@ pub record At (h : Hypergraph) (cs : List Contraction) (w : Walk) (T : Tables) (
   pub journal-is : w .journal ≡ journalOf (L .vertices) (L .blocks) (L .tried)
   pub tried-is : L .tried ≡ w .tried
   pub kept-is : L .kept ≡ w .kept
-  pub low-is : L .low ≡ w .lowest
+  pub worth-is : L .worth ≡ w .worth
   pub kept-to : L .kept ≤ L .tried
   pub backs : Backs h cs (w .block) (w .journal)
   pub marks-fit : length (L .marks) ≡ 48
@@ -69,7 +70,7 @@ pub record TakeOk (T : List ℕ → List ℕ → Tables) (L : Locals) (turn v b 
 
 -- what it does: one move of the walk
 pub record Took (T : Tables) (L : Locals) (turn v b : ℕ) (T′ : Tables) (L′ : Locals) (turn′ : ℕ) : Type 0 where
-  pub is : (h : Hypergraph) (cs : List Contraction) (w : Walk) → At h cs w T L → At h cs (walkMove h cs w v b (metric h cs (place (w .block) v b))) T′ L′
+  pub is : (h : Hypergraph) (cs : List Contraction) (w : Walk) → At h cs w T L → At h cs (walkMove h cs w v b (worthOf h cs (place (w .block) v b))) T′ L′
   pub turn-is : turn′ ≡ turn + 1
   pub tried-is : L′ .tried ≡ L .tried + 1
   pub keeps : Keeps T T′

@@ -1,20 +1,20 @@
 -- One move of a walk: the tables moved, the candidates spread, the journal pushed and the kept prefix updated are model's walkMove.
--- Rests on Steps. Assumes nothing.
+-- Rests on Steps and Kept. Assumes nothing.
 use Prim.Native.Nat.{ℕ, suc, _+_, _-_, _<_, _≤_}
 use native.Mathlib.Decide.{ℕ-discrete}
 use native.Mathlib.Omega.{arith}
 use mathlib.Core.Path.{_≡_, refl, sym, ap, ap₂, _∙_, subst}
 use mathlib.Core.Bool.{Bool, true, false, not, _&&_, _||_, cond, and-true, and-false, true≢false}
 use mathlib.Core.List.{List, _∷_}
-use borrow.Author.Tests.{eq-eqb, ne-eqb, lt-ltb, le-ltb}
-use lib.Dec.{eqb, ltb}
+use borrow.Author.Tests.{eq-eqb, ne-eqb}
+use lib.Dec.{eqb}
 use lib.ListN.{length, getD, length-set}
 use Rattle.laws.specs.Fold.{any}
 use Rattle.laws.specs.Place.{place}
 use Rattle.model.specs.Catalogue.{Hypergraph}
-use Rattle.model.specs.Measure.{Contraction, above, onBoard, metric, adjacent}
+use Rattle.model.specs.Measure.{Contraction, above, onBoard, adjacent}
 use Rattle.model.specs.Machine.{Move}
-use Rattle.model.specs.Search.{Walk, walkMove}
+use Rattle.model.specs.Search.{Walk, isKept, worthOf, walkMove}
 use Rattle.model.specs.Lent.{journalOf}
 use Rattle.guarantees.specs.Walks.{moved}
 use Rattle.operations.specs.Pairs.{Pushed, pairs-push}
@@ -23,14 +23,8 @@ use Rattle.operations.specs.Move.{Open, CanGo, Went, on-board, own-block, in-ra
 use Rattle.search_moves.specs.Marks.{candidateBit, movedBit, Covered, near, NetsOk, Spread}
 use Rattle.search_moves.specs.Tabled.{near-is, near-on, nets-ok}
 use Rattle.walk.specs.Back.{backs-more}
+use Rattle.walk.specs.Kept.{worth, heaviestIn, heaviest-is}
 use Rattle.walk.specs.Steps.{Locals, locals, At, TakeOk}
-
--- the prefix to keep: the new one, or the one before
-pub lower-new : (now low x y : ℕ) → now < low → x ≡ cond (ltb now low) x y
-lower-new now low x y l = ap (λ (t : Bool). cond t x y) (sym (lt-ltb now low l))
-
-pub lower-old : (now low x y : ℕ) → low ≤ now → y ≡ cond (ltb now low) x y
-lower-old now low x y l = ap (λ (t : Bool). cond t x y) (sym (le-ltb now low l))
 
 -- a candidate after a move, in truth values: it was one or shares a net with the moved vertex, has not moved, and is on the board
 spread-bool : (cand mv bd adj eq : Bool) → (adj ≡ true → bd ≡ true)
@@ -65,8 +59,8 @@ module _ {T : List ℕ → List ℕ → Tables} {L : Locals} {turn v b : ℕ} (o
   take-nets = nets-ok (o .at .sound) x (take-open .u-in)
 
 -- ---- the move
-module _ {h : Hypergraph} {cs : List Contraction} {w : Walk} {T T′ : Tables} {marks vs bs marks′ vs′ bs′ : List ℕ} {tried kept low tried′ kept′ low′ v b : ℕ} (x : ℕ)
-    (A : At h cs w T (locals marks vs bs tried kept low))
+module _ {h : Hypergraph} {cs : List Contraction} {w : Walk} {T T′ : Tables} {marks vs bs marks′ vs′ bs′ : List ℕ} {tried kept low most heavy tried′ kept′ low′ most′ v b : ℕ} (x : ℕ)
+    (A : At h cs w T (locals marks vs bs tried kept low most))
     (o : Open (T .blocks) (T .n) (T .k) x b)
     (e : x + 1 ≡ v)
     (few : tried < 1024)
@@ -75,8 +69,9 @@ module _ {h : Hypergraph} {cs : List Contraction} {w : Walk} {T T′ : Tables} {
     (sp : Spread marks marks′ x (near (T .bits) (T .pins) (T .firsts) (T .sizes) x (T .m)))
     (cov : Covered marks′ (T′ .pins) (T′ .firsts) (T′ .sizes))
     (p : Pushed vs bs tried v (getD (T .blocks) x 0) vs′ bs′ tried′)
-    (ek : kept′ ≡ cond (ltb (T′ .total) low) tried′ kept)
-    (el : low′ ≡ cond (ltb (T′ .total) low) (T′ .total) low) where
+    (eh : heavy ≡ heaviestIn (T′ .loads) (T′ .k))
+    (ek : kept′ ≡ cond (isKept (worth (T′ .total) heavy) (worth low most)) tried′ kept)
+    (ew : worth low′ most′ ≡ cond (isKept (worth (T′ .total) heavy) (worth low most)) (worth (T′ .total) heavy) (worth low most)) where
   on : above cs v ≡ 0
   on = ap (above cs) (sym e) ∙ on-board (A .sound) x (o .u-in) (o .on)
 
@@ -114,14 +109,20 @@ module _ {h : Hypergraph} {cs : List Contraction} {w : Walk} {T T′ : Tables} {
   tries : tried′ ≡ suc (w .tried)
   tries = omega (arith, p .len-is, A .tried-is)
 
-  lower : {a a′ c c′ d d′ f f′ : ℕ} → a ≡ a′ → c ≡ c′ → d ≡ d′ → f ≡ f′ → cond (ltb a c) d f ≡ cond (ltb a′ c′) d′ f′
-  lower q r s t = rw (q, r, s, t)
+  -- the new prefix is worth what the tables say
+  now-is : worth (T′ .total) heavy ≡ worthOf h cs (place (w .block) v b)
+  now-is = ap₂ worth (sound .total-is) (eh ∙ heaviest-is sound)
+
+  keeps : {X : Type 0} {d d′ f f′ : X} → d ≡ d′ → f ≡ f′ → cond (isKept (worth (T′ .total) heavy) (worth low most)) d f ≡ cond (isKept (worthOf h cs (place (w .block) v b)) (w .worth)) d′ f′
+  keeps {X} {d} {d′} {f} q r =
+      ap₂ (λ (t : Bool) (z : X). cond t z f) (ap₂ isKept now-is (A .worth-is)) q
+      ∙ ap (λ (z : X). cond (isKept (worthOf h cs (place (w .block) v b)) (w .worth)) d′ z) r
 
   least : (t : Bool) → kept ≤ tried → cond t tried′ kept ≤ tried′
   least true l = omega arith
   least false l = omega (arith, p .len-is)
 
-  pub take-law : At h cs (walkMove h cs w v b (metric h cs (place (w .block) v b))) T′ (locals marks′ vs′ bs′ tried′ kept′ low′)
+  pub take-law : At h cs (walkMove h cs w v b (worthOf h cs (place (w .block) v b))) T′ (locals marks′ vs′ bs′ tried′ kept′ low′ most′)
   unfolding walkMove any
   take-law = record {
     sound = sound;
@@ -130,9 +131,9 @@ module _ {h : Hypergraph} {cs : List Contraction} {w : Walk} {T T′ : Tables} {
     covered = cov;
     journal-is = journaled;
     tried-is = tries;
-    kept-is = ek ∙ lower (sound .total-is) (A .low-is) tries (A .kept-is);
-    low-is = el ∙ lower (sound .total-is) (A .low-is) (sound .total-is) (A .low-is);
-    kept-to = omega (arith, ek, least (ltb (T′ .total) low) (A .kept-to));
+    kept-is = ek ∙ keeps tries (A .kept-is);
+    worth-is = ew ∙ keeps now-is (A .worth-is);
+    kept-to = omega (arith, ek, least (isKept (worth (T′ .total) heavy) (worth low most)) (A .kept-to));
     backs = backs-more h cs (w .block) (w .journal) v b (omega (arith, o .u-in, A .sound .follows .says .all-vertices)) on
         (let r = in-range (A .sound) x (o .u-in) on-x in
         subst (λ (z : ℕ). (1 ≤ w .block z) × (w .block z ≤ h .blocks)) e (r .0, omega (arith, r .1, A .sound .follows .says .all-blocks)))

@@ -11,8 +11,8 @@ use lib.IntN.{ℤ}
 use Rattle.laws.specs.Choice.{and-right}
 use Rattle.laws.specs.Place.{place}
 use Rattle.model.specs.Catalogue.{Hypergraph}
-use Rattle.model.specs.Measure.{Contraction, above, metric}
-use Rattle.model.specs.Search.{Best, none, best, Walk, bestPair, walkBest, walkMove, walkTurn, walkOn, walk, patience, mayMove}
+use Rattle.model.specs.Measure.{Contraction, above}
+use Rattle.model.specs.Search.{Best, none, best, Walk, worthOf, bestPair, walkBest, walkMove, walkTurn, walkOn, walk, patience, mayMove}
 use Rattle.guarantees.specs.Caps.{CeilingIs}
 use Rattle.guarantees.specs.Ends.{may-on}
 use Rattle.guarantees.specs.Walks.{moved}
@@ -81,7 +81,7 @@ module _ (h : Hypergraph) (ceiling : ℕ → ℕ) (cs : List Contraction) where
   on-stop zero w q = refl
   on-stop (suc f) w q = on-next f w ∙ ap (walkTurn h cs w (walkOn h ceiling cs f)) q
 
-  on-move : (f : ℕ) (w : Walk) (v b : ℕ) (g : ℤ) → next h ceiling cs w ≡ best v b g → walkOn h ceiling cs (suc f) w ≡ walkOn h ceiling cs f (walkMove h cs w v b (metric h cs (place (w .block) v b)))
+  on-move : (f : ℕ) (w : Walk) (v b : ℕ) (g : ℤ) → next h ceiling cs w ≡ best v b g → walkOn h ceiling cs (suc f) w ≡ walkOn h ceiling cs f (walkMove h cs w v b (worthOf h cs (place (w .block) v b)))
   unfolding walkTurn
   on-move f w v b g q = on-next f w ∙ ap (walkTurn h cs w (walkOn h ceiling cs f)) q
 
@@ -127,7 +127,7 @@ turn-move {T} {T′} {L} {L′} ceilings turn turn′ v b on to c e k = record {
   is = λ h ceiling cs w q A.
       let d : T .n - turn ≡ suc (T .n - turn′) = omega (arith, k .turn-is) in
       record {
-        walk = walkMove h cs w v b (metric h cs (place (w .block) v b));
+        walk = walkMove h cs w v b (worthOf h cs (place (w .block) v b));
         at = k .is h cs w A;
         same = ap (λ (i : ℕ). walkOn h ceiling cs i w) d ∙ on-move h ceiling cs (T .n - turn′) w v b (gainIn (T .gains) v b) (sym (ap (bestOf (gainIn (T .gains))) (sym e) ∙ c .same ∙ next-is A ceiling ceilings q));
       };

@@ -11,9 +11,9 @@ use lib.Dec.{eqb}
 use lib.ListN.{length, getD, replicate, length-replicate}
 use Rattle.laws.specs.Fold.{any}
 use Rattle.model.specs.Catalogue.{Hypergraph, vertices}
-use Rattle.model.specs.Measure.{Contraction, above, onBoard, metric}
+use Rattle.model.specs.Measure.{Contraction, above, onBoard}
 use Rattle.model.specs.Machine.{Move}
-use Rattle.model.specs.Search.{Walk, walkOn, walk, walked, reversed}
+use Rattle.model.specs.Search.{Walk, worthOf, walkOn, walk, walked, reversed}
 use Rattle.model.specs.Lent.{journalOf}
 use Rattle.operations.specs.Pairs.{pairs-none}
 use Rattle.operations.specs.Tables.{Tables, Sound}
@@ -21,6 +21,7 @@ use Rattle.operations.specs.Move.{on-board}
 use Rattle.search_moves.specs.Marks.{candidateBit, movedBit, blank-bit, Marked, marked-more, SameNets, nets-then, covered-none}
 use Rattle.operations.specs.Keeping.{keeps-none, keeps-more}
 use Rattle.walk.specs.Back.{Backs, backs-none, RewindOk, Rewinds}
+use Rattle.walk.specs.Kept.{worth, heaviestIn, heaviest-is}
 use Rattle.walk.specs.Steps.{Locals, locals, At, TurnOk, Turned, WalkOk, Going, Ended, Walks}
 use Rattle.walk.specs.Turning.{on-none}
 
@@ -58,10 +59,10 @@ module _ {l l′ : List ℕ} (u v : ℕ) (a : Marked (replicate 48 0) l (λ y. e
   first-moved x k = marked-more a b .moved x k ∙ blank-bit 1 x
 
   module _ (T : Tables) (ceilings : List ℕ) (u-in : u < T .n) (u-on : 1 ≤ getD (T .blocks) u 0) (v-in : v < T .n) (v-on : 1 ≤ getD (T .blocks) v 0) where
-    start-at : {h : Hypergraph} {cs : List Contraction} {block : ℕ → ℕ} {vs bs : List ℕ} {tried : ℕ} → Sound h cs block T → length vs ≡ 1024 → length bs ≡ 1024 → tried ≡ 0
-        → At h cs (record { block = block; journal = []; candidate = λ x. eqb x (u + 1) || eqb x (v + 1); tried = 0; kept = 0; lowest = metric h cs block }) T (locals l′ vs bs tried 0 (T .total))
+    start-at : {h : Hypergraph} {cs : List Contraction} {block : ℕ → ℕ} {vs bs : List ℕ} {tried most : ℕ} → Sound h cs block T → length vs ≡ 1024 → length bs ≡ 1024 → tried ≡ 0 → most ≡ heaviestIn (T .loads) (T .k)
+        → At h cs (record { block = block; journal = []; candidate = λ x. eqb x (u + 1) || eqb x (v + 1); tried = 0; kept = 0; worth = worthOf h cs block }) T (locals l′ vs bs tried 0 (T .total) most)
     unfolding any
-    start-at {h} {cs} {block} {vs} {bs} {tried} s lv lb q = record {
+    start-at {h} {cs} {block} {vs} {bs} s lv lb q e = record {
       sound = s;
       chosen = λ x k.
           first-marks x (omega (arith, s .follows .room .few-vertices))
@@ -72,7 +73,7 @@ module _ {l l′ : List ℕ} (u v : ℕ) (a : Marked (replicate 48 0) l (λ y. e
       journal-is = sym (ap (journalOf vs bs) q ∙ pairs-none (λ v b. record { vertex = v; from = b }) vs bs);
       tried-is = q;
       kept-is = refl;
-      low-is = s .total-is;
+      worth-is = ap₂ worth (s .total-is) (e ∙ heaviest-is s);
       kept-to = omega arith;
       backs = backs-none h cs block;
       marks-fit = marked-more a b .len ∙ length-replicate {A = ℕ} 48 0;
@@ -80,13 +81,13 @@ module _ {l l′ : List ℕ} (u v : ℕ) (a : Marked (replicate 48 0) l (λ y. e
       blocks-fit = lb;
     }
 
-    pub going-none : {vs bs : List ℕ} {tried : ℕ} → length vs ≡ 1024 → length bs ≡ 1024 → tried ≡ 0 → Going T ceilings u v 0 T (locals l′ vs bs tried 0 (T .total))
+    pub going-none : {vs bs : List ℕ} {tried most : ℕ} → length vs ≡ 1024 → length bs ≡ 1024 → tried ≡ 0 → most ≡ heaviestIn (T .loads) (T .k) → Going T ceilings u v 0 T (locals l′ vs bs tried 0 (T .total) most)
     unfolding walk
-    going-none lv lb q = record {
+    going-none lv lb q heavy = record {
       is = λ h ceiling cs block e s. record {
-        walk = record { block = block; journal = []; candidate = λ x. eqb x (u + 1) || eqb x (v + 1); tried = 0; kept = 0; lowest = metric h cs block };
-        at = start-at s lv lb q;
-        same = ap (λ (i : ℕ). walkOn h ceiling cs i (record { block = block; journal = []; candidate = λ x. eqb x (u + 1) || eqb x (v + 1); tried = 0; kept = 0; lowest = metric h cs block })) (let z : vertices h ≡ T .n - 0 = omega (arith, s .follows .says .all-vertices) in z);
+        walk = record { block = block; journal = []; candidate = λ x. eqb x (u + 1) || eqb x (v + 1); tried = 0; kept = 0; worth = worthOf h cs block };
+        at = start-at s lv lb q heavy;
+        same = ap (λ (i : ℕ). walkOn h ceiling cs i (record { block = block; journal = []; candidate = λ x. eqb x (u + 1) || eqb x (v + 1); tried = 0; kept = 0; worth = worthOf h cs block })) (let z : vertices h ≡ T .n - 0 = omega (arith, s .follows .says .all-vertices) in z);
       };
       keeps = keeps-none T;
     }

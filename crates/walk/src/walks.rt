@@ -1,5 +1,7 @@
 // W, a walk from two vertices (localized FM search): the best open pair is moved, also where its gain is negative, until none is open or 25
-// moves have been made since the first prefix of lowest metric; then the moves after that prefix are reversed.
+// moves have been made since the prefix that is kept; then the moves after that prefix are reversed.
+use crate::kept::heaviest;
+use crate::kept::keep;
 use best_move::open::Pick;
 use best_move::open::best_open;
 use best_move::peaks::survey;
@@ -8,11 +10,8 @@ use operations::moves::back;
 use search_moves::marks::mark_vertex;
 use search_moves::marks::spread;
 use search_moves::peaks::shift;
-ghost use mathlib.Core.Path.{_≡_};
-ghost use mathlib.Core.Bool.{cond};
 ghost use mathlib.Core.List.{List};
 ghost use Prim.Native.Nat.{ℕ, _+_, _-_, _<_, _≤_};
-ghost use lib.Dec.{ltb};
 ghost use lib.ListN.{length};
 ghost use Rattle.best_move.specs.Open.{SearchOk, Chosen, gainIn};
 ghost use Rattle.best_move.specs.Peak.{Peaked};
@@ -27,35 +26,15 @@ pub struct Walked {
     pub total: u32,
 }
 
-// A walk on its way. `tried` counts the moves made; `turn` does too, and is the number of vertices once the walk has ended.
+// A walk on its way. `tried` counts the moves made; `turn` does too, and is the number of vertices once the walk has ended. `kept`, `low` and
+// `heaviest` are of the kept prefix: its length, its metric, and the weight of its heaviest block.
 struct Steps {
     turn: usize,
     tried: usize,
     kept: usize,
     low: u32,
+    heaviest: u64,
     total: u32,
-}
-
-// The prefix that is kept: its length and its metric.
-struct Prefix {
-    kept: usize,
-    low: u32,
-}
-
-// The prefix to keep after one more move: a later one is kept if its metric is lower.
-fn lower(tried: usize, kept: usize, low: u32, total: u32) -> Prefix
-    ensures { λ r. ⌜ (r .kept ≡ cond (ltb total low) tried kept) × (r .low ≡ cond (ltb total low) total low) ⌝ }
-{
-    if total < low {
-        return Prefix {
-            kept: tried,
-            low: total,
-        };
-    }
-    Prefix {
-        kept: kept,
-        low: low,
-    }
 }
 
 // The next move: none once 25 have been made since the kept prefix.
@@ -106,10 +85,10 @@ fn make_move(
     b: u16,
     s: Steps,
 ) -> Steps
-    requires { ⌜ TakeOk (lent (now counts) (now visited) (now gains) (now blocks) (now loads) (now presentpins) (now presentsizes) (now bits) (now weights) (now netweights) (now firsts) n m k (s .total)) (locals (now marks) (now movers) (now origins) (s .tried) (s .kept) (s .low)) (s .turn) v b ⌝ }
+    requires { ⌜ TakeOk (lent (now counts) (now visited) (now gains) (now blocks) (now loads) (now presentpins) (now presentsizes) (now bits) (now weights) (now netweights) (now firsts) n m k (s .total)) (locals (now marks) (now movers) (now origins) (s .tried) (s .kept) (s .low) (s .heaviest)) (s .turn) v b ⌝ }
     requires { ⌜ Peaked (now gains) (now peaks) n k ⌝ }
-    ensures { λ r. ⌜ ((aboves loadedsizes : List ℕ) → Took (lent (now (counts .entry)) (now (visited .entry)) (now (gains .entry)) (now (blocks .entry)) (now (loads .entry)) (now (presentpins .entry)) (now (presentsizes .entry)) (now (bits .entry)) (now (weights .entry)) (now (netweights .entry)) (now (firsts .entry)) n m k (s .total) aboves loadedsizes) (locals (now (marks .entry)) (now (movers .entry)) (now (origins .entry)) (s .tried) (s .kept) (s .low)) (s .turn) v b
-        (lent (now (counts .exit)) (now (visited .exit)) (now (gains .exit)) (now (blocks .exit)) (now (loads .exit)) (now (presentpins .exit)) (now (presentsizes .exit)) (now (bits .exit)) (now (weights .exit)) (now (netweights .exit)) (now (firsts .exit)) n m k (r .total) aboves loadedsizes) (locals (now (marks .exit)) (now (movers .exit)) (now (origins .exit)) (r .tried) (r .kept) (r .low)) (r .turn)) ⌝ }
+    ensures { λ r. ⌜ ((aboves loadedsizes : List ℕ) → Took (lent (now (counts .entry)) (now (visited .entry)) (now (gains .entry)) (now (blocks .entry)) (now (loads .entry)) (now (presentpins .entry)) (now (presentsizes .entry)) (now (bits .entry)) (now (weights .entry)) (now (netweights .entry)) (now (firsts .entry)) n m k (s .total) aboves loadedsizes) (locals (now (marks .entry)) (now (movers .entry)) (now (origins .entry)) (s .tried) (s .kept) (s .low) (s .heaviest)) (s .turn) v b
+        (lent (now (counts .exit)) (now (visited .exit)) (now (gains .exit)) (now (blocks .exit)) (now (loads .exit)) (now (presentpins .exit)) (now (presentsizes .exit)) (now (bits .exit)) (now (weights .exit)) (now (netweights .exit)) (now (firsts .exit)) n m k (r .total) aboves loadedsizes) (locals (now (marks .exit)) (now (movers .exit)) (now (origins .exit)) (r .tried) (r .kept) (r .low) (r .heaviest)) (r .turn)) ⌝ }
     ensures { λ _. ⌜ Peaked (now (gains .exit)) (now (peaks .exit)) n k ⌝ }
 {
     let x = index(v) - 1;
@@ -138,12 +117,14 @@ fn make_move(
         b,
     );
     spread(marks, bits, presentpins, firsts, presentsizes, m, x);
-    let p = lower(made, s.kept, s.low, total);
+    let heavy = heaviest(loads, k);
+    let p = keep(made, total, heavy, s.kept, s.low, s.heaviest);
     Steps {
         turn: s.turn + 1,
         tried: made,
         kept: p.kept,
         low: p.low,
+        heaviest: p.heaviest,
         total: total,
     }
 }
@@ -171,10 +152,10 @@ fn advance(
     k: usize,
     s: Steps,
 ) -> Steps
-    requires { ⌜ TurnOk (lent (now counts) (now visited) (now gains) (now blocks) (now loads) (now presentpins) (now presentsizes) (now bits) (now weights) (now netweights) (now firsts) n m k (s .total)) (locals (now marks) (now movers) (now origins) (s .tried) (s .kept) (s .low)) (s .turn) ⌝ }
+    requires { ⌜ TurnOk (lent (now counts) (now visited) (now gains) (now blocks) (now loads) (now presentpins) (now presentsizes) (now bits) (now weights) (now netweights) (now firsts) n m k (s .total)) (locals (now marks) (now movers) (now origins) (s .tried) (s .kept) (s .low) (s .heaviest)) (s .turn) ⌝ }
     requires { ⌜ Peaked (now gains) (now peaks) n k ⌝ }
-    ensures { λ r. ⌜ ((aboves loadedsizes : List ℕ) → Turned (lent (now (counts .entry)) (now (visited .entry)) (now (gains .entry)) (now (blocks .entry)) (now (loads .entry)) (now (presentpins .entry)) (now (presentsizes .entry)) (now (bits .entry)) (now (weights .entry)) (now (netweights .entry)) (now (firsts .entry)) n m k (s .total) aboves loadedsizes) (locals (now (marks .entry)) (now (movers .entry)) (now (origins .entry)) (s .tried) (s .kept) (s .low)) (now (ceilings .entry)) (s .turn)
-        (lent (now (counts .exit)) (now (visited .exit)) (now (gains .exit)) (now (blocks .exit)) (now (loads .exit)) (now (presentpins .exit)) (now (presentsizes .exit)) (now (bits .exit)) (now (weights .exit)) (now (netweights .exit)) (now (firsts .exit)) n m k (r .total) aboves loadedsizes) (locals (now (marks .exit)) (now (movers .exit)) (now (origins .exit)) (r .tried) (r .kept) (r .low)) (r .turn)) ⌝ }
+    ensures { λ r. ⌜ ((aboves loadedsizes : List ℕ) → Turned (lent (now (counts .entry)) (now (visited .entry)) (now (gains .entry)) (now (blocks .entry)) (now (loads .entry)) (now (presentpins .entry)) (now (presentsizes .entry)) (now (bits .entry)) (now (weights .entry)) (now (netweights .entry)) (now (firsts .entry)) n m k (s .total) aboves loadedsizes) (locals (now (marks .entry)) (now (movers .entry)) (now (origins .entry)) (s .tried) (s .kept) (s .low) (s .heaviest)) (now (ceilings .entry)) (s .turn)
+        (lent (now (counts .exit)) (now (visited .exit)) (now (gains .exit)) (now (blocks .exit)) (now (loads .exit)) (now (presentpins .exit)) (now (presentsizes .exit)) (now (bits .exit)) (now (weights .exit)) (now (netweights .exit)) (now (firsts .exit)) n m k (r .total) aboves loadedsizes) (locals (now (marks .exit)) (now (movers .exit)) (now (origins .exit)) (r .tried) (r .kept) (r .low) (r .heaviest)) (r .turn)) ⌝ }
     ensures { λ _. ⌜ Peaked (now (gains .exit)) (now (peaks .exit)) n k ⌝ }
 {
     match next_move(
@@ -195,6 +176,7 @@ fn advance(
             tried: s.tried,
             kept: s.kept,
             low: s.low,
+            heaviest: s.heaviest,
             total: s.total,
         },
         Pick::Move { vertex, block } => make_move(
@@ -314,6 +296,7 @@ pub fn walk(
         tried: 0,
         kept: 0,
         low: total,
+        heaviest: heaviest(loads, k),
         total: total,
     };
     while s.turn < n {

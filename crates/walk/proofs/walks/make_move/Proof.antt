@@ -52,11 +52,17 @@ spread-requires c κs =
       ok .at .covered,
     )
 
-lower-requires : tie.Need-lower-requires
-lower-requires c κs = search needs
+heaviest-requires : tie.Need-heaviest-requires
+heaviest-requires c κs =
+    let ok = c .before .before .before .before .before .before .before .before .before .before .before .before .before .before .before .before .before .before .before .before .before .before .before .before .before .before .before .before .pre .0 in
+    let moved = c .before .before .before .before .before .before .before .before .before .before .shift .ensures in
+    (moved .0 (ok .aboves) (ok .loaded) .sound (ok .h) (ok .cs) (ok .walk .block) (ok .at .sound) .loads-fit, ok .at .sound .follows .world .frame .few)
 
-add-t27 : tie.Need-add-t27
-add-t27 c = let ok = c .before .before .before .before .before .before .before .before .before .before .before .before .before .before .before .before .before .before .before .before .before .before .before .before .before .before .before .before .before .pre .0 in omega (arith, ok .turn-to, ok .at .sound .follows .room .few-vertices)
+keep-requires : tie.Need-keep-requires
+keep-requires c κs = search needs
+
+add-t28 : tie.Need-add-t28
+add-t28 c = let ok = c .before .before .before .before .before .before .before .before .before .before .before .before .before .before .before .before .before .before .before .before .before .before .before .before .before .before .before .before .before .before .before .pre .0 in omega (arith, ok .turn-to, ok .at .sound .follows .room .few-vertices)
 
 same-length : tie.Need-same-length
 same-length c = search needs
@@ -72,15 +78,16 @@ same-length-4 c = search needs
 
 returns : tie.Need-returns
 returns c =
-    let ok = c .before .before .before .before .before .before .before .before .before .before .before .before .before .before .before .before .before .before .before .before .before .before .before .before .before .before .before .before .before .pre .0 in
-    let is = c .before .before .before .before .before .before .before .before .before .before .before .before .before .before .before .before .before .before .before .index in
-    let moved = c .before .before .before .before .before .before .before .before .before .before .before .shift .ensures in
-    let marked = c .before .before .spread .ensures in
-    let prefix = c .before .lower .ensures in (
+    let ok = c .before .before .before .before .before .before .before .before .before .before .before .before .before .before .before .before .before .before .before .before .before .before .before .before .before .before .before .before .before .before .before .pre .0 in
+    let is = c .before .before .before .before .before .before .before .before .before .before .before .before .before .before .before .before .before .before .before .before .before .index in
+    let moved = c .before .before .before .before .before .before .before .before .before .before .before .before .before .shift .ensures in
+    let marked = c .before .before .before .before .spread .ensures in
+    let heavy = c .before .before .heaviest .ensures in
+    let prefix = c .before .keep .ensures in (
       λ aboves loaded. record {
         is = λ h cs w A. take-law (is .result - 1) A (take-open ok (is .result - 1) (ap (λ (z : ℕ). z - 1) (is .ensures)))
             (omega (arith, ok .v-from, is .ensures)) (omega (arith, ok .tried-to, ok .turn-to, ok .at .sound .follows .room .few-vertices)) refl
-            (moved .0 aboves loaded) (marked .0) (marked .1) (record { xs-are = refl; ys-are = refl; len-is = refl }) (prefix .0) (prefix .1);
+            (moved .0 aboves loaded) (marked .0) (marked .1) (record { xs-are = refl; ys-are = refl; len-is = refl }) heavy (prefix .0) (prefix .1);
         turn-is = refl;
         tried-is = refl;
         keeps = moved .0 aboves loaded .keeps;
@@ -103,8 +110,9 @@ make-move-spec =
     element-write-origins
     shift-requires
     spread-requires
-    lower-requires
-    add-t27
+    heaviest-requires
+    keep-requires
+    add-t28
     same-length
     same-length-2
     same-length-3

@@ -14,7 +14,7 @@ use Rattle.walk.proofs.walks.walk.Tie as tie
 abbrev Inv-loop : tie.InvT-loop
 Inv-loop counts₀ visited₀ gains₀ blocks₀ loads₀ pins sizes bits weights netweights firsts ceilings n m k total u v marks₀ peaks₀ movers₀ origins₀ s₀ counts visited gains blocks loads marks peaks movers origins s =
     (s .turn ≤ n) × (s .tried ≤ s .turn)
-    × ((aboves loaded : List ℕ) → Going (lent counts₀ visited₀ gains₀ blocks₀ loads₀ pins sizes bits weights netweights firsts n m k total aboves loaded) ceilings u v (s .turn) (lent counts visited gains blocks loads pins sizes bits weights netweights firsts n m k (s .total) aboves loaded) (locals marks movers origins (s .tried) (s .kept) (s .low)))
+    × ((aboves loaded : List ℕ) → Going (lent counts₀ visited₀ gains₀ blocks₀ loads₀ pins sizes bits weights netweights firsts n m k total aboves loaded) ceilings u v (s .turn) (lent counts visited gains blocks loads pins sizes bits weights netweights firsts n m k (s .total) aboves loaded) (locals marks movers origins (s .tried) (s .kept) (s .low) (s .heaviest)))
     × Peaked gains peaks n k
     × (length counts ≡ length counts₀) × (length visited ≡ length visited₀) × (length gains ≡ length gains₀) × (length blocks ≡ length blocks₀)
 
@@ -37,17 +37,22 @@ survey-requires c κs =
     let frame = start .pre .sound .follows .world .frame in
     (length-replicate {A = ℤ} 16 (pos 0), frame .few-vertices, frame .few, frame .gains-fit)
 
+heaviest-requires : tie.Need-heaviest-requires Inv-loop μ-loop
+heaviest-requires c κs =
+    let ok = c .before .before .before .before .before .before .before .before .before .before .before .before .before .before .before .before .before .pre in
+    (ok .sound .loads-fit, ok .sound .follows .world .frame .few)
+
 loop-holds : tie.Need-loop-holds Inv-loop μ-loop
 loop-holds c =
-    let a = c .before .before .before .before .before .before .before .before .before .before .before .before .before .before .before .before .args in
-    let ok = c .before .before .before .before .before .before .before .before .before .before .before .before .before .before .before .before .pre in
-    let one = c .before .before .before .before .before .mark-vertex .ensures in
-    let two = c .before .before .before .mark-vertex2 .ensures in
+    let a = c .before .before .before .before .before .before .before .before .before .before .before .before .before .before .before .before .before .before .args in
+    let ok = c .before .before .before .before .before .before .before .before .before .before .before .before .before .before .before .before .before .before .pre in
+    let one = c .before .before .before .before .before .before .before .mark-vertex .ensures in
+    let two = c .before .before .before .before .before .mark-vertex2 .ensures in
     let fit = length-replicate {A = ℕ} 1024 0 in (
       omega arith,
       omega arith,
-      λ aboves loaded. going-none (a .u) (a .v) (one .0) (two .0) (one .1) (two .1) _ _ (ok .u-in) (ok .u-on) (ok .v-in) (ok .v-on) fit fit refl,
-      c .survey .ensures,
+      λ aboves loaded. going-none (a .u) (a .v) (one .0) (two .0) (one .1) (two .1) _ _ (ok .u-in) (ok .u-on) (ok .v-in) (ok .v-on) fit fit refl (c .heaviest .ensures),
+      c .before .before .survey .ensures,
       refl,
       refl,
       refl,
@@ -58,18 +63,18 @@ advance-requires : tie.Need-advance-requires Inv-loop μ-loop
 advance-requires c κs =
     let at-if1 = c .before .before .before .before .before .before .before .before .before in
     let at-loop = at-if1 .before .before in
-    let start = at-loop .before .before .before .before .before .before .before .before .before .before .before .before .before .before .before .before .before in
+    let start = at-loop .before .before .before .before .before .before .before .before .before .before .before .before .before .before .before .before .before .before .before in
     let l = at-loop .loop in
     (turn-asks (start .pre) (l .inv .2) (at-if1 .if1 .taken) (l .inv .1), l .inv .3)
 
 loop-less : tie.Need-loop-less Inv-loop μ-loop
 loop-less c =
-    let ok = c .before .before .before .before .before .before .before .before .before .before .before .before .before .before .before .before .before .before .before .before .before .before .before .before .before .before .before .before .before .before .before .before .before .before .before .before .pre in
+    let ok = c .before .before .before .before .before .before .before .before .before .before .before .before .before .before .before .before .before .before .before .before .before .before .before .before .before .before .before .before .before .before .before .before .before .before .before .before .before .before .pre in
     omega (arith, c .before .before .before .before .before .before .before .advance .ensures .0 (ok .aboves) (ok .loaded) .on, c .before .before .before .before .before .before .before .before .before .before .before .before .before .before .before .before .before .if1)
 
 loop-again : tie.Need-loop-again Inv-loop μ-loop
 loop-again c =
-    let ok = c .before .before .before .before .before .before .before .before .before .before .before .before .before .before .before .before .before .before .before .before .before .before .before .before .before .before .before .before .before .before .before .before .before .before .before .before .pre in
+    let ok = c .before .before .before .before .before .before .before .before .before .before .before .before .before .before .before .before .before .before .before .before .before .before .before .before .before .before .before .before .before .before .before .before .before .before .before .before .before .before .pre in
     let l = c .before .before .before .before .before .before .before .before .before .before .before .before .before .before .before .before .before .before .before .loop in
     let turned = c .before .before .before .before .before .before .before .advance .ensures in
     let lengths = c .before .before .before .before .before .before .before .advance .kept in
@@ -87,7 +92,7 @@ loop-again c =
 rewind-requires : tie.Need-rewind-requires Inv-loop μ-loop
 rewind-requires c κs =
     let at-loop = c .before .before .before .before .before .before .before .before .before in
-    let start = at-loop .before .before .before .before .before .before .before .before .before .before .before .before .before .before .before .before .before in
+    let start = at-loop .before .before .before .before .before .before .before .before .before .before .before .before .before .before .before .before .before .before .before in
     let l = at-loop .loop in end-asks (start .pre) (l .inv .2) (l .inv .0) (l .inv .1)
 
 same-length : tie.Need-same-length Inv-loop μ-loop
@@ -118,6 +123,7 @@ walk-spec =
     mark-vertex-requires
     mark-vertex-requires-2
     survey-requires
+    heaviest-requires
     loop-holds
     advance-requires
     loop-less
