@@ -199,6 +199,15 @@ impl<'a> View<'a> {
         self.session_bales[session]
     }
 
+    /// The bales of the session that has most of them.
+    pub fn heaviest_session(&self) -> u64 {
+        let sessions = self.standing.catalogue.session_numbers();
+        sessions
+            .map(|session| self.session_bales(session))
+            .max()
+            .expect("there are at least two sessions")
+    }
+
     /// The number of a buyer's present marks in a session.
     pub fn count(&self, buyer: usize, session: usize) -> u64 {
         self.counts[buyer * (self.standing.catalogue.sessions + 1) + session]

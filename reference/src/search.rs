@@ -7,7 +7,7 @@ use crate::catalogue::Catalogue;
 use crate::machine::Machine;
 use crate::measure::{fair_share, Standing, View};
 
-/// A walk stops this many moves after the first prefix of lowest total.
+/// A walk stops this many moves after the prefix that it would keep.
 const PATIENCE: usize = 25;
 
 /// The number of moves a walk made and the length of the prefix it kept.
@@ -42,13 +42,14 @@ fn best_pair(machine: &Machine, view: &View, lots: &[usize]) -> Option<Pair> {
     best
 }
 
-/// The length of the first prefix of lowest total; `totals[n]` is the total after n moves.
-fn first_lowest(totals: &[u64]) -> usize {
-    let lowest = totals.iter().min().expect("the empty prefix has a total");
-    totals
+/// The length of the prefix to keep: of lowest total, then of lowest heaviest session, then the
+/// first. `prefixes[n]` has the total and the heaviest session's bales after n moves.
+fn kept_prefix(prefixes: &[(u64, u64)]) -> usize {
+    let best = prefixes.iter().min().expect("the empty prefix is there");
+    prefixes
         .iter()
-        .position(|total| total == lowest)
-        .expect("the lowest total is one of them")
+        .position(|prefix| prefix == best)
+        .expect("the best prefix is one of them")
 }
 
 /// A walk from the board lots u and v.
@@ -57,9 +58,9 @@ pub fn walk(machine: &mut Machine, u: usize, v: usize) -> Walk {
     let mut view = View::of(&standing, &machine.sessions);
     let mut candidates = BTreeSet::from([u, v]);
     let mut moves: Vec<(usize, usize)> = Vec::new();
-    let mut totals = vec![view.total()];
+    let mut prefixes = vec![(view.total(), view.heaviest_session())];
 
-    while moves.len() - first_lowest(&totals) < PATIENCE {
+    while moves.len() - kept_prefix(&prefixes) < PATIENCE {
         let unmoved: Vec<usize> = candidates
             .iter()
             .copied()
@@ -71,13 +72,13 @@ pub fn walk(machine: &mut Machine, u: usize, v: usize) -> Walk {
         moves.push((pair.lot, machine.sessions[pair.lot]));
         machine.sessions[pair.lot] = pair.session;
         view = View::of(&standing, &machine.sessions);
-        totals.push(view.total());
+        prefixes.push((view.total(), view.heaviest_session()));
         for &buyer in standing.buyers(pair.lot) {
             candidates.extend(standing.present(buyer));
         }
     }
 
-    let kept = first_lowest(&totals);
+    let kept = kept_prefix(&prefixes);
     for &(lot, old_session) in moves[kept..].iter().rev() {
         machine.sessions[lot] = old_session;
     }

@@ -167,6 +167,12 @@ fn check_calls(catalogue: &Catalogue, list: &[Call]) {
     check_gains(&machine);
 }
 
+/// The bales of the machine's heaviest session.
+fn heaviest_session(machine: &Machine) -> u64 {
+    let standing = machine.standing();
+    View::of(&standing, &machine.sessions).heaviest_session()
+}
+
 fn check_answer(before: &Machine, old_total: u64, machine: &Machine, answer: Answer) {
     if !matches!(answer, Answer::M { .. } | Answer::B { .. }) {
         assert!(machine.record.is_empty());
@@ -193,8 +199,10 @@ fn check_answer(before: &Machine, old_total: u64, machine: &Machine, answer: Ans
         Answer::B { total, .. } => assert_eq!(total, machine.total()),
         Answer::W { tried, kept, total } => {
             assert!(kept <= tried && tried <= kept + 25);
-            assert!(total <= old_total);
-            assert_eq!(kept == 0, total == old_total);
+            let old = (old_total, heaviest_session(before));
+            let new = (total, heaviest_session(machine));
+            assert!(new <= old, "a lower total, or a lighter session");
+            assert_eq!(kept == 0, new == old);
             let moved = |lot: &usize| machine.sessions[*lot] != before.sessions[*lot];
             let changed = machine.catalogue.lot_numbers().filter(moved).count();
             assert_eq!(changed as u64, kept);
