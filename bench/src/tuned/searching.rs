@@ -4,7 +4,7 @@
 use super::bits::{insert, ones, Bits, WORDS};
 use super::board::Board;
 
-/// A walk stops this many moves after the first prefix of lowest total.
+/// A walk stops this many moves after the prefix that it would keep.
 const PATIENCE: usize = 25;
 
 /// Below every gain, and above a gain to a closed block.
@@ -56,7 +56,13 @@ impl<const B: usize> Board<B> {
         (best.gain > NO_GAIN).then_some(best)
     }
 
-    /// A walk from the board vertices u and v.
+    /// The load of the heaviest block.
+    fn heaviest(&self) -> u32 {
+        self.loads.iter().fold(0, |top, &load| top.max(load))
+    }
+
+    /// A walk from the board vertices u and v. Of its prefixes that of lowest total is kept, then of
+    /// lowest heaviest block, then the first.
     pub fn walk(&mut self, u: usize, v: usize) -> Walk {
         let mut candidates: Bits = [0; WORDS];
         insert(&mut candidates, u);
@@ -66,7 +72,7 @@ impl<const B: usize> Board<B> {
         let mut spread: Bits = [0; WORDS];
         // Moved vertices with their old blocks; each moves once.
         let mut moves = [(0u16, 0u8); 1024];
-        let (mut tried, mut kept, mut lowest) = (0, 0, self.total);
+        let (mut tried, mut kept, mut lowest) = (0, 0, (self.total, self.heaviest()));
         while tried - kept < PATIENCE {
             let Some(pair) = self.best_pair(&candidates) else {
                 break;
@@ -89,9 +95,11 @@ impl<const B: usize> Board<B> {
             for (word, gone) in candidates.iter_mut().zip(&moved) {
                 *word &= !gone;
             }
-            if self.total < lowest {
-                lowest = self.total;
-                kept = tried;
+            if self.total <= lowest.0 {
+                let reached = (self.total, self.heaviest());
+                if reached < lowest {
+                    (kept, lowest) = (tried, reached);
+                }
             }
         }
         for &(x, old) in moves[kept..tried].iter().rev() {
