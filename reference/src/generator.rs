@@ -94,10 +94,13 @@ pub enum Kind {
     Large,
     /// A cap that is an exact half before it is rounded, and sessions near it.
     HalfCaps,
+    /// Most lots in session 1 and few lists, some of all lots, so that walks are long and have
+    /// prefixes of equal total that are not equally heavy.
+    Lopsided,
 }
 
 /// All kinds with the names that the program takes.
-pub const KINDS: [(&str, Kind); 20] = [
+pub const KINDS: [(&str, Kind); 21] = [
     ("mixed", Kind::Mixed),
     ("one-lot", Kind::OneLot),
     ("no-buyers", Kind::NoBuyers),
@@ -118,6 +121,7 @@ pub const KINDS: [(&str, Kind); 20] = [
     ("bad-calls", Kind::BadCalls),
     ("large", Kind::Large),
     ("half-caps", Kind::HalfCaps),
+    ("lopsided", Kind::Lopsided),
 ];
 
 /// An accepted sale of a kind that the seed settles; mostly a small one.
@@ -197,7 +201,7 @@ fn catalogue(random: &mut Random, kind: Kind) -> Catalogue {
     let sessions = match kind {
         Kind::TwoSessions => 2,
         Kind::SixteenSessions => 16,
-        Kind::Walks => random.between(2, 3) as usize,
+        Kind::Walks | Kind::Lopsided => random.between(2, 3) as usize,
         _ if random.in_hundred(60) => random.between(2, 4) as usize,
         _ => random.between(2, 16) as usize,
     };
@@ -205,7 +209,7 @@ fn catalogue(random: &mut Random, kind: Kind) -> Catalogue {
         Kind::OneLot => 1,
         Kind::Large => random.between(150, 400) as usize,
         Kind::SixteenSessions | Kind::Rounds => random.between(8, 70) as usize,
-        Kind::Walks => random.between(5, 50) as usize,
+        Kind::Walks | Kind::Lopsided => random.between(5, 50) as usize,
         _ if random.in_hundred(75) => random.between(1, 14) as usize,
         _ => random.between(10, 60) as usize,
     };
@@ -226,6 +230,7 @@ fn catalogue(random: &mut Random, kind: Kind) -> Catalogue {
         slack: match kind {
             Kind::Tight => 0,
             Kind::HalfCaps => 500,
+            Kind::Lopsided => 1_000,
             Kind::Walks | Kind::Rounds => random.between(100, 1_000),
             _ => *random.pick(&[0, 20, 100, 200, 500, 999, 1_000]),
         },
@@ -234,6 +239,9 @@ fn catalogue(random: &mut Random, kind: Kind) -> Catalogue {
     };
     if kind == Kind::HalfCaps {
         half_the_cap(random, &mut made);
+    }
+    if kind == Kind::Lopsided {
+        fill_first_session(random, &mut made);
     }
     settle_draft(&mut made);
     made
@@ -246,6 +254,22 @@ fn half_the_cap(random: &mut Random, made: &mut Catalogue) {
     }
     while measure::fair_share(made).is_multiple_of(2) {
         made.lots[0].bales += 1;
+    }
+}
+
+/// Lots of 1 to 3 bales go to session 1 while it has space, all but some of them.
+fn fill_first_session(random: &mut Random, made: &mut Catalogue) {
+    for lot in &mut made.lots {
+        lot.bales = random.between(1, 3);
+        lot.session = made.sessions;
+    }
+    let cap = measure::cap(made);
+    let mut filled = 0;
+    for lot in &mut made.lots {
+        if filled + lot.bales <= cap && random.in_hundred(90) {
+            lot.session = 1;
+            filled += lot.bales;
+        }
     }
 }
 
@@ -283,6 +307,7 @@ pub(crate) fn settle_draft(made: &mut Catalogue) {
 fn mark_lists(random: &mut Random, kind: Kind, lots: usize) -> Vec<Buyer> {
     let buyer_count = match kind {
         Kind::NoBuyers => 0,
+        Kind::Lopsided => random.between(0, 5) as usize,
         Kind::Large => random.between(100, 400) as usize,
         Kind::Walks | Kind::Rounds | Kind::SixteenSessions => random.between(5, 60) as usize,
         _ if random.in_hundred(80) => random.between(0, 15) as usize,
@@ -295,6 +320,7 @@ fn mark_lists(random: &mut Random, kind: Kind, lots: usize) -> Vec<Buyer> {
         let weight = random.between(1, heaviest);
         let marks = match kind {
             Kind::SingleMarks => random.some_lots(lots, 1),
+            Kind::Lopsided if random.in_hundred(50) => whole.clone(),
             Kind::Broad => {
                 let fewest = lots.saturating_sub(2).max(1) as u64;
                 let count = random.between(fewest, lots as u64) as usize;
@@ -379,6 +405,7 @@ fn calls_of_kind(random: &mut Random, catalogue: &Catalogue, kind: Kind) -> Vec<
             shaped(pairs, random)
         }
         Kind::Walks => steered_calls(random, catalogue, 14, &[14, 10, 26, 16, 28, 2, 0, 4]),
+        Kind::Lopsided => steered_calls(random, catalogue, 10, &[20, 10, 20, 10, 35, 0, 5, 0]),
         Kind::Rounds => {
             let mut calls = steered_calls(random, catalogue, 4, &[0, 0, 50, 10, 20, 20, 0, 0]);
             calls.push(Call::A);

@@ -46,6 +46,25 @@ fn sales_of_half_caps_have_them() {
 }
 
 #[test]
+fn walks_of_lopsided_sales_keep_lighter_prefixes_of_equal_total() {
+    let (mut lighter, mut far) = (0, 0);
+    for seed in 0..50 {
+        let sale =
+            parse(&sale_of_kind(seed, Kind::Lopsided)).expect("a generated sale is accepted");
+        let mut machine = Machine::fresh(&sale.catalogue);
+        for call in &sale.calls {
+            let old_total = machine.total();
+            if let Ok(Answer::W { tried, kept, total }) = machine.call(call) {
+                lighter += usize::from(kept > 0 && total == old_total);
+                far += usize::from(tried > 25);
+            }
+        }
+    }
+    assert!(lighter > 50, "{lighter}");
+    assert!(far > 10, "{far}");
+}
+
+#[test]
 fn damaged_files_are_refused_on_a_line_there_is_or_the_next() {
     let mut numbers = BTreeSet::new();
     for seed in 0..2_000 {
