@@ -13,7 +13,7 @@ pub struct Prefix {
     pub heaviest: u64,
 }
 
-// The larger of two weights. The compiler makes a conditional move of it, so that `heaviest` has no branch for each block.
+// The larger of two weights. The compiler makes no branch of it, so that `heaviest` has none for each block.
 fn larger(a: u64, b: u64) -> u64
     ensures { λ r. ⌜ r ≡ max a b ⌝ }
 {
