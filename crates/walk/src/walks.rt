@@ -26,10 +26,10 @@ pub struct Walked {
     pub total: u32,
 }
 
-// A walk on its way. `tried` counts the moves made; `turn` does too, and is the number of vertices once the walk has ended. `kept`, `low` and
-// `heaviest` are of the kept prefix: its length, its metric, and the weight of its heaviest block.
+// A walk on its way. `tried` counts the moves made. `spent` counts the turns that are spent of the n that a walk has at most: one that ends has
+// spent them all. `kept`, `low` and `heaviest` are of the kept prefix: its length, its metric, and the weight of its heaviest block.
 struct Steps {
-    turn: usize,
+    spent: usize,
     tried: usize,
     kept: usize,
     low: u32,
@@ -85,10 +85,10 @@ fn make_move(
     b: u16,
     s: Steps,
 ) -> Steps
-    requires { ⌜ TakeOk (lent (now counts) (now visited) (now gains) (now blocks) (now loads) (now presentpins) (now presentsizes) (now bits) (now weights) (now netweights) (now firsts) n m k (s .total)) (locals (now marks) (now movers) (now origins) (s .tried) (s .kept) (s .low) (s .heaviest)) (s .turn) v b ⌝ }
+    requires { ⌜ TakeOk (lent (now counts) (now visited) (now gains) (now blocks) (now loads) (now presentpins) (now presentsizes) (now bits) (now weights) (now netweights) (now firsts) n m k (s .total)) (locals (now marks) (now movers) (now origins) (s .tried) (s .kept) (s .low) (s .heaviest)) (s .spent) v b ⌝ }
     requires { ⌜ Peaked (now gains) (now peaks) n k ⌝ }
-    ensures { λ r. ⌜ ((aboves loadedsizes : List ℕ) → Took (lent (now (counts .entry)) (now (visited .entry)) (now (gains .entry)) (now (blocks .entry)) (now (loads .entry)) (now (presentpins .entry)) (now (presentsizes .entry)) (now (bits .entry)) (now (weights .entry)) (now (netweights .entry)) (now (firsts .entry)) n m k (s .total) aboves loadedsizes) (locals (now (marks .entry)) (now (movers .entry)) (now (origins .entry)) (s .tried) (s .kept) (s .low) (s .heaviest)) (s .turn) v b
-        (lent (now (counts .exit)) (now (visited .exit)) (now (gains .exit)) (now (blocks .exit)) (now (loads .exit)) (now (presentpins .exit)) (now (presentsizes .exit)) (now (bits .exit)) (now (weights .exit)) (now (netweights .exit)) (now (firsts .exit)) n m k (r .total) aboves loadedsizes) (locals (now (marks .exit)) (now (movers .exit)) (now (origins .exit)) (r .tried) (r .kept) (r .low) (r .heaviest)) (r .turn)) ⌝ }
+    ensures { λ r. ⌜ ((aboves loadedsizes : List ℕ) → Took (lent (now (counts .entry)) (now (visited .entry)) (now (gains .entry)) (now (blocks .entry)) (now (loads .entry)) (now (presentpins .entry)) (now (presentsizes .entry)) (now (bits .entry)) (now (weights .entry)) (now (netweights .entry)) (now (firsts .entry)) n m k (s .total) aboves loadedsizes) (locals (now (marks .entry)) (now (movers .entry)) (now (origins .entry)) (s .tried) (s .kept) (s .low) (s .heaviest)) (s .spent) v b
+        (lent (now (counts .exit)) (now (visited .exit)) (now (gains .exit)) (now (blocks .exit)) (now (loads .exit)) (now (presentpins .exit)) (now (presentsizes .exit)) (now (bits .exit)) (now (weights .exit)) (now (netweights .exit)) (now (firsts .exit)) n m k (r .total) aboves loadedsizes) (locals (now (marks .exit)) (now (movers .exit)) (now (origins .exit)) (r .tried) (r .kept) (r .low) (r .heaviest)) (r .spent)) ⌝ }
     ensures { λ _. ⌜ Peaked (now (gains .exit)) (now (peaks .exit)) n k ⌝ }
 {
     let x = index(v) - 1;
@@ -120,7 +120,7 @@ fn make_move(
     let heavy = heaviest(loads, k);
     let p = keep(made, total, heavy, s.kept, s.low, s.heaviest);
     Steps {
-        turn: s.turn + 1,
+        spent: s.spent + 1,
         tried: made,
         kept: p.kept,
         low: p.low,
@@ -152,10 +152,10 @@ fn advance(
     k: usize,
     s: Steps,
 ) -> Steps
-    requires { ⌜ TurnOk (lent (now counts) (now visited) (now gains) (now blocks) (now loads) (now presentpins) (now presentsizes) (now bits) (now weights) (now netweights) (now firsts) n m k (s .total)) (locals (now marks) (now movers) (now origins) (s .tried) (s .kept) (s .low) (s .heaviest)) (s .turn) ⌝ }
+    requires { ⌜ TurnOk (lent (now counts) (now visited) (now gains) (now blocks) (now loads) (now presentpins) (now presentsizes) (now bits) (now weights) (now netweights) (now firsts) n m k (s .total)) (locals (now marks) (now movers) (now origins) (s .tried) (s .kept) (s .low) (s .heaviest)) (s .spent) ⌝ }
     requires { ⌜ Peaked (now gains) (now peaks) n k ⌝ }
-    ensures { λ r. ⌜ ((aboves loadedsizes : List ℕ) → Turned (lent (now (counts .entry)) (now (visited .entry)) (now (gains .entry)) (now (blocks .entry)) (now (loads .entry)) (now (presentpins .entry)) (now (presentsizes .entry)) (now (bits .entry)) (now (weights .entry)) (now (netweights .entry)) (now (firsts .entry)) n m k (s .total) aboves loadedsizes) (locals (now (marks .entry)) (now (movers .entry)) (now (origins .entry)) (s .tried) (s .kept) (s .low) (s .heaviest)) (now (ceilings .entry)) (s .turn)
-        (lent (now (counts .exit)) (now (visited .exit)) (now (gains .exit)) (now (blocks .exit)) (now (loads .exit)) (now (presentpins .exit)) (now (presentsizes .exit)) (now (bits .exit)) (now (weights .exit)) (now (netweights .exit)) (now (firsts .exit)) n m k (r .total) aboves loadedsizes) (locals (now (marks .exit)) (now (movers .exit)) (now (origins .exit)) (r .tried) (r .kept) (r .low) (r .heaviest)) (r .turn)) ⌝ }
+    ensures { λ r. ⌜ ((aboves loadedsizes : List ℕ) → Turned (lent (now (counts .entry)) (now (visited .entry)) (now (gains .entry)) (now (blocks .entry)) (now (loads .entry)) (now (presentpins .entry)) (now (presentsizes .entry)) (now (bits .entry)) (now (weights .entry)) (now (netweights .entry)) (now (firsts .entry)) n m k (s .total) aboves loadedsizes) (locals (now (marks .entry)) (now (movers .entry)) (now (origins .entry)) (s .tried) (s .kept) (s .low) (s .heaviest)) (now (ceilings .entry)) (s .spent)
+        (lent (now (counts .exit)) (now (visited .exit)) (now (gains .exit)) (now (blocks .exit)) (now (loads .exit)) (now (presentpins .exit)) (now (presentsizes .exit)) (now (bits .exit)) (now (weights .exit)) (now (netweights .exit)) (now (firsts .exit)) n m k (r .total) aboves loadedsizes) (locals (now (marks .exit)) (now (movers .exit)) (now (origins .exit)) (r .tried) (r .kept) (r .low) (r .heaviest)) (r .spent)) ⌝ }
     ensures { λ _. ⌜ Peaked (now (gains .exit)) (now (peaks .exit)) n k ⌝ }
 {
     match next_move(
@@ -172,7 +172,7 @@ fn advance(
         s.kept,
     ) {
         Pick::Nothing => Steps {
-            turn: n,
+            spent: n,
             tried: s.tried,
             kept: s.kept,
             low: s.low,
@@ -292,14 +292,14 @@ pub fn walk(
     let mut movers = [0u16; 1024];
     let mut origins = [0u16; 1024];
     let mut s = Steps {
-        turn: 0,
+        spent: 0,
         tried: 0,
         kept: 0,
         low: total,
         heaviest: heaviest(loads, k),
         total: total,
     };
-    while s.turn < n {
+    while s.spent < n {
         s = advance(
             counts,
             visited,

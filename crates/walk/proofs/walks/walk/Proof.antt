@@ -13,13 +13,13 @@ use Rattle.walk.proofs.walks.walk.Tie as tie
 
 abbrev Inv-loop : tie.InvT-loop
 Inv-loop counts₀ visited₀ gains₀ blocks₀ loads₀ pins sizes bits weights netweights firsts ceilings n m k total u v marks₀ peaks₀ movers₀ origins₀ s₀ counts visited gains blocks loads marks peaks movers origins s =
-    (s .turn ≤ n) × (s .tried ≤ s .turn)
-    × ((aboves loaded : List ℕ) → Going (lent counts₀ visited₀ gains₀ blocks₀ loads₀ pins sizes bits weights netweights firsts n m k total aboves loaded) ceilings u v (s .turn) (lent counts visited gains blocks loads pins sizes bits weights netweights firsts n m k (s .total) aboves loaded) (locals marks movers origins (s .tried) (s .kept) (s .low) (s .heaviest)))
+    (s .spent ≤ n) × (s .tried ≤ s .spent)
+    × ((aboves loaded : List ℕ) → Going (lent counts₀ visited₀ gains₀ blocks₀ loads₀ pins sizes bits weights netweights firsts n m k total aboves loaded) ceilings u v (s .spent) (lent counts visited gains blocks loads pins sizes bits weights netweights firsts n m k (s .total) aboves loaded) (locals marks movers origins (s .tried) (s .kept) (s .low) (s .heaviest)))
     × Peaked gains peaks n k
     × (length counts ≡ length counts₀) × (length visited ≡ length visited₀) × (length gains ≡ length gains₀) × (length blocks ≡ length blocks₀)
 
 abbrev μ-loop : tie.MeasureT-loop
-μ-loop counts₀ visited₀ gains₀ blocks₀ loads₀ pins sizes bits weights netweights firsts ceilings n m k total u v marks₀ peaks₀ movers₀ origins₀ s₀ counts visited gains blocks loads marks peaks movers origins s = n - s .turn
+μ-loop counts₀ visited₀ gains₀ blocks₀ loads₀ pins sizes bits weights netweights firsts ceilings n m k total u v marks₀ peaks₀ movers₀ origins₀ s₀ counts visited gains blocks loads marks peaks movers origins s = n - s .spent
 
 mark-vertex-requires : tie.Need-mark-vertex-requires Inv-loop μ-loop
 mark-vertex-requires c κs =
