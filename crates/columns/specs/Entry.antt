@@ -1,6 +1,6 @@
 -- The engine's answer in model's terms: is lent memory long enough, and what is promised either way. Rests on sale's Files and on model's
 -- Memory. Assumes nothing.
-use Prim.Native.Nat.{ℕ, _≤_}
+use Prim.Native.Nat.{ℕ, _*_, _≤_}
 use native.Mathlib.Omega.{arith}
 use mathlib.Core.Path.{_≡_, refl, sym, ap, _∙_, subst}
 use mathlib.Core.Bool.{Bool, true, false, _&&_}
@@ -10,7 +10,7 @@ use lib.Dec.{leb}
 use lib.ListN.{length, drop, length-append}
 use lib.IntN.{ℤ}
 use Rattle.laws.specs.Choice.{and-left, and-right}
-use Rattle.model.specs.Catalogue.{Limits, mainLimits}
+use Rattle.model.specs.Catalogue.{Limits}
 use Rattle.model.specs.Grammar.{Reading, parse}
 use Rattle.model.specs.Engine.{outcome}
 use Rattle.model.specs.Memory.{Tables as Lent, Memory, longLists, longTables, longMemory, Worked, Served, Serves}
@@ -42,24 +42,26 @@ lists-of t q =
     let p = cut (leb 8192 (length (t .loadedPins))) 8192 (length (t .presentPins)) (f .0) in
     (leb-true 8192 (length (t .loadedPins)) (p .0), p .1, f .1, z .1, s .1)
 
-pub long-is : (out : List ℕ) (t : Lists) (counts : List ℕ) (gains : List ℤ) (visited : List ℕ) {r : Bool} → r ≡ longMemory mainLimits (memory out (lent t counts gains visited)) → r ≡ true → Long mainLimits out t counts gains visited
+pub long-is : (limits : Limits) (out : List ℕ) (t : Lists) (counts : List ℕ) (gains : List ℤ) (visited : List ℕ) {r : Bool} → limits .vertexLimit ≤ 1024 → limits .blockLimit ≤ 16
+    → r ≡ longMemory limits (memory out (lent t counts gains visited)) → r ≡ true → Long limits out t counts gains visited
 unfolding longMemory longTables
-long-is out t counts gains visited e q =
+long-is limits out t counts gains visited short narrow e q =
     let m : Lent = lent t counts gains visited in
-    let vs : Bool = leb 1024 (length (t .weights)) && leb 1024 (length (t .blocks)) && leb 1024 (length (t .aboves)) in
-    let all : (leb 60000 (length out) && (vs && longLists m && leb 16384 (length counts) && leb 16384 (length gains) && leb 1024 (length visited))) ≡ true = sym e ∙ q in
-    let v = cut (vs && longLists m && leb 16384 (length counts) && leb 16384 (length gains)) 1024 (length visited) (and-right (leb 60000 (length out)) _ all) in
-    let g = cut (vs && longLists m && leb 16384 (length counts)) 16384 (length gains) (v .0) in
+    let n : ℕ = limits .vertexLimit in
+    let vs : Bool = leb n (length (t .weights)) && leb n (length (t .blocks)) && leb n (length (t .aboves)) in
+    let all : (leb 60000 (length out) && (vs && longLists m && leb 16384 (length counts) && leb (16 * n) (length gains) && leb 1024 (length visited))) ≡ true = sym e ∙ q in
+    let v = cut (vs && longLists m && leb 16384 (length counts) && leb (16 * n) (length gains)) 1024 (length visited) (and-right (leb 60000 (length out)) _ all) in
+    let g = cut (vs && longLists m && leb 16384 (length counts)) (16 * n) (length gains) (v .0) in
     let c = cut (vs && longLists m) 16384 (length counts) (g .0) in
     let l = lists-of m (and-right vs (longLists m) (c .0)) in
-    let a = cut (leb 1024 (length (t .weights)) && leb 1024 (length (t .blocks))) 1024 (length (t .aboves)) (and-left vs (longLists m) (c .0)) in
-    let b = cut (leb 1024 (length (t .weights))) 1024 (length (t .blocks)) (a .0) in
+    let a = cut (leb n (length (t .weights)) && leb n (length (t .blocks))) n (length (t .aboves)) (and-left vs (longLists m) (c .0)) in
+    let b = cut (leb n (length (t .weights))) n (length (t .blocks)) (a .0) in
     record {
-      narrow = omega arith;
-      short = omega arith;
+      narrow = narrow;
+      short = short;
       spacious = leb-true 60000 (length out) (and-left (leb 60000 (length out)) _ all);
       lists-long = record {
-        weights = leb-true 1024 (length (t .weights)) (b .0);
+        weights = leb-true n (length (t .weights)) (b .0);
         blocks = b .1;
         aboves = a .1;
         loadedPins = l .0;
@@ -73,18 +75,18 @@ long-is out t counts gains visited e q =
       visited-long = v .1;
     }
 
-pub too-short : (file : List ℕ) (m : Memory) {r : Bool} → r ≡ longMemory mainLimits m → r ≡ false → ServesLots mainLimits file m m 8 0 0
-too-short file m e q = record {
-  serves = subst (λ (b : Bool). Served b (parse mainLimits file) m m 8 0) (sym (sym e ∙ q)) (record { code-is = refl; nothing = refl; kept = refl });
-  lots-are = ap (λ (b : Bool). lotsWritten b (parse mainLimits file)) (sym (sym e ∙ q));
-}
+module _ (limits : Limits) (file : List ℕ) (m : Memory) {r : Bool} (e : r ≡ longMemory limits m) where
+  pub too-short : r ≡ false → ServesLots limits file m m 8 0 0
+  too-short q = record {
+    serves = subst (λ (b : Bool). Served b (parse limits file) m m 8 0) (sym (sym e ∙ q)) (record { code-is = refl; nothing = refl; kept = refl });
+    lots-are = ap (λ (b : Bool). lotsWritten b (parse limits file)) (sym (sym e ∙ q));
+  }
 
-pub served : (file : List ℕ) (m m′ : Memory) {code bytes lots : ℕ} {r : Bool} → r ≡ longMemory mainLimits m → r ≡ true → Worked (parse mainLimits file) m m′ code bytes × (lots ≡ lotsIn (parse mainLimits file))
-    → ServesLots mainLimits file m m′ code bytes lots
-served file m m′ {code} {bytes} e q w = record {
-  serves = subst (λ (b : Bool). Served b (parse mainLimits file) m m′ code bytes) (sym (sym e ∙ q)) (w .0);
-  lots-are = w .1 ∙ ap (λ (b : Bool). lotsWritten b (parse mainLimits file)) (sym (sym e ∙ q));
-}
+  pub served : (m′ : Memory) {code bytes lots : ℕ} → r ≡ true → Worked (parse limits file) m m′ code bytes × (lots ≡ lotsIn (parse limits file)) → ServesLots limits file m m′ code bytes lots
+  served m′ {code} {bytes} q w = record {
+    serves = subst (λ (b : Bool). Served b (parse limits file) m m′ code bytes) (sym (sym e ∙ q)) (w .0);
+    lots-are = w .1 ∙ ap (λ (b : Bool). lotsWritten b (parse limits file)) (sym (sym e ∙ q));
+  }
 
 -- the bytes written lie in the output
 pub bytes-in : (limits : Limits) (file : List ℕ) (m m′ : Memory) (code bytes : ℕ) → Serves limits file m m′ code bytes → bytes ≤ length (m′ .output)

@@ -1,16 +1,20 @@
 // The engine with the lots as three tables, which the entry over records and the program share: 8 is tested first, then the file is
 // loaded, and worked to its end or turned down.
-ghost use Rattle.model.specs.Catalogue.{mainLimits};
+ghost use Prim.Native.Nat.{_≤_};
 ghost use Rattle.model.specs.Lent.{lists, lent, memory};
+ghost use Rattle.lines.specs.Line.{limitsOf};
 ghost use Rattle.columns.specs.Entry.{ServesLots};
 use lengths::is_long;
 use sale_file::Served;
 use sale_file::work_file;
 
-// A sale file and lent memory: the lots' bales, sessions and lots above, 1,024 each; marks as loaded and as they stand, 8,192 each; the buyers'
-// first places, loaded marks and present marks, 1,024 each; counts and gains, 16,384 each; visited, 1,024; the output, 60,000 bytes.
+// A sale file, the limits of an entry, vmax lots and bmax sessions, and lent memory: the lots' bales, sessions and lots above, vmax each; marks as
+// loaded and as they stand, 8,192 each; the buyers' first places, loaded marks and present marks, 1,024 each; counts, 16,384; gains, 16 for
+// each of vmax lots; visited, 1,024; the output, 60,000 bytes.
 pub fn serve(
     file: &[u8],
+    vmax: u32,
+    bmax: u32,
     output: &mut [u8],
     weights: &mut [u32],
     blocks: &mut [u16],
@@ -24,9 +28,11 @@ pub fn serve(
     gains: &mut [i32],
     visited: &mut [u16],
 ) -> Served
-    ensures { λ r. ⌜ ServesLots mainLimits (now (file .entry)) (memory (now (output .entry)) (lent (lists (now (weights .entry)) (now (blocks .entry)) (now (aboves .entry)) (now (loadedpins .entry)) (now (presentpins .entry)) (now (firsts .entry)) (now (loadedsizes .entry)) (now (presentsizes .entry))) (now (counts .entry)) (now (gains .entry)) (now (visited .entry)))) (memory (now (output .exit)) (lent (lists (now (weights .exit)) (now (blocks .exit)) (now (aboves .exit)) (now (loadedpins .exit)) (now (presentpins .exit)) (now (firsts .exit)) (now (loadedsizes .exit)) (now (presentsizes .exit))) (now (counts .exit)) (now (gains .exit)) (now (visited .exit)))) (r .code) (r .written) (r .lots) ⌝ }
+    requires { ⌜ (vmax ≤ 1024) × (bmax ≤ 16) ⌝ }
+    ensures { λ r. ⌜ ServesLots (limitsOf vmax bmax) (now (file .entry)) (memory (now (output .entry)) (lent (lists (now (weights .entry)) (now (blocks .entry)) (now (aboves .entry)) (now (loadedpins .entry)) (now (presentpins .entry)) (now (firsts .entry)) (now (loadedsizes .entry)) (now (presentsizes .entry))) (now (counts .entry)) (now (gains .entry)) (now (visited .entry)))) (memory (now (output .exit)) (lent (lists (now (weights .exit)) (now (blocks .exit)) (now (aboves .exit)) (now (loadedpins .exit)) (now (presentpins .exit)) (now (firsts .exit)) (now (loadedsizes .exit)) (now (presentsizes .exit))) (now (counts .exit)) (now (gains .exit)) (now (visited .exit)))) (r .code) (r .written) (r .lots) ⌝ }
 {
     if !is_long(
+        vmax,
         output,
         weights,
         blocks,
@@ -48,6 +54,8 @@ pub fn serve(
     }
     work_file(
         file,
+        vmax,
+        bmax,
         output,
         weights,
         blocks,

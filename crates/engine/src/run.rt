@@ -5,7 +5,7 @@ ghost use Rattle.model.specs.Memory.{Serves};
 ghost use Rattle.model.specs.Lent.{others, inRecords};
 ghost use Rattle.records.specs.declared.Lot.{Lot};
 use records::Lot;
-use records::answering::core;
+use records::limits::at_main;
 use records::write;
 
 // The engine's answer: 0 or the number of the refusal, 1 to 8, and the bytes written.
@@ -33,7 +33,7 @@ pub extern "C" fn kapokdrill_run(
 ) -> Ran
     ensures { λ r. ⌜ Serves mainLimits (now (file .entry)) (inRecords (λ (l : Lot). l .bales) (λ (l : Lot). l .session) (λ (l : Lot). l .above) (now (output .entry)) (now (lots .entry)) (others (now (loadedpins .entry)) (now (presentpins .entry)) (now (firsts .entry)) (now (loadedsizes .entry)) (now (presentsizes .entry)) (now (counts .entry)) (now (gains .entry)) (now (visited .entry)))) (inRecords (λ (l : Lot). l .bales) (λ (l : Lot). l .session) (λ (l : Lot). l .above) (now (output .exit)) (now (lots .exit)) (others (now (loadedpins .exit)) (now (presentpins .exit)) (now (firsts .exit)) (now (loadedsizes .exit)) (now (presentsizes .exit)) (now (counts .exit)) (now (gains .exit)) (now (visited .exit)))) (r .code) (r .written) ⌝ }
 {
-    let answer = core(
+    let answer = at_main(
         file,
         lots.len(),
         output,

@@ -1,11 +1,11 @@
--- The tests of lent memory's lengths, one by one, are model's `longMemory`. Rests on model's Memory and Slices. Assumes nothing.
-use Prim.Native.Nat.{ℕ, _<_, _≤_}
+-- The tests of lent memory's lengths, one by one, are model's `longMemory`. Rests on model's Memory and Lent. Assumes nothing.
+use Prim.Native.Nat.{ℕ, _*_, _<_, _≤_}
 use mathlib.Core.Path.{_≡_, refl, sym, ap, _∙_}
 use mathlib.Core.Bool.{Bool, true, false, _&&_}
 use borrow.Author.Tests.{le-leb, lt-leb}
 use lib.Dec.{leb}
 use lib.ListN.{length}
-use Rattle.model.specs.Catalogue.{mainLimits}
+use Rattle.model.specs.Catalogue.{Limits}
 use Rattle.model.specs.Memory.{Tables as Lent, Memory, longLists, longTables, longMemory}
 use Rattle.model.specs.Lent.{netTables}
 
@@ -19,18 +19,20 @@ regroup true true true true false f g = refl
 regroup true true true true true false g = refl
 regroup true true true true true true g = refl
 
-abbrev tests : Memory → Bool
-tests m =
+-- n: the limit of lots
+abbrev tests : ℕ → Memory → Bool
+tests n m =
     let t : Lent = m .tables in
-    leb 60000 (length (m .output)) && (leb 1024 (length (t .weights)) && (leb 1024 (length (t .blocks)) && (leb 1024 (length (t .aboves))
-    && (longLists t && (leb 16384 (length (t .counts)) && (leb 16384 (length (t .gains)) && leb 1024 (length (t .visited))))))))
+    leb 60000 (length (m .output)) && (leb n (length (t .weights)) && (leb n (length (t .blocks)) && (leb n (length (t .aboves))
+    && (longLists t && (leb 16384 (length (t .counts)) && (leb (16 * n) (length (t .gains)) && leb 1024 (length (t .visited))))))))
 
-pub by-tests : (m : Memory) {r : Bool} → r ≡ tests m → r ≡ longMemory mainLimits m
+pub by-tests : (limits : Limits) (m : Memory) {n : ℕ} {r : Bool} → limits .vertexLimit ≡ n → r ≡ tests n m → r ≡ longMemory limits m
 unfolding longMemory longTables
-by-tests m e =
+by-tests limits m q e =
     let t : Lent = m .tables in
-    e ∙ ap (λ (b : Bool). leb 60000 (length (m .output)) && b)
-    (regroup (leb 1024 (length (t .weights))) (leb 1024 (length (t .blocks))) (leb 1024 (length (t .aboves))) (longLists t) (leb 16384 (length (t .counts))) (leb 16384 (length (t .gains))) (leb 1024 (length (t .visited))))
+    let v : ℕ = limits .vertexLimit in
+    e ∙ ap (λ (n : ℕ). tests n m) (sym q) ∙ ap (λ (b : Bool). leb 60000 (length (m .output)) && b)
+    (regroup (leb v (length (t .weights))) (leb v (length (t .blocks))) (leb v (length (t .aboves))) (longLists t) (leb 16384 (length (t .counts))) (leb (16 * v) (length (t .gains))) (leb 1024 (length (t .visited))))
 
 pub short-no : (n l : ℕ) (b : Bool) → l < n → false ≡ (leb n l && b)
 short-no n l b q = sym (ap (λ (t : Bool). t && b) (lt-leb n l q))

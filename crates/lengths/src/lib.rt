@@ -1,11 +1,12 @@
-// Is lent memory as long as document 01 asks.
+// Is lent memory as long as document 01 asks, at an entry's limit of lots.
 ghost use mathlib.Core.Path.{_≡_};
-ghost use Rattle.model.specs.Catalogue.{mainLimits};
+ghost use Rattle.model.specs.Catalogue.{Limits};
 ghost use Rattle.model.specs.Memory.{longMemory};
 ghost use Rattle.model.specs.Lent.{lists, lent, memory};
 
-// The output and all tables.
+// The output and all tables: those of the lots and the gains go by the entry's limit of lots, vmax.
 pub fn is_long(
+    vmax: u32,
     output: &[u8],
     weights: &[u32],
     blocks: &[u16],
@@ -19,18 +20,19 @@ pub fn is_long(
     gains: &[i32],
     visited: &[u16],
 ) -> bool
-    ensures { λ r. ⌜ r ≡ longMemory mainLimits (memory (now (output .entry)) (lent (lists (now (weights .entry)) (now (blocks .entry)) (now (aboves .entry)) (now (loadedpins .entry)) (now (presentpins .entry)) (now (firsts .entry)) (now (loadedsizes .entry)) (now (presentsizes .entry))) (now (counts .entry)) (now (gains .entry)) (now (visited .entry)))) ⌝ }
+    ensures { λ r. ⌜ ((limits : Limits) → limits .vertexLimit ≡ vmax → r ≡ longMemory limits (memory (now (output .entry)) (lent (lists (now (weights .entry)) (now (blocks .entry)) (now (aboves .entry)) (now (loadedpins .entry)) (now (presentpins .entry)) (now (firsts .entry)) (now (loadedsizes .entry)) (now (presentsizes .entry))) (now (counts .entry)) (now (gains .entry)) (now (visited .entry))))) ⌝ }
 {
+    let lots = vmax as usize;
     if output.len() < 60000 {
         return false;
     }
-    if weights.len() < 1024 {
+    if weights.len() < lots {
         return false;
     }
-    if blocks.len() < 1024 {
+    if blocks.len() < lots {
         return false;
     }
-    if aboves.len() < 1024 {
+    if aboves.len() < lots {
         return false;
     }
     if !stretches::are_long(loadedpins, presentpins, firsts, loadedsizes, presentsizes) {
@@ -39,7 +41,7 @@ pub fn is_long(
     if counts.len() < 16384 {
         return false;
     }
-    if gains.len() < 16384 {
+    if gains.len() < 16 * lots {
         return false;
     }
     1024 <= visited.len()

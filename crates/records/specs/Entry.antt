@@ -5,7 +5,7 @@ use mathlib.Core.Path.{_≡_, refl, sym, subst}
 use mathlib.Core.Bool.{Bool, true, false}
 use mathlib.Core.List.{List}
 use lib.ListN.{length}
-use Rattle.model.specs.Catalogue.{Limits, mainLimits}
+use Rattle.model.specs.Catalogue.{Limits}
 use Rattle.model.specs.Grammar.{Reading, unread, reading, stopped, parse}
 use Rattle.model.specs.Memory.{Tables, Serves}
 use Rattle.guarantees.specs.Ranges.{accepted-ranges}
@@ -26,11 +26,11 @@ lots-few limits file true = go (parse limits file) refl
     go unread q = omega arith
 
 -- `core`, which is told how many records there is space for: whatever records these are, once the first n are written the engine's promise holds of them
-pub record Answers (file : List ℕ) (room : ℕ) (output : List ℕ) (t : Tables) (output′ : List ℕ) (t′ : Tables) (r : Answer) : Type 0 where
+pub record Answers (limits : Limits) (file : List ℕ) (room : ℕ) (output : List ℕ) (t : Tables) (output′ : List ℕ) (t′ : Tables) (r : Answer) : Type 0 where
   pub fits : r .n ≤ room
   pub small : r .n ≤ 1024
-  pub serves : (lots : List Lot) → length lots ≡ room → Serves mainLimits file (lentRecords output lots t) (lentRecords output′ (over (r .n) (r .lots) lots) t′) (r .code) (r .written)
+  pub serves : (lots : List Lot) → length lots ≡ room → Serves limits file (lentRecords output lots t) (lentRecords output′ (over (r .n) (r .lots) lots) t′) (r .code) (r .written)
 
-pub served : (file output : List ℕ) (t : Tables) (output′ : List ℕ) (t′ : Tables) (r : Answer) (lots lots′ : List Lot) → Answers file (length lots) output t output′ t′ r → lots′ ≡ over (r .n) (r .lots) lots
-    → Serves mainLimits file (lentRecords output lots t) (lentRecords output′ lots′ t′) (r .code) (r .written)
-served file output t output′ t′ r lots lots′ c e = subst (λ (l : List Lot). Serves mainLimits file (lentRecords output lots t) (lentRecords output′ l t′) (r .code) (r .written)) (sym e) (c .serves lots refl)
+pub served : (limits : Limits) (file output : List ℕ) (t : Tables) (output′ : List ℕ) (t′ : Tables) (r : Answer) (lots lots′ : List Lot) → Answers limits file (length lots) output t output′ t′ r → lots′ ≡ over (r .n) (r .lots) lots
+    → Serves limits file (lentRecords output lots t) (lentRecords output′ lots′ t′) (r .code) (r .written)
+served limits file output t output′ t′ r lots lots′ c e = subst (λ (l : List Lot). Serves limits file (lentRecords output lots t) (lentRecords output′ l t′) (r .code) (r .written)) (sym e) (c .serves lots refl)

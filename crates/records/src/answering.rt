@@ -1,5 +1,7 @@
 // The engine on three tables of its own for the lots, and the records that are then to be written.
+ghost use Prim.Native.Nat.{_≤_};
 ghost use Rattle.model.specs.Lent.{others};
+ghost use Rattle.lines.specs.Line.{limitsOf};
 ghost use Rattle.records.specs.Entry.{Answers};
 use crate::Lot;
 use crate::gather;
@@ -13,9 +15,11 @@ pub struct Answer {
     pub written: usize,
 }
 
-// The engine on tables of its own for the lots. It is told how many records there is space for.
+// The engine on tables of its own for the lots, at an entry's limits of vmax lots and bmax sessions. It is told how many records there is space for.
 pub fn core(
     file: &[u8],
+    vmax: u32,
+    bmax: u32,
     room: usize,
     output: &mut [u8],
     loadedpins: &mut [u16],
@@ -27,9 +31,11 @@ pub fn core(
     gains: &mut [i32],
     visited: &mut [u16],
 ) -> Answer
-    ensures { λ r. ⌜ Answers (now (file .entry)) room (now (output .entry)) (others (now (loadedpins .entry)) (now (presentpins .entry)) (now (firsts .entry)) (now (loadedsizes .entry)) (now (presentsizes .entry)) (now (counts .entry)) (now (gains .entry)) (now (visited .entry))) (now (output .exit)) (others (now (loadedpins .exit)) (now (presentpins .exit)) (now (firsts .exit)) (now (loadedsizes .exit)) (now (presentsizes .exit)) (now (counts .exit)) (now (gains .exit)) (now (visited .exit))) r ⌝ }
+    requires { ⌜ (vmax ≤ 1024) × (bmax ≤ 16) ⌝ }
+    ensures { λ r. ⌜ Answers (limitsOf vmax bmax) (now (file .entry)) room (now (output .entry)) (others (now (loadedpins .entry)) (now (presentpins .entry)) (now (firsts .entry)) (now (loadedsizes .entry)) (now (presentsizes .entry)) (now (counts .entry)) (now (gains .entry)) (now (visited .entry))) (now (output .exit)) (others (now (loadedpins .exit)) (now (presentpins .exit)) (now (firsts .exit)) (now (loadedsizes .exit)) (now (presentsizes .exit)) (now (counts .exit)) (now (gains .exit)) (now (visited .exit))) r ⌝ }
 {
-    if room < 1024 {
+    let least = vmax as usize;
+    if room < least {
         let blank = Lot {
             bales: 0,
             session: 0,
@@ -48,6 +54,8 @@ pub fn core(
     let mut aboves = [0u16; 1024];
     let served = serve(
         file,
+        vmax,
+        bmax,
         output,
         &mut weights,
         &mut blocks,

@@ -6,6 +6,7 @@ ghost use Rattle.records.specs.Over.{over};
 ghost use Rattle.records.specs.Fields.{balesOf, sessionsOf, abovesOf};
 
 pub mod answering;
+pub mod limits;
 
 #[repr(C)]
 pub struct Lot {

@@ -1,9 +1,9 @@
 // A sale file in memory that is long enough: it is loaded, and worked to its end or turned down.
 ghost use mathlib.Core.Path.{_≡_};
-ghost use Rattle.model.specs.Catalogue.{mainLimits};
 ghost use Rattle.model.specs.Grammar.{parse};
 ghost use Rattle.model.specs.Memory.{Worked};
 ghost use Rattle.model.specs.Lent.{lists, lent, memory};
+ghost use Rattle.lines.specs.Line.{limitsOf};
 ghost use Rattle.sale.specs.Files.{lotsIn, Long};
 use loader::Loaded;
 use sale::closing::refuse;
@@ -16,9 +16,11 @@ pub struct Served {
     pub lots: usize,
 }
 
-// The file, in memory that is long enough.
+// The file, in memory that is long enough for an entry whose limits are vmax lots and bmax sessions.
 pub fn work_file(
     file: &[u8],
+    vmax: u32,
+    bmax: u32,
     output: &mut [u8],
     weights: &mut [u32],
     blocks: &mut [u16],
@@ -32,15 +34,15 @@ pub fn work_file(
     gains: &mut [i32],
     visited: &mut [u16],
 ) -> Served
-    requires { ⌜ Long mainLimits (now output) (lists (now weights) (now blocks) (now aboves) (now loadedpins) (now presentpins) (now firsts) (now loadedsizes) (now presentsizes)) (now counts) (now gains) (now visited) ⌝ }
-    ensures { λ r. ⌜ Worked (parse mainLimits (now (file .entry))) (memory (now (output .entry)) (lent (lists (now (weights .entry)) (now (blocks .entry)) (now (aboves .entry)) (now (loadedpins .entry)) (now (presentpins .entry)) (now (firsts .entry)) (now (loadedsizes .entry)) (now (presentsizes .entry))) (now (counts .entry)) (now (gains .entry)) (now (visited .entry)))) (memory (now (output .exit)) (lent (lists (now (weights .exit)) (now (blocks .exit)) (now (aboves .exit)) (now (loadedpins .exit)) (now (presentpins .exit)) (now (firsts .exit)) (now (loadedsizes .exit)) (now (presentsizes .exit))) (now (counts .exit)) (now (gains .exit)) (now (visited .exit)))) (r .code) (r .written) × (r .lots ≡ lotsIn (parse mainLimits (now (file .entry)))) ⌝ }
+    requires { ⌜ Long (limitsOf vmax bmax) (now output) (lists (now weights) (now blocks) (now aboves) (now loadedpins) (now presentpins) (now firsts) (now loadedsizes) (now presentsizes)) (now counts) (now gains) (now visited) ⌝ }
+    ensures { λ r. ⌜ Worked (parse (limitsOf vmax bmax) (now (file .entry))) (memory (now (output .entry)) (lent (lists (now (weights .entry)) (now (blocks .entry)) (now (aboves .entry)) (now (loadedpins .entry)) (now (presentpins .entry)) (now (firsts .entry)) (now (loadedsizes .entry)) (now (presentsizes .entry))) (now (counts .entry)) (now (gains .entry)) (now (visited .entry)))) (memory (now (output .exit)) (lent (lists (now (weights .exit)) (now (blocks .exit)) (now (aboves .exit)) (now (loadedpins .exit)) (now (presentpins .exit)) (now (firsts .exit)) (now (loadedsizes .exit)) (now (presentsizes .exit))) (now (counts .exit)) (now (gains .exit)) (now (visited .exit)))) (r .code) (r .written) × (r .lots ≡ lotsIn (parse (limitsOf vmax bmax) (now (file .entry)))) ⌝ }
 {
     let mut netweights = [0u16; 1024];
     let mut calls = [0u32; 1536];
     match loader::load(
         file,
-        1024,
-        16,
+        vmax,
+        bmax,
         weights,
         blocks,
         aboves,

@@ -3,10 +3,10 @@
 ghost use Prim.Native.Nat.{_*_, _/_, _≤_};
 ghost use mathlib.Core.Path.{_≡_};
 ghost use lib.ListN.{length};
-ghost use Rattle.model.specs.Catalogue.{mainLimits};
 ghost use Rattle.model.specs.Grammar.{parse};
 ghost use Rattle.model.specs.Lent.{lists, lent, memory, two};
 ghost use Rattle.model.specs.ListEntry.{isLetter, lettersTo, listRefusal, listCalls, returned, ListWorked};
+ghost use Rattle.lines.specs.Line.{limitsOf};
 ghost use Rattle.sale.specs.Files.{Long};
 use any_call::kinds::is_contracting;
 use any_call::kinds::is_moving;
@@ -71,10 +71,12 @@ pub fn list_refusal(list: &[u32]) -> u32
     0
 }
 
-// A list that is not refused, in memory that is long enough.
+// A list that is not refused, in memory that is long enough for an entry whose limits are vmax lots and bmax sessions.
 pub fn work_list(
     file: &[u8],
     list: &[u32],
+    vmax: u32,
+    bmax: u32,
     output: &mut [u8],
     weights: &mut [u32],
     blocks: &mut [u16],
@@ -88,15 +90,15 @@ pub fn work_list(
     gains: &mut [i32],
     visited: &mut [u16],
 ) -> ListRan
-    requires { ⌜ Long mainLimits (now output) (lists (now weights) (now blocks) (now aboves) (now loadedpins) (now presentpins) (now firsts) (now loadedsizes) (now presentsizes)) (now counts) (now gains) (now visited) × (listRefusal (now list) ≡ 0) ⌝ }
-    ensures { λ r. ⌜ ListWorked mainLimits (parse mainLimits (now (file .entry))) (listCalls (now (list .entry))) (memory (now (output .entry)) (lent (lists (now (weights .entry)) (now (blocks .entry)) (now (aboves .entry)) (now (loadedpins .entry)) (now (presentpins .entry)) (now (firsts .entry)) (now (loadedsizes .entry)) (now (presentsizes .entry))) (now (counts .entry)) (now (gains .entry)) (now (visited .entry)))) (memory (now (output .exit)) (lent (lists (now (weights .exit)) (now (blocks .exit)) (now (aboves .exit)) (now (loadedpins .exit)) (now (presentpins .exit)) (now (firsts .exit)) (now (loadedsizes .exit)) (now (presentsizes .exit))) (now (counts .exit)) (now (gains .exit)) (now (visited .exit)))) (returned (r .code) (r .written) (r .total) (two (r .stack .into) (r .stack .gone) (r .stack .len)) (two (r .journal .vertices) (r .journal .blocks) (r .journal .len))) ⌝ }
+    requires { ⌜ Long (limitsOf vmax bmax) (now output) (lists (now weights) (now blocks) (now aboves) (now loadedpins) (now presentpins) (now firsts) (now loadedsizes) (now presentsizes)) (now counts) (now gains) (now visited) × (listRefusal (now list) ≡ 0) ⌝ }
+    ensures { λ r. ⌜ ListWorked (limitsOf vmax bmax) (parse (limitsOf vmax bmax) (now (file .entry))) (listCalls (now (list .entry))) (memory (now (output .entry)) (lent (lists (now (weights .entry)) (now (blocks .entry)) (now (aboves .entry)) (now (loadedpins .entry)) (now (presentpins .entry)) (now (firsts .entry)) (now (loadedsizes .entry)) (now (presentsizes .entry))) (now (counts .entry)) (now (gains .entry)) (now (visited .entry)))) (memory (now (output .exit)) (lent (lists (now (weights .exit)) (now (blocks .exit)) (now (aboves .exit)) (now (loadedpins .exit)) (now (presentpins .exit)) (now (firsts .exit)) (now (loadedsizes .exit)) (now (presentsizes .exit))) (now (counts .exit)) (now (gains .exit)) (now (visited .exit)))) (returned (r .code) (r .written) (r .total) (two (r .stack .into) (r .stack .gone) (r .stack .len)) (two (r .journal .vertices) (r .journal .blocks) (r .journal .len))) ⌝ }
 {
     let mut netweights = [0u16; 1024];
     let mut calls = [0u32; 1536];
     match loader::load(
         file,
-        1024,
-        16,
+        vmax,
+        bmax,
         weights,
         blocks,
         aboves,

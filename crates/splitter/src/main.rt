@@ -19,6 +19,8 @@ fn main() {
     let n = io::read_full(0, &mut file);
     let served = serve(
         &file[..n],
+        1024,
+        16,
         &mut output,
         &mut weights,
         &mut blocks,

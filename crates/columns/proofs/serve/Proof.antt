@@ -1,3 +1,4 @@
+use mathlib.Core.Path.{refl}
 use borrow.Author.Needs.{needs}
 use borrow.Author.Tests.{not-true, not-false}
 use Rattle.columns.specs.Entry.{long-is, too-short, served}
@@ -44,13 +45,14 @@ same-length-12 : tie.Need-same-length-12
 same-length-12 c = search needs
 
 returns : tie.Need-returns
-returns c = too-short _ _ (c .before .is-long .ensures) (not-true _ (c .if1 .taken))
+returns c = too-short _ _ _ (c .before .is-long .ensures _ refl) (not-true _ (c .if1 .taken))
 
 work-file-requires : tie.Need-work-file-requires
 work-file-requires c κs =
     let at-if1 = c .before .before .before .before .before .before .before .before .before .before .before .before in
     let at-is-long = at-if1 .before in
-    long-is _ _ _ _ _ (at-is-long .is-long .ensures) (not-false _ (at-if1 .if1 .left))
+    let start = at-is-long .before .before .before .before .before .before .before .before .before .before .before .before .before .before .before .before .before .before .before .before .before .before .before .before .before in
+    long-is _ _ _ _ _ _ (start .pre .0) (start .pre .1) (at-is-long .is-long .ensures _ refl) (not-false _ (at-if1 .if1 .left))
 
 same-length-13 : tie.Need-same-length-13
 same-length-13 c = search needs
@@ -93,7 +95,7 @@ returns-2 c =
     let at-work-file = c .before .before .before .before .before .before .before .before .before .before .before .before .before .before .before .before .before .before .before .before .before .before .before in
     let at-if1 = at-work-file .before .before .before .before .before .before .before .before .before .before .before .before .before in
     let at-is-long = at-if1 .before in
-    served _ _ _ (at-is-long .is-long .ensures) (not-false _ (at-if1 .if1 .left)) (at-work-file .work-file .ensures)
+    served _ _ _ (at-is-long .is-long .ensures _ refl) _ (not-false _ (at-if1 .if1 .left)) (at-work-file .work-file .ensures)
 
 pub serve-spec : {M : Type 1} → statement M
 serve-spec =

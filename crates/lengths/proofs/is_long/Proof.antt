@@ -6,54 +6,57 @@ use Rattle.lengths.proofs.is_long.Statement.{statement}
 use Rattle.lengths.proofs.is_long.Tie as tie
 
 returns : tie.Need-returns
-returns c = by-tests _ (short-no 60000 _ _ (c .if1 .taken))
+returns c limits q = by-tests limits _ q (short-no 60000 _ _ (c .if1 .taken))
 
 returns-2 : tie.Need-returns-2
-returns-2 c = by-tests _ (short-yes 60000 _ (c .before .if1 .left) (short-no 1024 _ _ (c .if2 .taken)))
+returns-2 c limits q = by-tests limits _ q (short-yes 60000 _ (c .before .if1 .left) (short-no _ _ _ (c .if2 .taken)))
 
 returns-3 : tie.Need-returns-3
-returns-3 c = by-tests _ (short-yes 60000 _ (c .before .before .if1 .left) (short-yes 1024 _ (c .before .if2 .left) (short-no 1024 _ _ (c .if3 .taken))))
+returns-3 c limits q = by-tests limits _ q (short-yes 60000 _ (c .before .before .if1 .left) (short-yes _ _ (c .before .if2 .left) (short-no _ _ _ (c .if3 .taken))))
 
 returns-4 : tie.Need-returns-4
-returns-4 c =
+returns-4 c limits q =
     let at-if1 = c .before .before .before in
-    by-tests _ (short-yes 60000 _ (at-if1 .if1 .left) (short-yes 1024 _ (c .before .before .if2 .left) (short-yes 1024 _ (c .before .if3 .left) (short-no 1024 _ _ (c .if4 .taken)))))
+    by-tests limits _ q (short-yes 60000 _ (at-if1 .if1 .left) (short-yes _ _ (c .before .before .if2 .left) (short-yes _ _ (c .before .if3 .left) (short-no _ _ _ (c .if4 .taken)))))
 
 are-long-requires : tie.Need-are-long-requires
 are-long-requires c κs = search needs
 
 returns-5 : tie.Need-returns-5
-returns-5 c =
+returns-5 c limits q =
     let at-if3 = c .before .before .before in
     let at-if2 = at-if3 .before in
     let at-if1 = at-if2 .before in
-    by-tests _ (short-yes 60000 _ (at-if1 .if1 .left) (short-yes 1024 _ (at-if2 .if2 .left) (short-yes 1024 _ (at-if3 .if3 .left) (short-yes 1024 _ (c .before .before .if4 .left) (both-no _ _ (lists-test _ (c .before .are-long .ensures)) (c .if5 .taken))))))
+    by-tests limits _ q (short-yes 60000 _ (at-if1 .if1 .left) (short-yes _ _ (at-if2 .if2 .left) (short-yes _ _ (at-if3 .if3 .left) (short-yes _ _ (c .before .before .if4 .left) (both-no _ _ (lists-test _ (c .before .are-long .ensures)) (c .if5 .taken))))))
 
 returns-6 : tie.Need-returns-6
-returns-6 c =
+returns-6 c limits q =
     let at-if4 = c .before .before .before in
     let at-if3 = at-if4 .before in
     let at-if2 = at-if3 .before in
     let at-if1 = at-if2 .before in
-    by-tests _ (short-yes 60000 _ (at-if1 .if1 .left) (short-yes 1024 _ (at-if2 .if2 .left) (short-yes 1024 _ (at-if3 .if3 .left) (short-yes 1024 _ (at-if4 .if4 .left) (both-yes _ _ (lists-test _ (c .before .before .are-long .ensures)) (c .before .if5 .left) (short-no 16384 _ _ (c .if6 .taken)))))))
+    by-tests limits _ q (short-yes 60000 _ (at-if1 .if1 .left) (short-yes _ _ (at-if2 .if2 .left) (short-yes _ _ (at-if3 .if3 .left) (short-yes _ _ (at-if4 .if4 .left) (both-yes _ _ (lists-test _ (c .before .before .are-long .ensures)) (c .before .if5 .left) (short-no 16384 _ _ (c .if6 .taken)))))))
 
 returns-7 : tie.Need-returns-7
-returns-7 c =
+returns-7 c limits q =
     let at-long = c .before .before .before in
     let at-if4 = at-long .before in
     let at-if3 = at-if4 .before in
     let at-if2 = at-if3 .before in
     let at-if1 = at-if2 .before in
-    by-tests _ (short-yes 60000 _ (at-if1 .if1 .left) (short-yes 1024 _ (at-if2 .if2 .left) (short-yes 1024 _ (at-if3 .if3 .left) (short-yes 1024 _ (at-if4 .if4 .left) (both-yes _ _ (lists-test _ (at-long .are-long .ensures)) (c .before .before .if5 .left) (short-yes 16384 _ (c .before .if6 .left) (short-no 16384 _ _ (c .if7 .taken))))))))
+    by-tests limits _ q (short-yes 60000 _ (at-if1 .if1 .left) (short-yes _ _ (at-if2 .if2 .left) (short-yes _ _ (at-if3 .if3 .left) (short-yes _ _ (at-if4 .if4 .left) (both-yes _ _ (lists-test _ (at-long .are-long .ensures)) (c .before .before .if5 .left) (short-yes 16384 _ (c .before .if6 .left) (short-no _ _ _ (c .if7 .taken))))))))
 
 returns-8 : tie.Need-returns-8
-returns-8 c =
+returns-8 c limits q =
     let at-long = c .before .before .before in
     let at-if4 = at-long .before in
     let at-if3 = at-if4 .before in
     let at-if2 = at-if3 .before in
     let at-if1 = at-if2 .before in
-    by-tests _ (short-yes 60000 _ (at-if1 .if1 .left) (short-yes 1024 _ (at-if2 .if2 .left) (short-yes 1024 _ (at-if3 .if3 .left) (short-yes 1024 _ (at-if4 .if4 .left) (both-yes _ _ (lists-test _ (at-long .are-long .ensures)) (c .before .before .if5 .left) (short-yes 16384 _ (c .before .if6 .left) (short-yes 16384 _ (c .if7 .left) (refl))))))))
+    by-tests limits _ q (short-yes 60000 _ (at-if1 .if1 .left) (short-yes _ _ (at-if2 .if2 .left) (short-yes _ _ (at-if3 .if3 .left) (short-yes _ _ (at-if4 .if4 .left) (both-yes _ _ (lists-test _ (at-long .are-long .ensures)) (c .before .before .if5 .left) (short-yes 16384 _ (c .before .if6 .left) (short-yes _ _ (c .if7 .left) (refl))))))))
+
+mul-if7 : tie.Need-mul-if7
+mul-if7 c = search needs
 
 pub is-long-spec : {M : Type 1} → statement M
 is-long-spec =
@@ -66,5 +69,6 @@ is-long-spec =
     are-long-requires
     returns-5
     returns-6
+    mul-if7
     returns-7
     returns-8)

@@ -3,7 +3,6 @@ use Prim.Native.Nat.{ℕ}
 use native.Mathlib.Omega.{arith}
 use mathlib.Core.Path.{refl}
 use lib.ListN.{length-replicate}
-use Rattle.model.specs.Catalogue.{mainLimits}
 use Rattle.sale.specs.Files.{catalogued, listed, worked, lots-read, small, line-fits, no-lots, turned-down}
 use Rattle.sale_file.proofs.work_file.Statement.{statement}
 use Rattle.sale_file.proofs.work_file.Tie as tie
@@ -42,7 +41,7 @@ report-sale-requires c κs =
     let loads = c .before .before .before .before .before .before .before .before .before .before .before .before .before .before .before .before .before .before .before .before .before .before .before .before .before .before .before .before .before .before .before .before .before .load .ensures in
     let accepted = c .before .before .before .before .before .before .before .before .before .before .before .before .before .before .z .given .1 in
     record {
-      limits = mainLimits;
+      limits = _;
       file = _;
       old = _;
       pins = _;
@@ -133,7 +132,7 @@ returns-2 c =
     let accepted = c .before .before .before .before .before .before .before .before .before .before .before .before .before .before .before .before .before .before .before .before .before .before .before .before .before .before .before .before .before .before .before .before .before .z .given .1 in
     let calls-long = c .before .before .before .before .before .before .before .before .before .before .before .before .before .before .before .before .before .before .before .before .before .before .before .before .before .before .before .before .before .before .before .before .before .before .before .before .before .before .before .before .before .before .before .before .before .before .before .before .before .before .before .before .load .kept in (
       worked long loads accepted
-          (c .before .before .before .before .before .before .before .before .before .before .before .before .before .before .before .before .before .before .report-sale .ensures mainLimits _ _ _ (catalogued long loads accepted) (listed long loads accepted (omega (arith, calls-long, length-replicate {A = ℕ} 1536 0)))),
+          (c .before .before .before .before .before .before .before .before .before .before .before .before .before .before .before .before .before .before .report-sale .ensures _ _ _ _ (catalogued long loads accepted) (listed long loads accepted (omega (arith, calls-long, length-replicate {A = ℕ} 1536 0)))),
       lots-read long loads accepted,
     )
 

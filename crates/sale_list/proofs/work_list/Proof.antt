@@ -2,7 +2,6 @@ use borrow.Author.Needs.{needs}
 use native.Mathlib.Omega.{arith}
 use mathlib.Core.Path.{refl}
 use denote.Ref.{now}
-use Rattle.model.specs.Catalogue.{mainLimits}
 use Rattle.sale.specs.Files.{catalogued, small, line-fits}
 use Rattle.sale_list.specs.Lists.{list-listed, idle, list-worked, list-down}
 use Rattle.sale_list.proofs.work_list.Statement.{statement}
@@ -52,7 +51,7 @@ sell-requires c κs =
     let start = at-load .before .before .before .before .before .before .before .before .before .before .before .before .before .before .before .before .before .before .before .before .before .before .before .before in
     let long = start .pre .0 in
     record {
-      limits = mainLimits;
+      limits = _;
       file = _;
       old = _;
       pins = _;
@@ -164,7 +163,7 @@ returns-2 c =
     let long = start .pre .0 in
     let loads = at-load .load .ensures in
     let accepted = at-z .z .given .1 in
-    list-worked (now (start .args .list)) _ _ _ _ loads accepted (at-sell .sell .ensures mainLimits _ _ _ (catalogued long loads accepted) (list-listed _ (start .pre .1) (long .spacious))) (c .before .zeroed .ensures) (c .zeroed2 .ensures)
+    list-worked (now (start .args .list)) _ _ _ _ loads accepted (at-sell .sell .ensures _ _ _ _ (catalogued long loads accepted) (list-listed _ (start .pre .1) (long .spacious))) (c .before .zeroed .ensures) (c .zeroed2 .ensures)
 
 new-requires-2 : tie.Need-new-requires-2
 new-requires-2 c κs = search needs
@@ -178,7 +177,7 @@ zeroed-requires c κs =
     let long = start .pre .0 in
     let loads = at-load .load .ensures in
     let accepted = at-z .z .given .1 in
-    let sold = (at-sell .sell .ensures mainLimits _ _ _ (catalogued long loads accepted) (list-listed _ (start .pre .1) (long .spacious))) in
+    let sold = (at-sell .sell .ensures _ _ _ _ (catalogued long loads accepted) (list-listed _ (start .pre .1) (long .spacious))) in
     (sold .stack-whole .xs-whole, sold .stack-whole .ys-whole)
 
 zeroed-requires-2 : tie.Need-zeroed-requires-2
@@ -190,7 +189,7 @@ zeroed-requires-2 c κs =
     let long = start .pre .0 in
     let loads = at-load .load .ensures in
     let accepted = at-z .z .given .1 in
-    let sold = (at-sell .sell .ensures mainLimits _ _ _ (catalogued long loads accepted) (list-listed _ (start .pre .1) (long .spacious))) in
+    let sold = (at-sell .sell .ensures _ _ _ _ (catalogued long loads accepted) (list-listed _ (start .pre .1) (long .spacious))) in
     (sold .journal-whole .xs-whole, sold .journal-whole .ys-whole)
 
 pub work-list-spec : {M : Type 1} → statement M

@@ -1,6 +1,8 @@
+use native.Mathlib.Omega.{arith}
 use borrow.Author.Needs.{needs}
-use mathlib.Core.Path.{sym, _∙_}
+use mathlib.Core.Path.{refl, sym, _∙_}
 use borrow.Author.Tests.{not-true, not-false}
+use Rattle.model.specs.Catalogue.{mainLimits}
 use Rattle.columns.specs.Entry.{long-is}
 use Rattle.engine.specs.Listing.{untouched-8, untouched-list, list-served}
 use Rattle.engine.proofs.listing.kapokdrill_list.Statement.{statement}
@@ -49,7 +51,7 @@ same-length-12 : tie.Need-same-length-12
 same-length-12 c = search needs
 
 returns : tie.Need-returns
-returns c = untouched-8 _ _ _ _ (c .before .before .is-long .ensures) (not-true _ (c .before .if1 .taken)) (c .refused-list .ensures .0) (c .refused-list .ensures .1) (c .refused-list .ensures .2)
+returns c = untouched-8 mainLimits _ _ _ _ (c .before .before .is-long .ensures _ refl) (not-true _ (c .before .if1 .taken)) (c .refused-list .ensures .0) (c .refused-list .ensures .1) (c .refused-list .ensures .2)
 
 list-refusal-requires : tie.Need-list-refusal-requires
 list-refusal-requires c κs = search needs
@@ -97,7 +99,7 @@ returns-2 : tie.Need-returns-2
 returns-2 c =
     let at-if1 = c .before .before .before in
     let at-is-long = at-if1 .before in
-    untouched-list _ _ _ _ (at-is-long .is-long .ensures) (not-false _ (at-if1 .if1 .left)) (c .before .before .list-refusal .ensures) (c .before .if2 .taken) (c .refused-list2 .ensures .0) (c .refused-list2 .ensures .1) (c .refused-list2 .ensures .2)
+    untouched-list mainLimits _ _ _ _ (at-is-long .is-long .ensures _ refl) (not-false _ (at-if1 .if1 .left)) (c .before .before .list-refusal .ensures) (c .before .if2 .taken) (c .refused-list2 .ensures .0) (c .refused-list2 .ensures .1) (c .refused-list2 .ensures .2)
 
 work-list-requires : tie.Need-work-list-requires
 work-list-requires c κs =
@@ -105,7 +107,7 @@ work-list-requires c κs =
     let at-list-refusal = at-if2 .before in
     let at-if1 = at-list-refusal .before in
     let at-is-long = at-if1 .before in
-    (long-is _ _ _ _ _ (at-is-long .is-long .ensures) (not-false _ (at-if1 .if1 .left)), sym (at-list-refusal .list-refusal .ensures) ∙ at-if2 .if2 .left)
+    (long-is mainLimits _ _ _ _ _ (omega arith) (omega arith) (at-is-long .is-long .ensures _ refl) (not-false _ (at-if1 .if1 .left)), sym (at-list-refusal .list-refusal .ensures) ∙ at-if2 .if2 .left)
 
 same-length-25 : tie.Need-same-length-25
 same-length-25 c = search needs
@@ -150,7 +152,7 @@ returns-3 c =
     let at-list-refusal = at-if2 .before in
     let at-if1 = at-list-refusal .before in
     let at-is-long = at-if1 .before in
-    list-served _ _ _ _ (at-is-long .is-long .ensures) _ (not-false _ (at-if1 .if1 .left)) (sym (at-list-refusal .list-refusal .ensures) ∙ at-if2 .if2 .left) (at-work-list .work-list .ensures)
+    list-served mainLimits _ _ _ _ (at-is-long .is-long .ensures _ refl) _ (not-false _ (at-if1 .if1 .left)) (sym (at-list-refusal .list-refusal .ensures) ∙ at-if2 .if2 .left) (at-work-list .work-list .ensures)
 
 pub kapokdrill-list-spec : {M : Type 1} → statement M
 kapokdrill-list-spec =

@@ -1,10 +1,10 @@
--- `records::entry::core` meets its contract: too few records are 8; else the engine's promise on its own three tables, carried over to the records. Assumes nothing.
+-- `records::answering::core` meets its contract: too few records are 8; else the engine's promise on its own three tables, carried over to the records. Assumes nothing.
 use native.Mathlib.Omega.{arith}
 use borrow.Author.Needs.{needs}
 use Prim.Native.Nat.{ℕ, _≤_}
 use mathlib.Core.List.{List}
 use lib.ListN.{length, replicate, length-replicate}
-use Rattle.model.specs.Catalogue.{mainLimits}
+use Rattle.lines.specs.Line.{limitsOf}
 use Rattle.model.specs.Memory.{longMemory}
 use Rattle.records.specs.Lent.{no-room, serves-records}
 use Rattle.model.specs.Lent.{others, inTables}
@@ -15,7 +15,7 @@ use Rattle.records.proofs.answering.core.Tie as tie
 returns : tie.Need-returns
 returns c =
     let a = c .before .before .before .before .before .before .before .before .before .before .args in
-    record { fits = omega arith; small = omega arith; serves = λ lots e. no-room mainLimits (a .file .now) (a .output .now) lots (others (a .loadedpins .now) (a .presentpins .now) (a .firsts .now) (a .loadedsizes .now) (a .presentsizes .now) (a .counts .now) (a .gains .now) (a .visited .now)) (omega (arith, e, c .if1 .taken)) }
+    record { fits = omega arith; small = omega arith; serves = λ lots e. no-room (limitsOf (a .vmax) (a .bmax)) (a .file .now) (a .output .now) lots (others (a .loadedpins .now) (a .presentpins .now) (a .firsts .now) (a .loadedsizes .now) (a .presentsizes .now) (a .counts .now) (a .gains .now) (a .visited .now)) (omega (arith, e, c .if1 .taken)) }
 
 slice-aggregate-serve : tie.Need-slice-aggregate-serve
 slice-aggregate-serve c = search needs
@@ -61,18 +61,19 @@ same-length-9 c = search needs
 
 returns-2 : tie.Need-returns-2
 returns-2 c =
-    let a = c .before .before .before .before .before .before .before .before .before .before .before .before .before .before .before .before .before .before .before .before .before .before .before .before .before .before .before .before .before .before .before .before .before .before .before .before .before .before .before .before .before .before .before .before .args in
+    let start = c .before .before .before .before .before .before .before .before .before .before .before .before .before .before .before .before .before .before .before .before .before .before .before .before .before .before .before .before .before .before .before .before .before .before .before .before .before .before .before .before .before .before .before .before in
+    let a = start .args in
     let told = c .before .before .before .before .before .before .before .before .before .before .before .before .before .before .before .before .before .before .before .before .before .serve .ensures in
     let last = c .before .before .before .before .before .before .before .before .before .before .before .before .before .before .before .before .before .before .before .before .before .serve .last in
     let zeros : List ℕ = replicate 1024 0 in
-    let long : 1024 ≤ length zeros = omega (arith, length-replicate {A = ℕ} 1024 0) in
-    let room : 1024 ≤ a .room = c .before .before .before .before .before .before .before .before .before .before .before .before .before .before .before .before .before .before .before .before .before .before .before .before .before .before .before .before .before .before .before .before .before .before .if1 .left in
-    let few : c .before .before .before .before .before .before .before .before .before .before .before .before .before .before .before .before .before .before .before .before .before .serve .result .lots ≤ 1024 = omega (arith, told .lots-are, lots-few mainLimits (a .file .now) (longMemory mainLimits (inTables (a .output .now) zeros zeros zeros (others (a .loadedpins .now) (a .presentpins .now) (a .firsts .now) (a .loadedsizes .now) (a .presentsizes .now) (a .counts .now) (a .gains .now) (a .visited .now))))) in
+    let long : a .vmax ≤ length zeros = omega (arith, length-replicate {A = ℕ} 1024 0, start .pre) in
+    let room : a .vmax ≤ a .room = c .before .before .before .before .before .before .before .before .before .before .before .before .before .before .before .before .before .before .before .before .before .before .before .before .before .before .before .before .before .before .before .before .before .before .if1 .left in
+    let few : c .before .before .before .before .before .before .before .before .before .before .before .before .before .before .before .before .before .before .before .before .before .serve .result .lots ≤ a .vmax = omega (arith, told .lots-are, lots-few (limitsOf (a .vmax) (a .bmax)) (a .file .now) (longMemory (limitsOf (a .vmax) (a .bmax)) (inTables (a .output .now) zeros zeros zeros (others (a .loadedpins .now) (a .presentpins .now) (a .firsts .now) (a .loadedsizes .now) (a .presentsizes .now) (a .counts .now) (a .gains .now) (a .visited .now))))) in
     record {
       fits = omega (arith, few, room);
-      small = few;
-      serves = λ lots e. serves-records mainLimits (a .file .now) (a .output .now) (last .1 .0) zeros zeros zeros (last .1 .1 .0) (last .1 .1 .1 .0) (last .1 .1 .1 .1 .0)
-          (others (a .loadedpins .now) (a .presentpins .now) (a .firsts .now) (a .loadedsizes .now) (a .presentsizes .now) (a .counts .now) (a .gains .now) (a .visited .now)) (others (last .1 .1 .1 .1 .1 .0) (last .1 .1 .1 .1 .1 .1 .0) (last .1 .1 .1 .1 .1 .1 .1 .0) (last .1 .1 .1 .1 .1 .1 .1 .1 .0) (last .1 .1 .1 .1 .1 .1 .1 .1 .1 .0) (last .1 .1 .1 .1 .1 .1 .1 .1 .1 .1 .0) (last .1 .1 .1 .1 .1 .1 .1 .1 .1 .1 .1 .0) (last .1 .1 .1 .1 .1 .1 .1 .1 .1 .1 .1 .1 .0)) (c .gather .result) lots (c .before .before .before .before .before .before .before .before .before .before .before .before .before .before .before .before .before .before .before .before .before .serve .result .lots) _ _
+      small = omega (arith, few, start .pre);
+      serves = λ lots e. serves-records (limitsOf (a .vmax) (a .bmax)) (a .file .now) (a .output .now) (last .1 .1 .1 .0) zeros zeros zeros (last .1 .1 .1 .1 .0) (last .1 .1 .1 .1 .1 .0) (last .1 .1 .1 .1 .1 .1 .0)
+          (others (a .loadedpins .now) (a .presentpins .now) (a .firsts .now) (a .loadedsizes .now) (a .presentsizes .now) (a .counts .now) (a .gains .now) (a .visited .now)) (others (last .1 .1 .1 .1 .1 .1 .1 .0) (last .1 .1 .1 .1 .1 .1 .1 .1 .0) (last .1 .1 .1 .1 .1 .1 .1 .1 .1 .0) (last .1 .1 .1 .1 .1 .1 .1 .1 .1 .1 .0) (last .1 .1 .1 .1 .1 .1 .1 .1 .1 .1 .1 .0) (last .1 .1 .1 .1 .1 .1 .1 .1 .1 .1 .1 .1 .0) (last .1 .1 .1 .1 .1 .1 .1 .1 .1 .1 .1 .1 .1 .0) (last .1 .1 .1 .1 .1 .1 .1 .1 .1 .1 .1 .1 .1 .1 .0)) (c .gather .result) lots (c .before .before .before .before .before .before .before .before .before .before .before .before .before .before .before .before .before .before .before .before .before .serve .result .lots) _ _
           long long long (omega (arith, e, room)) few (c .gather .ensures) (told .lots-are) (told .serves);
     }
 
