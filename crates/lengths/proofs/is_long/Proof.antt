@@ -37,6 +37,9 @@ returns-6 c limits q =
     let at-if1 = at-if2 .before in
     by-tests limits _ q (short-yes 60000 _ (at-if1 .if1 .left) (short-yes _ _ (at-if2 .if2 .left) (short-yes _ _ (at-if3 .if3 .left) (short-yes _ _ (at-if4 .if4 .left) (both-yes _ _ (lists-test _ (c .before .before .are-long .ensures)) (c .before .if5 .left) (short-no 16384 _ _ (c .if6 .taken)))))))
 
+mul-if7 : tie.Need-mul-if7
+mul-if7 c = search needs
+
 returns-7 : tie.Need-returns-7
 returns-7 c limits q =
     let at-long = c .before .before .before in
@@ -54,9 +57,6 @@ returns-8 c limits q =
     let at-if2 = at-if3 .before in
     let at-if1 = at-if2 .before in
     by-tests limits _ q (short-yes 60000 _ (at-if1 .if1 .left) (short-yes _ _ (at-if2 .if2 .left) (short-yes _ _ (at-if3 .if3 .left) (short-yes _ _ (at-if4 .if4 .left) (both-yes _ _ (lists-test _ (at-long .are-long .ensures)) (c .before .before .if5 .left) (short-yes 16384 _ (c .before .if6 .left) (short-yes _ _ (c .if7 .left) (refl))))))))
-
-mul-if7 : tie.Need-mul-if7
-mul-if7 c = search needs
 
 pub is-long-spec : {M : Type 1} → statement M
 is-long-spec =
