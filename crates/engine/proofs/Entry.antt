@@ -63,10 +63,11 @@ use Rattle.records.proofs.write.Symbol.{name as #write}
 use Rattle.engine.proofs.run.kapokdrill_run as f
 
 -- ---- the MIR of an entry, but for the name of what answers
--- the type of a slice's entry behind its reference, and spelled out
+-- a lot's record behind a reference
 abbrev lotTy : Ty
 lotTy = pointee (L.the-row .written)
 
+-- the two locals of a slice that is lent again: its pointer, and the slice
 abbrev lends : Ty → List Local
 lends τ = local (tyRef erased mut τ) valueLocal ∷ local (sliceTy (tyRef erased mut τ)) valueLocal ∷ []
 
@@ -82,7 +83,7 @@ locals =
     ∷ (lends (tyInt w8) ++ lends (tyInt w16) ++ lends (tyInt w16) ++ lends (tyInt w16) ++ lends (tyInt w16) ++ lends (tyInt w16) ++ lends (tyInt w16) ++ lends (tyInt w32) ++ lends (tyInt w16)
     ++ (local tyUnit valueLocal ∷ lends lotTy))
 
--- parameter p is lent again: its pointer in local l, the slice in the next one
+-- parameter p is lent again, in the locals l and l + 1
 abbrev lend : ℕ → ℕ → Ty → Body → Body
 lend p l τ rest = seq (assign (place l []) (addrOf (place p (field 0 ∷ deref τ ∷ [])))) (seq (assign (place (suc l) []) (aggregate (copy (place l []) ∷ copy (place p (field 1 ∷ [])) ∷ []))) rest)
 
@@ -131,11 +132,11 @@ module _ {M : Type 1} (𝓤 : URA M) (limits : Limits) where
     ghost = Unit {0};
     requires = λ _. emp 𝓤;
     ensures = λ _ r z. fact 𝓤 (
-      Serves limits (a .0 .now)
-          (lentRecords (a .1 .1 .0 .now) (a .1 .0 .now) (others (a .1 .1 .1 .0 .now) (a .1 .1 .1 .1 .0 .now) (a .1 .1 .1 .1 .1 .0 .now) (a .1 .1 .1 .1 .1 .1 .0 .now) (a .1 .1 .1 .1 .1 .1 .1 .0 .now) (a .1 .1 .1 .1 .1 .1 .1 .1 .0 .now) (a .1 .1 .1 .1 .1 .1 .1 .1 .1 .0 .now) (a .1 .1 .1 .1 .1 .1 .1 .1 .1 .1 .0 .now)))
-          (lentRecords (z .1 .1 .0 .now) (z .1 .0 .now) (others (z .1 .1 .1 .0 .now) (z .1 .1 .1 .1 .0 .now) (z .1 .1 .1 .1 .1 .0 .now) (z .1 .1 .1 .1 .1 .1 .0 .now) (z .1 .1 .1 .1 .1 .1 .1 .0 .now) (z .1 .1 .1 .1 .1 .1 .1 .1 .0 .now) (z .1 .1 .1 .1 .1 .1 .1 .1 .1 .0 .now) (z .1 .1 .1 .1 .1 .1 .1 .1 .1 .1 .0 .now)))
-          (r .code) (r .written)
-    );
+        Serves limits (a .0 .now)
+        (lentRecords (a .1 .1 .0 .now) (a .1 .0 .now) (others (a .1 .1 .1 .0 .now) (a .1 .1 .1 .1 .0 .now) (a .1 .1 .1 .1 .1 .0 .now) (a .1 .1 .1 .1 .1 .1 .0 .now) (a .1 .1 .1 .1 .1 .1 .1 .0 .now) (a .1 .1 .1 .1 .1 .1 .1 .1 .0 .now) (a .1 .1 .1 .1 .1 .1 .1 .1 .1 .0 .now) (a .1 .1 .1 .1 .1 .1 .1 .1 .1 .1 .0 .now)))
+        (lentRecords (z .1 .1 .0 .now) (z .1 .0 .now) (others (z .1 .1 .1 .0 .now) (z .1 .1 .1 .1 .0 .now) (z .1 .1 .1 .1 .1 .0 .now) (z .1 .1 .1 .1 .1 .1 .0 .now) (z .1 .1 .1 .1 .1 .1 .1 .0 .now) (z .1 .1 .1 .1 .1 .1 .1 .1 .0 .now) (z .1 .1 .1 .1 .1 .1 .1 .1 .1 .0 .now) (z .1 .1 .1 .1 .1 .1 .1 .1 .1 .1 .0 .now)))
+        (r .code) (r .written)
+        );
   }
 
   -- what it is answered
@@ -144,11 +145,11 @@ module _ {M : Type 1} (𝓤 : URA M) (limits : Limits) where
     ghost = Unit {0};
     requires = λ _. emp 𝓤;
     ensures = λ _ r z. fact 𝓤 (
-      Answers limits (a .0 .now) (a .1 .0)
-          (a .1 .1 .0 .now) (others (a .1 .1 .1 .0 .now) (a .1 .1 .1 .1 .0 .now) (a .1 .1 .1 .1 .1 .0 .now) (a .1 .1 .1 .1 .1 .1 .0 .now) (a .1 .1 .1 .1 .1 .1 .1 .0 .now) (a .1 .1 .1 .1 .1 .1 .1 .1 .0 .now) (a .1 .1 .1 .1 .1 .1 .1 .1 .1 .0 .now) (a .1 .1 .1 .1 .1 .1 .1 .1 .1 .1 .0 .now))
-          (z .1 .1 .0 .now) (others (z .1 .1 .1 .0 .now) (z .1 .1 .1 .1 .0 .now) (z .1 .1 .1 .1 .1 .0 .now) (z .1 .1 .1 .1 .1 .1 .0 .now) (z .1 .1 .1 .1 .1 .1 .1 .0 .now) (z .1 .1 .1 .1 .1 .1 .1 .1 .0 .now) (z .1 .1 .1 .1 .1 .1 .1 .1 .1 .0 .now) (z .1 .1 .1 .1 .1 .1 .1 .1 .1 .1 .0 .now))
-          r
-    );
+        Answers limits (a .0 .now) (a .1 .0)
+        (a .1 .1 .0 .now) (others (a .1 .1 .1 .0 .now) (a .1 .1 .1 .1 .0 .now) (a .1 .1 .1 .1 .1 .0 .now) (a .1 .1 .1 .1 .1 .1 .0 .now) (a .1 .1 .1 .1 .1 .1 .1 .0 .now) (a .1 .1 .1 .1 .1 .1 .1 .1 .0 .now) (a .1 .1 .1 .1 .1 .1 .1 .1 .1 .0 .now) (a .1 .1 .1 .1 .1 .1 .1 .1 .1 .1 .0 .now))
+        (z .1 .1 .0 .now) (others (z .1 .1 .1 .0 .now) (z .1 .1 .1 .1 .0 .now) (z .1 .1 .1 .1 .1 .0 .now) (z .1 .1 .1 .1 .1 .1 .0 .now) (z .1 .1 .1 .1 .1 .1 .1 .0 .now) (z .1 .1 .1 .1 .1 .1 .1 .1 .0 .now) (z .1 .1 .1 .1 .1 .1 .1 .1 .1 .0 .now) (z .1 .1 .1 .1 .1 .1 .1 .1 .1 .1 .0 .now))
+        r
+        );
   }
 
 module _ {M : Type 1} (𝓤 : URA M) (H : Heap 𝓤) (A : Atoms 𝓤) (mem : Memory → SProp 𝓤) (rn : Routine → Fun 𝓤) where

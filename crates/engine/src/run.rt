@@ -1,10 +1,11 @@
-// The entry that customers call: a sale file and lent memory, the lots as a lent slice of records. The engine works on three tables of its
-// own, and each lot's record is then written. Rests on records.
-ghost use Rattle.model.specs.Catalogue.{mainLimits};
+// The entries that customers call: a sale file and lent memory, the lots as a lent slice of records. The engine works on three tables of its
+// own, and each lot's record is then written. The two differ in their limits alone. Rests on records.
+ghost use Rattle.model.specs.Catalogue.{mainLimits, fineLimits};
 ghost use Rattle.model.specs.Memory.{Serves};
 ghost use Rattle.model.specs.Lent.{others, inRecords};
 ghost use Rattle.records.specs.declared.Lot.{Lot};
 use records::Lot;
+use records::limits::at_fine;
 use records::limits::at_main;
 use records::write;
 
@@ -34,6 +35,45 @@ pub extern "C" fn kapokdrill_run(
     ensures { λ r. ⌜ Serves mainLimits (now (file .entry)) (inRecords (λ (l : Lot). l .bales) (λ (l : Lot). l .session) (λ (l : Lot). l .above) (now (output .entry)) (now (lots .entry)) (others (now (loadedpins .entry)) (now (presentpins .entry)) (now (firsts .entry)) (now (loadedsizes .entry)) (now (presentsizes .entry)) (now (counts .entry)) (now (gains .entry)) (now (visited .entry)))) (inRecords (λ (l : Lot). l .bales) (λ (l : Lot). l .session) (λ (l : Lot). l .above) (now (output .exit)) (now (lots .exit)) (others (now (loadedpins .exit)) (now (presentpins .exit)) (now (firsts .exit)) (now (loadedsizes .exit)) (now (presentsizes .exit)) (now (counts .exit)) (now (gains .exit)) (now (visited .exit)))) (r .code) (r .written) ⌝ }
 {
     let answer = at_main(
+        file,
+        lots.len(),
+        output,
+        loadedpins,
+        presentpins,
+        firsts,
+        loadedsizes,
+        presentsizes,
+        counts,
+        gains,
+        visited,
+    );
+    let n = answer.n;
+    let new = answer.lots;
+    write(lots, n, new);
+    Ran {
+        code: answer.code,
+        written: answer.written,
+    }
+}
+
+// The superfine desk's entry, whose lots may be 256 records and whose gains 4,096 entries: 257 lots or 9 sessions are out of range (3).
+#[no_mangle]
+pub extern "C" fn kapokdrill_run_fine(
+    file: &[u8],
+    lots: &mut [Lot],
+    output: &mut [u8],
+    loadedpins: &mut [u16],
+    presentpins: &mut [u16],
+    firsts: &mut [u16],
+    loadedsizes: &mut [u16],
+    presentsizes: &mut [u16],
+    counts: &mut [u16],
+    gains: &mut [i32],
+    visited: &mut [u16],
+) -> Ran
+    ensures { λ r. ⌜ Serves fineLimits (now (file .entry)) (inRecords (λ (l : Lot). l .bales) (λ (l : Lot). l .session) (λ (l : Lot). l .above) (now (output .entry)) (now (lots .entry)) (others (now (loadedpins .entry)) (now (presentpins .entry)) (now (firsts .entry)) (now (loadedsizes .entry)) (now (presentsizes .entry)) (now (counts .entry)) (now (gains .entry)) (now (visited .entry)))) (inRecords (λ (l : Lot). l .bales) (λ (l : Lot). l .session) (λ (l : Lot). l .above) (now (output .exit)) (now (lots .exit)) (others (now (loadedpins .exit)) (now (presentpins .exit)) (now (firsts .exit)) (now (loadedsizes .exit)) (now (presentsizes .exit)) (now (counts .exit)) (now (gains .exit)) (now (visited .exit)))) (r .code) (r .written) ⌝ }
+{
+    let answer = at_fine(
         file,
         lots.len(),
         output,

@@ -14,6 +14,10 @@ pub record Limits : Type 0 where
 abbrev pub mainLimits : Limits
 mainLimits = record { vertexLimit = 1024; blockLimit = 16 }
 
+-- the superfine desk's (M-102): "257 lots or 9 sessions are out of range"
+abbrev pub fineLimits : Limits
+fineLimits = record { vertexLimit = 256; blockLimit = 8 }
+
 -- net: a buyer with its weight. pins: the lots marked with it, in the file's order
 pub record Net : Type 0 where
   pub weight : ℕ

@@ -5,7 +5,7 @@ use mathlib.Core.Path.{_≡_, refl}
 use mathlib.Core.List.{List, [], _∷_, _++_}
 use Rattle.laws.specs.Sum.{sum, sumTo, foldTo}
 use Rattle.laws.specs.Fold.{sumOver, any, all}
-use Rattle.model.specs.Catalogue.{Hypergraph, mainLimits, averageWeight, nearest, capacity}
+use Rattle.model.specs.Catalogue.{Hypergraph, mainLimits, fineLimits, averageWeight, nearest, capacity}
 use Rattle.model.specs.Measure.{above, climb, representative, weight, blockWeight}
 use Rattle.model.specs.Machine.{callM, callW}
 use Rattle.model.specs.Report.{digitsOf, digits}
@@ -111,3 +111,14 @@ pub edges :
     }))
 unfolding many digitsOf digits sum sumTo foldTo sumOver any all averageWeight nearest capacity above climb representative weight blockWeight bytes same parts isNumber onward value fields isLine saleLine overfull grown withLot lotLine mark marking withNet netRead buyLine asked withCall callLine line ending lines parse
 edges = (refl, refl, refl, refl, refl, refl, refl, refl, refl, refl, refl, refl, refl, refl, refl, refl, refl, refl, refl, refl, refl, refl, refl, refl, refl, refl, refl, refl, refl, refl, refl, refl, refl, refl, refl, refl, refl, refl, refl, refl, refl, refl, refl, refl, refl, refl, refl, refl, refl, refl, refl)
+
+-- M-102, the superfine desk's entry: 257 lots and 9 sessions are out of range; 256 and 8 are read, so that the first LOT line is missing
+pub fine-edges :
+    (parse fineLimits (bytes "SALE,257,0,8,0\n") ≡ stopped 3 1)
+    × (parse fineLimits (bytes "SALE,256,0,9,0\n") ≡ stopped 3 1)
+    × (parse fineLimits (bytes "SALE,256,1024,8,1000\n") ≡ stopped 2 2)
+    × (says (bytes "SALE,257,0,9,0\n") ≡ stopped 2 2)
+    -- sessions of the draft go by the file's own count, not by the limit
+    × (parse fineLimits (bytes "SALE,1,0,2,1000\nLOT,7,3\n") ≡ stopped 3 2)
+unfolding digitsOf digits sum sumTo foldTo sumOver any all averageWeight nearest capacity above climb representative weight blockWeight bytes same parts isNumber onward value fields isLine saleLine overfull grown withLot lotLine mark marking withNet netRead buyLine asked withCall callLine line ending lines parse
+fine-edges = (refl, refl, refl, refl, refl)

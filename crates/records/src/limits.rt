@@ -1,5 +1,5 @@
 // The engine on tables of its own for the lots, at the limits of each entry.
-ghost use Rattle.model.specs.Catalogue.{mainLimits};
+ghost use Rattle.model.specs.Catalogue.{mainLimits, fineLimits};
 ghost use Rattle.model.specs.Lent.{others};
 ghost use Rattle.records.specs.Entry.{Answers};
 use crate::answering::Answer;
@@ -25,6 +25,39 @@ pub fn at_main(
         file,
         1024,
         16,
+        room,
+        output,
+        loadedpins,
+        presentpins,
+        firsts,
+        loadedsizes,
+        presentsizes,
+        counts,
+        gains,
+        visited,
+    )
+}
+
+// The superfine desk's: 256 lots, 8 sessions.
+pub fn at_fine(
+    file: &[u8],
+    room: usize,
+    output: &mut [u8],
+    loadedpins: &mut [u16],
+    presentpins: &mut [u16],
+    firsts: &mut [u16],
+    loadedsizes: &mut [u16],
+    presentsizes: &mut [u16],
+    counts: &mut [u16],
+    gains: &mut [i32],
+    visited: &mut [u16],
+) -> Answer
+    ensures { λ r. ⌜ Answers fineLimits (now (file .entry)) room (now (output .entry)) (others (now (loadedpins .entry)) (now (presentpins .entry)) (now (firsts .entry)) (now (loadedsizes .entry)) (now (presentsizes .entry)) (now (counts .entry)) (now (gains .entry)) (now (visited .entry))) (now (output .exit)) (others (now (loadedpins .exit)) (now (presentpins .exit)) (now (firsts .exit)) (now (loadedsizes .exit)) (now (presentsizes .exit)) (now (counts .exit)) (now (gains .exit)) (now (visited .exit))) r ⌝ }
+{
+    core(
+        file,
+        256,
+        8,
         room,
         output,
         loadedpins,
