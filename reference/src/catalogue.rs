@@ -23,6 +23,14 @@ pub struct Limits {
     pub sessions: u64,
 }
 
+impl Limits {
+    /// Those of the superfine desk, which calls the engine through an entry of its own.
+    pub const SUPERFINE: Limits = Limits {
+        lots: 256,
+        sessions: 8,
+    };
+}
+
 impl Default for Limits {
     fn default() -> Self {
         Limits {

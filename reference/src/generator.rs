@@ -97,10 +97,12 @@ pub enum Kind {
     /// Most lots in session 1 and few lists, some of all lots, so that walks are long and have
     /// prefixes of equal total that are not equally heavy.
     Lopsided,
+    /// Lots and sessions around the superfine desk's limits, 256 and 8.
+    Superfine,
 }
 
 /// All kinds with the names that the program takes.
-pub const KINDS: [(&str, Kind); 21] = [
+pub const KINDS: [(&str, Kind); 22] = [
     ("mixed", Kind::Mixed),
     ("one-lot", Kind::OneLot),
     ("no-buyers", Kind::NoBuyers),
@@ -122,6 +124,7 @@ pub const KINDS: [(&str, Kind); 21] = [
     ("large", Kind::Large),
     ("half-caps", Kind::HalfCaps),
     ("lopsided", Kind::Lopsided),
+    ("superfine", Kind::Superfine),
 ];
 
 /// An accepted sale of a kind that the seed settles; mostly a small one.
@@ -132,11 +135,13 @@ pub fn sale(seed: u64) -> Vec<u8> {
     } else {
         random.pick(&KINDS).1
     };
-    // A large sale takes long, so only one draw of it in a hundred stands.
-    if kind == Kind::Large && !random.in_hundred(1) {
-        return sale_of_kind(seed, Kind::Mixed);
-    }
-    sale_of_kind(seed, kind)
+    // These sales take long, so only few draws of them stand.
+    let stands = match kind {
+        Kind::Large => random.in_hundred(1),
+        Kind::Superfine => random.in_hundred(20),
+        _ => true,
+    };
+    sale_of_kind(seed, if stands { kind } else { Kind::Mixed })
 }
 
 /// An accepted sale of the given kind.
@@ -201,6 +206,7 @@ fn catalogue(random: &mut Random, kind: Kind) -> Catalogue {
     let sessions = match kind {
         Kind::TwoSessions => 2,
         Kind::SixteenSessions => 16,
+        Kind::Superfine => random.between(7, 9) as usize,
         Kind::Walks | Kind::Lopsided => random.between(2, 3) as usize,
         _ if random.in_hundred(60) => random.between(2, 4) as usize,
         _ => random.between(2, 16) as usize,
@@ -208,6 +214,7 @@ fn catalogue(random: &mut Random, kind: Kind) -> Catalogue {
     let lot_count = match kind {
         Kind::OneLot => 1,
         Kind::Large => random.between(150, 400) as usize,
+        Kind::Superfine => *random.pick(&[20, 255, 256, 256, 257, 258]),
         Kind::SixteenSessions | Kind::Rounds => random.between(8, 70) as usize,
         Kind::Walks | Kind::Lopsided => random.between(5, 50) as usize,
         _ if random.in_hundred(75) => random.between(1, 14) as usize,
@@ -309,6 +316,7 @@ fn mark_lists(random: &mut Random, kind: Kind, lots: usize) -> Vec<Buyer> {
         Kind::NoBuyers => 0,
         Kind::Lopsided => random.between(0, 5) as usize,
         Kind::Large => random.between(100, 400) as usize,
+        Kind::Superfine => random.between(10, 120) as usize,
         Kind::Walks | Kind::Rounds | Kind::SixteenSessions => random.between(5, 60) as usize,
         _ if random.in_hundred(80) => random.between(0, 15) as usize,
         _ => random.between(10, 60) as usize,
@@ -405,6 +413,7 @@ fn calls_of_kind(random: &mut Random, catalogue: &Catalogue, kind: Kind) -> Vec<
             shaped(pairs, random)
         }
         Kind::Walks => steered_calls(random, catalogue, 14, &[14, 10, 26, 16, 28, 2, 0, 4]),
+        Kind::Superfine => steered_calls(random, catalogue, 8, &[28, 15, 25, 10, 15, 5, 2, 0]),
         Kind::Lopsided => steered_calls(random, catalogue, 10, &[20, 10, 20, 10, 35, 0, 5, 0]),
         Kind::Rounds => {
             let mut calls = steered_calls(random, catalogue, 4, &[0, 0, 50, 10, 20, 20, 0, 0]);
@@ -562,14 +571,18 @@ fn any_call(random: &mut Random, catalogue: &Catalogue) -> Call {
 /// A sale file with one to three faults put in, or random bytes. It may still be accepted.
 pub fn damaged(seed: u64) -> Vec<u8> {
     let mut random = Random::new(seed ^ 0x44_41_4D_41_47_45);
-    let kind = *random.pick(&[
-        Kind::Mixed,
-        Kind::OneLot,
-        Kind::Nested,
-        Kind::Overlapping,
-        Kind::BadCalls,
-        Kind::NoBuyers,
-    ]);
+    let kind = if random.in_hundred(3) {
+        Kind::Superfine
+    } else {
+        *random.pick(&[
+            Kind::Mixed,
+            Kind::OneLot,
+            Kind::Nested,
+            Kind::Overlapping,
+            Kind::BadCalls,
+            Kind::NoBuyers,
+        ])
+    };
     let mut file = sale_of_kind(random.bits(), kind);
     for _ in 0..random.between(1, 3) {
         file = damage(&mut random, file);
@@ -698,12 +711,16 @@ fn change_number(random: &mut Random, line: &[u8]) -> Vec<u8> {
         .collect();
     if fields.len() > 1 {
         let place = random.between(1, fields.len() as u64 - 1) as usize;
-        let texts: [&[u8]; 9] = [
+        let texts: [&[u8]; 13] = [
             b"0",
             b"1",
             b"2",
+            b"8",
+            b"9",
             b"16",
             b"17",
+            b"256",
+            b"257",
             b"1001",
             b"1025",
             b"65536",

@@ -58,6 +58,11 @@ pub fn run(file: &[u8]) -> Outcome {
     run_within(file, &Limits::default())
 }
 
+/// As `run`, through the superfine desk's entry.
+pub fn run_fine(file: &[u8]) -> Outcome {
+    run_within(file, &Limits::SUPERFINE)
+}
+
 /// As `run`, with limits other than those of document 01.
 pub fn run_within(file: &[u8], limits: &Limits) -> Outcome {
     match parse_within(file, limits) {

@@ -21,7 +21,7 @@ pub struct MoveOrders {
 pub fn move_orders(seed: u64) -> MoveOrders {
     let mut random = Random::new(seed ^ 0x4F_52_44_45_52);
     let (_, mut kind) = *random.pick(&KINDS);
-    if kind == Kind::Large {
+    if matches!(kind, Kind::Large | Kind::Superfine) {
         kind = Kind::Mixed;
     }
     let catalogue = catalogue_of_kind(random.bits(), kind);

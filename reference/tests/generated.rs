@@ -7,7 +7,7 @@ use std::collections::BTreeSet;
 use reference::generator::{calls, damaged, sale, sale_of_kind, Kind, KINDS};
 use reference::measure::{cap, fair_share, View};
 use reference::report::answer_line;
-use reference::{parse, parse_within, run, run_calls, tables_after};
+use reference::{parse, parse_within, run, run_calls, run_fine, tables_after};
 use reference::{Answer, Call, Catalogue, Limits, Machine, Tables};
 
 #[test]
@@ -287,6 +287,26 @@ fn all_answers_have_their_lines() {
     };
     assert_eq!(line(Ok(moved)), "M,3,10,9\n");
     assert_eq!(line(Err(14)), "NO,14\n");
+}
+
+#[test]
+fn superfine_sales_give_one_report_within_both_limits_or_3_on_line_1() {
+    let (mut same, mut out_of_range) = (0, 0);
+    for seed in 0..60 {
+        let file = sale_of_kind(seed, Kind::Superfine);
+        let Catalogue { lots, sessions, .. } = parse(&file).expect("it is accepted").catalogue;
+        let fine = run_fine(&file);
+        if lots.len() <= 256 && sessions <= 8 {
+            assert_eq!(fine, run(&file), "{seed}");
+            same += usize::from(lots.len() == 256);
+        } else {
+            assert_eq!(fine.code, 3, "{seed}");
+            assert_eq!(fine.report, b"NO,3,1\n", "{seed}");
+            out_of_range += 1;
+        }
+    }
+    assert!(same > 5, "{same}");
+    assert!(out_of_range > 5, "{out_of_range}");
 }
 
 #[test]
