@@ -34,6 +34,9 @@ fn generated_sales_give_the_references_reports() {
             let wanted = reference::run(&file);
             let found = splitter.run(&file);
             assert!(found == (wanted.code, &wanted.report[..]), "seed {seed}");
+            let wanted = reference::run_fine(&file);
+            let found = splitter.run_fine(&file);
+            assert!(found == (wanted.code, &wanted.report[..]), "seed {seed}");
         }
     }
 }

@@ -31,8 +31,17 @@ pub struct Splitter {
 impl Splitter {
     /// Reads a sale file, runs its calls and writes the report: 0 or the refusal's number.
     pub fn run(&mut self, file: &[u8]) -> (u32, &[u8]) {
+        self.run_within(file, 1024, 16)
+    }
+
+    /// The same within the superfine desk's limits.
+    pub fn run_fine(&mut self, file: &[u8]) -> (u32, &[u8]) {
+        self.run_within(file, 256, 8)
+    }
+
+    fn run_within(&mut self, file: &[u8], vertices: u32, blocks: u32) -> (u32, &[u8]) {
         self.report.clear();
-        if let Err(refusal) = self.catalogue.read(file) {
+        if let Err(refusal) = self.catalogue.read(file, vertices, blocks) {
             self.report.refused_file(refusal);
             return (refusal.number, self.report.bytes());
         }

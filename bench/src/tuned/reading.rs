@@ -137,8 +137,8 @@ fn numbers(rest: &[u8], name: &[u8], fields: &mut Vec<u32>) -> Option<usize> {
 }
 
 impl Catalogue {
-    /// Reads a whole file.
-    pub fn read(&mut self, file: &[u8]) -> Result<(), Refusal> {
+    /// Reads a whole file of at most so many vertices and blocks.
+    pub fn read(&mut self, file: &[u8], vertices: u32, blocks: u32) -> Result<(), Refusal> {
         if file.len() > 60_000 {
             return Err(Refusal { number: 1, line: 0 });
         }
@@ -146,7 +146,7 @@ impl Catalogue {
             rest: file,
             line: 0,
         };
-        let slack = self.read_head(&mut lines)?;
+        let slack = self.read_head(&mut lines, vertices, blocks)?;
         self.read_vertices(&mut lines, slack)?;
         self.read_nets(&mut lines)?;
         let mut loads = [0; 16];
@@ -159,11 +159,11 @@ impl Catalogue {
         self.read_calls(&mut lines)
     }
 
-    fn read_head(&mut self, lines: &mut Lines) -> Result<u32, Refusal> {
+    fn read_head(&mut self, lines: &mut Lines, vertices: u32, blocks: u32) -> Result<u32, Refusal> {
         lines.next(b"SALE", &mut self.fields, |count| count == 4)?;
-        self.vertices = lines.in_range(self.fields[0], 1, 1024)? as usize;
+        self.vertices = lines.in_range(self.fields[0], 1, vertices)? as usize;
         self.nets = lines.in_range(self.fields[1], 0, 1024)? as usize;
-        self.blocks = lines.in_range(self.fields[2], 2, 16)? as usize;
+        self.blocks = lines.in_range(self.fields[2], 2, blocks)? as usize;
         lines.in_range(self.fields[3], 0, 1000)
     }
 
