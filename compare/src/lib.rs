@@ -4,11 +4,11 @@
 
 use kapokdrill::lent::{
     self, Columns, Lent, ListOutcome, Lot, NetTables, Outcome, Record, Stack, Stretch, NETS,
-    OUTPUT, PINS, ROWS, VERTICES,
+    OUTPUT, PINS, ROWS,
 };
 use reference::generator::{calls, Random};
 use reference::tables::{entry, Tables};
-use reference::{parse, report, run_calls, Call};
+use reference::{parse, parse_within, report, run_calls, Call, Limits};
 use std::path::PathBuf;
 
 pub mod orders;
@@ -37,6 +37,12 @@ fn noise<T>(random: &mut Random, length: usize, entry: impl Fn(u64) -> T) -> Vec
 impl Memory {
     /// Memory filled with random bytes.
     pub fn noise(random: &mut Random) -> Self {
+        Memory::noise_within(&Limits::default(), random)
+    }
+
+    /// The same for an entry with other limits: the tables by lot are as long as these ask for.
+    pub fn noise_within(limits: &Limits, random: &mut Random) -> Self {
+        let lots = limits.lots as usize;
         let short = |bits: u64| bits as u16;
         let lot = |bits: u64| Lot {
             bales: bits as u32,
@@ -44,7 +50,7 @@ impl Memory {
             above: (bits >> 48) as u16,
         };
         Memory {
-            lots: noise(random, VERTICES, lot),
+            lots: noise(random, lots, lot),
             output: noise(random, OUTPUT, |bits| bits as u8),
             loadedpins: noise(random, PINS, short),
             presentpins: noise(random, PINS, short),
@@ -52,7 +58,7 @@ impl Memory {
             loadedsizes: noise(random, NETS, short),
             presentsizes: noise(random, NETS, short),
             counts: noise(random, ROWS, short),
-            gains: noise(random, ROWS, |bits| bits as i32),
+            gains: noise(random, 16 * lots, |bits| bits as i32),
             visited: noise(random, NETS, short),
         }
     }
@@ -220,12 +226,22 @@ impl Memory {
 /// Runs a file on memory of random bytes and compares all with the reference: the return, or what
 /// differs. The stretches of pins are compared for numbers that name a net and for some that don't.
 pub fn compare(file: &[u8], random: &mut Random) -> Result<u32, String> {
-    let before = Memory::noise(random);
+    compare_through(Memory::run, &Limits::default(), file, random)
+}
+
+/// The same through an entry with its limits.
+fn compare_through(
+    entry: fn(&mut Memory, &[u8]) -> Outcome,
+    limits: &Limits,
+    file: &[u8],
+    random: &mut Random,
+) -> Result<u32, String> {
+    let before = Memory::noise_within(limits, random);
     let mut found = before.clone();
-    let outcome = found.run(file);
+    let outcome = entry(&mut found, file);
 
     let mut wanted = before;
-    let (code, text) = match parse(file) {
+    let (code, text) = match parse_within(file, limits) {
         Ok(sale) => {
             let end = run_calls(&sale.catalogue, &sale.calls);
             wanted.finish(&end.tables, &found)?;
