@@ -51,10 +51,28 @@ fn every_sale_gives_its_report_and_code() {
 }
 
 #[test]
+fn every_sale_gives_its_superfine_report() {
+    for path in sale_files() {
+        let file = fs::read(&path).expect("a sale can be read");
+        let report = fs::read(path.with_extension("report")).expect("every sale has a report");
+        // Only where it is another has it a file of its own.
+        let fine = fs::read(path.with_extension("fine"));
+        assert!(fine.as_ref().ok() != Some(&report), "{}", path.display());
+        let wanted = fine.unwrap_or(report);
+        let outcome = reference::run_fine(&file);
+        assert!(outcome.report == wanted, "{}", path.display());
+        assert_eq!(outcome.code, code_of(&wanted), "{}", path.display());
+    }
+}
+
+#[test]
 fn every_report_belongs_to_a_sale() {
     for item in fs::read_dir(folder()).expect("the folder of sales is there") {
         let path = item.expect("the folder can be read").path();
-        if path.extension().is_some_and(|ending| ending == "report") {
+        if path
+            .extension()
+            .is_some_and(|ending| ending == "report" || ending == "fine")
+        {
             assert!(path.with_extension("sale").exists(), "{}", path.display());
         }
     }
