@@ -28,6 +28,9 @@ extern "C" {
 #define KAPOKDRILL_PINS 8192
 #define KAPOKDRILL_COUNTS 16384
 #define KAPOKDRILL_GAINS 16384
+/* At the superfine desk's entry two of them are less. */
+#define KAPOKDRILL_FINE_VERTICES 256
+#define KAPOKDRILL_FINE_GAINS 4096
 
 typedef struct {
     /* 0, or the number under which the file was turned down:
@@ -56,7 +59,7 @@ typedef struct {
  * entry likewise, and those of counts and gains at 16 * (number - 1) + block - 1. Entries that the
  * sale has no use for, and output past the report, keep what they held. Under 1 to 7 the tables
  * hold nothing of use; under 8 nothing is touched. */
-kapokdrill_result kapokdrill_run(
+typedef kapokdrill_result kapokdrill_entry(
     const uint8_t *file, size_t file_length,
     kapokdrill_lot *lots, size_t lots_length,
     uint8_t *output, size_t output_length,
@@ -75,6 +78,13 @@ kapokdrill_result kapokdrill_run(
     int32_t *gains, size_t gains_length,
     /* The blocks that a net visits: block s is bit s - 1 from the lowest. */
     uint16_t *visited, size_t visited_length);
+
+/* The main entry: 1,024 lots and 16 sessions. */
+kapokdrill_entry kapokdrill_run;
+
+/* The superfine desk's entry: 257 lots or 9 sessions are out of range (3), and `lots` may have 256
+ * records and `gains` 4,096 entries. All else is as at the main entry. */
+kapokdrill_entry kapokdrill_run_fine;
 
 /* The joins that stand: lot gone[i] was joined into lot into[i], the earliest first; 0 from depth on. */
 typedef struct {

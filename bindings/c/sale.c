@@ -1,5 +1,7 @@
-/* Runs the sale on standard input and prints its report; the exit status is 0 or the refusal. */
+/* Runs the sale on standard input and prints its report; the exit status is 0 or the refusal. With the
+ * argument `fine` it goes through the superfine desk's entry, lent no more than that needs. */
 #include <stdio.h>
+#include <string.h>
 
 #include "kapokdrill.h"
 
@@ -14,13 +16,16 @@ static uint16_t counts[KAPOKDRILL_COUNTS];
 static int32_t gains[KAPOKDRILL_GAINS];
 static uint16_t visited[KAPOKDRILL_NETS];
 
-int main(void) {
+int main(int count, char **words) {
+    bool fine = count > 1 && strcmp(words[1], "fine") == 0;
+    kapokdrill_entry *run = fine ? kapokdrill_run_fine : kapokdrill_run;
     size_t length = fread(file, 1, sizeof file, stdin);
-    kapokdrill_result result = kapokdrill_run(
-        file, length, lots, KAPOKDRILL_VERTICES, output, KAPOKDRILL_OUTPUT,
+    kapokdrill_result result = run(
+        file, length, lots, fine ? KAPOKDRILL_FINE_VERTICES : KAPOKDRILL_VERTICES,
+        output, KAPOKDRILL_OUTPUT,
         loadedpins, KAPOKDRILL_PINS, presentpins, KAPOKDRILL_PINS, firsts, KAPOKDRILL_NETS,
-        loadedsizes, KAPOKDRILL_NETS, presentsizes, KAPOKDRILL_NETS,
-        counts, KAPOKDRILL_COUNTS, gains, KAPOKDRILL_GAINS, visited, KAPOKDRILL_NETS);
+        loadedsizes, KAPOKDRILL_NETS, presentsizes, KAPOKDRILL_NETS, counts, KAPOKDRILL_COUNTS,
+        gains, fine ? KAPOKDRILL_FINE_GAINS : KAPOKDRILL_GAINS, visited, KAPOKDRILL_NETS);
     fwrite(output, 1, result.written, stdout);
     return (int)result.code;
 }

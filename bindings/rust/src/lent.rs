@@ -1,6 +1,6 @@
-//! The engine over memory of the caller's: a sale file (`run`), a list of calls apart from the
-//! catalogue (`run_list`), and a net's pins as a stretch of a table (`pins`); and the converter of
-//! hMETIS files (`convert`). Every slice crosses with its own length, and the lengths are tested on
+//! The engine over memory of the caller's: a sale file (`run`, and `run_fine` for the superfine
+//! desk), a list of calls apart from the catalogue (`run_list`), and a net's pins as a stretch of a
+//! table (`pins`); and the converter of hMETIS files (`convert`). Every slice crosses with its own length, and the lengths are tested on
 //! the other side, so no call of these functions can be wrong. The tables have the names that the engine gives them.
 
 /// Bytes that the output must have.
@@ -13,6 +13,10 @@ pub const NETS: usize = 1_024;
 pub const PINS: usize = 8_192;
 /// Entries of the tables of counts and gains.
 pub const ROWS: usize = 16_384;
+/// Records of lots at the superfine desk's entry.
+pub const FINE_VERTICES: usize = 256;
+/// Entries of its table of gains.
+pub const FINE_ROWS: usize = 4_096;
 
 /// A lot's record: its bales, its session (0 off the board) and the lot that it was joined into (0
 /// on the board).
@@ -145,31 +149,6 @@ pub struct ListOutcome {
 // A slice is passed as its pointer and its number of entries; `bindings/kapokdrill.h` says the
 // same for C.
 extern "C" {
-    fn kapokdrill_run(
-        file: *const u8,
-        file_length: usize,
-        lots: *mut Lot,
-        lots_length: usize,
-        output: *mut u8,
-        output_length: usize,
-        loadedpins: *mut u16,
-        loadedpins_length: usize,
-        presentpins: *mut u16,
-        presentpins_length: usize,
-        firsts: *mut u16,
-        firsts_length: usize,
-        loadedsizes: *mut u16,
-        loadedsizes_length: usize,
-        presentsizes: *mut u16,
-        presentsizes_length: usize,
-        counts: *mut u16,
-        counts_length: usize,
-        gains: *mut i32,
-        gains_length: usize,
-        visited: *mut u16,
-        visited_length: usize,
-    ) -> Outcome;
-
     fn kapokdrill_list(
         file: *const u8,
         file_length: usize,
@@ -224,36 +203,80 @@ extern "C" {
     ) -> Outcome;
 }
 
-/// Reads a sale file, runs its calls and writes the report, on slices of any length.
-pub fn run(file: &[u8], lots: &mut [Lot], lent: Lent<'_>) -> Outcome {
-    // SAFETY: each pointer with its length is a slice that lives through the call, the `&mut`
-    // ones overlap nothing, and `Lot` has the fields and the layout of the engine's own.
-    unsafe {
-        kapokdrill_run(
-            file.as_ptr(),
-            file.len(),
-            lots.as_mut_ptr(),
-            lots.len(),
-            lent.output.as_mut_ptr(),
-            lent.output.len(),
-            lent.loadedpins.as_mut_ptr(),
-            lent.loadedpins.len(),
-            lent.presentpins.as_mut_ptr(),
-            lent.presentpins.len(),
-            lent.firsts.as_mut_ptr(),
-            lent.firsts.len(),
-            lent.loadedsizes.as_mut_ptr(),
-            lent.loadedsizes.len(),
-            lent.presentsizes.as_mut_ptr(),
-            lent.presentsizes.len(),
-            lent.counts.as_mut_ptr(),
-            lent.counts.len(),
-            lent.gains.as_mut_ptr(),
-            lent.gains.len(),
-            lent.visited.as_mut_ptr(),
-            lent.visited.len(),
-        )
-    }
+/// An entry over records: the engine's function, and the one here that calls it.
+macro_rules! over_records {
+    ($(#[$says:meta])* $here:ident, $entry:ident) => {
+        extern "C" {
+            fn $entry(
+                file: *const u8,
+                file_length: usize,
+                lots: *mut Lot,
+                lots_length: usize,
+                output: *mut u8,
+                output_length: usize,
+                loadedpins: *mut u16,
+                loadedpins_length: usize,
+                presentpins: *mut u16,
+                presentpins_length: usize,
+                firsts: *mut u16,
+                firsts_length: usize,
+                loadedsizes: *mut u16,
+                loadedsizes_length: usize,
+                presentsizes: *mut u16,
+                presentsizes_length: usize,
+                counts: *mut u16,
+                counts_length: usize,
+                gains: *mut i32,
+                gains_length: usize,
+                visited: *mut u16,
+                visited_length: usize,
+            ) -> Outcome;
+        }
+
+        $(#[$says])*
+        pub fn $here(file: &[u8], lots: &mut [Lot], lent: Lent<'_>) -> Outcome {
+            // SAFETY: each pointer with its length is a slice that lives through the call, the
+            // `&mut` ones overlap nothing, and `Lot` has the fields and the layout of the engine's
+            // own.
+            unsafe {
+                $entry(
+                    file.as_ptr(),
+                    file.len(),
+                    lots.as_mut_ptr(),
+                    lots.len(),
+                    lent.output.as_mut_ptr(),
+                    lent.output.len(),
+                    lent.loadedpins.as_mut_ptr(),
+                    lent.loadedpins.len(),
+                    lent.presentpins.as_mut_ptr(),
+                    lent.presentpins.len(),
+                    lent.firsts.as_mut_ptr(),
+                    lent.firsts.len(),
+                    lent.loadedsizes.as_mut_ptr(),
+                    lent.loadedsizes.len(),
+                    lent.presentsizes.as_mut_ptr(),
+                    lent.presentsizes.len(),
+                    lent.counts.as_mut_ptr(),
+                    lent.counts.len(),
+                    lent.gains.as_mut_ptr(),
+                    lent.gains.len(),
+                    lent.visited.as_mut_ptr(),
+                    lent.visited.len(),
+                )
+            }
+        }
+    };
+}
+
+over_records! {
+    /// Reads a sale file, runs its calls and writes the report, on slices of any length.
+    run, kapokdrill_run
+}
+
+over_records! {
+    /// The same through the superfine desk's entry: 257 lots or 9 sessions are out of range (3), and
+    /// the lots may have `FINE_VERTICES` records and the gains `FINE_ROWS` entries.
+    run_fine, kapokdrill_run_fine
 }
 
 /// Runs a list of calls on the catalogue of a sale file, whose own calls are read and do not run:

@@ -3,12 +3,24 @@
 
 pub mod lent;
 
-use lent::{Columns, Lent, ListOutcome, Lot, NetTables, NETS, OUTPUT, PINS, ROWS, VERTICES};
+use lent::{
+    Columns, Lent, ListOutcome, Lot, NetTables, FINE_ROWS, FINE_VERTICES, NETS, OUTPUT, PINS, ROWS,
+    VERTICES,
+};
+
+/// The entry that a sale file goes through: the main one, for catalogues of 1,024 lots and 16
+/// sessions, or the superfine desk's, for 256 and 8.
+#[derive(Clone, Copy, Debug, PartialEq, Eq)]
+pub enum Desk {
+    Main,
+    Superfine,
+}
 
 /// The lent output and tables of document 01, used again by every run and never cleared. Lots,
 /// buyers (the nets) and sessions (the blocks) count from 1. After a run with code 0 the entries of
 /// the sale's own lots and buyers hold what document 01 says; others keep what they held.
 pub struct Memory {
+    desk: Desk,
     lots: Box<[Lot]>,
     output: Box<[u8]>,
     loadedpins: Box<[u16]>,
@@ -23,13 +35,25 @@ pub struct Memory {
 
 impl Default for Memory {
     fn default() -> Self {
+        Memory::new(Desk::Main)
+    }
+}
+
+impl Memory {
+    /// Memory as long as the entry asks. The lots and the gains go by how many lots it takes.
+    pub fn new(desk: Desk) -> Self {
         let lot = Lot {
             bales: 0,
             session: 0,
             above: 0,
         };
+        let (vertices, gains) = match desk {
+            Desk::Main => (VERTICES, ROWS),
+            Desk::Superfine => (FINE_VERTICES, FINE_ROWS),
+        };
         Memory {
-            lots: vec![lot; VERTICES].into(),
+            desk,
+            lots: vec![lot; vertices].into(),
             output: vec![0; OUTPUT].into(),
             loadedpins: vec![0; PINS].into(),
             presentpins: vec![0; PINS].into(),
@@ -37,23 +61,26 @@ impl Default for Memory {
             loadedsizes: vec![0; NETS].into(),
             presentsizes: vec![0; NETS].into(),
             counts: vec![0; ROWS].into(),
-            gains: vec![0; ROWS].into(),
+            gains: vec![0; gains].into(),
             visited: vec![0; NETS].into(),
         }
     }
-}
 
-impl Memory {
     /// Reads a sale file, runs its calls and writes the report. The code is 0, or 1 to 7 for a
     /// file turned down, whose report is one line.
     pub fn run(&mut self, file: &[u8]) -> (u32, &[u8]) {
+        let desk = self.desk;
         let (lots, lent) = self.lent();
-        let outcome = lent::run(file, lots, lent);
+        let outcome = match desk {
+            Desk::Main => lent::run(file, lots, lent),
+            Desk::Superfine => lent::run_fine(file, lots, lent),
+        };
         (outcome.code, &self.output[..outcome.written])
     }
 
     /// Runs a list of calls, as `lent::run_list` takes it, on the catalogue of a sale file, and
-    /// writes the lines of their answers.
+    /// writes the lines of their answers. The list's entry has the main one's limits: the superfine
+    /// desk's memory is too short for it (8).
     pub fn run_list(&mut self, file: &[u8], list: &[u32]) -> (ListOutcome, &[u8]) {
         let mut weights: Vec<u32> = self.lots.iter().map(|lot| lot.bales).collect();
         let mut blocks: Vec<u16> = self.lots.iter().map(|lot| lot.session).collect();

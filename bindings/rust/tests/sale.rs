@@ -34,11 +34,21 @@ fn run_worked_sale(mut program: Command) -> Output {
     child.wait_with_output().expect("the program ends")
 }
 
+/// A program prints the report of the worked sale, through the main entry and through the superfine
+/// desk's.
+fn prints_the_worked_sale(program: impl Fn() -> Command) {
+    let mut fine = program();
+    fine.arg("fine");
+    for words in [program(), fine] {
+        let end = run_worked_sale(words);
+        assert_eq!(end.status.code(), Some(0));
+        assert_eq!(end.stdout, on_file("worked-sale.report"));
+    }
+}
+
 #[test]
 fn the_example_prints_the_worked_sale() {
-    let end = run_worked_sale(example());
-    assert_eq!(end.status.code(), Some(0));
-    assert_eq!(end.stdout, on_file("worked-sale.report"));
+    prints_the_worked_sale(example);
 }
 
 #[test]
@@ -54,9 +64,7 @@ fn the_example_in_c_prints_the_worked_sale() {
         .status()
         .expect("the C compiler starts");
     assert!(compiled.success());
-    let end = run_worked_sale(Command::new(program));
-    assert_eq!(end.status.code(), Some(0));
-    assert_eq!(end.stdout, on_file("worked-sale.report"));
+    prints_the_worked_sale(|| Command::new(&program));
 }
 
 #[test]
