@@ -84,6 +84,12 @@ impl Memory {
         lent::run(file, lots, lent)
     }
 
+    /// Runs the engine on this memory through the superfine desk's entry.
+    pub fn run_fine(&mut self, file: &[u8]) -> Outcome {
+        let (lots, lent) = self.lent();
+        lent::run_fine(file, lots, lent)
+    }
+
     /// Runs a list of calls on the catalogue of a file, on this memory.
     pub fn run_list(&mut self, file: &[u8], list: &[u32]) -> ListOutcome {
         let entries = [self.lots.len(); 3];
@@ -227,6 +233,11 @@ impl Memory {
 /// differs. The stretches of pins are compared for numbers that name a net and for some that don't.
 pub fn compare(file: &[u8], random: &mut Random) -> Result<u32, String> {
     compare_through(Memory::run, &Limits::default(), file, random)
+}
+
+/// The same through the superfine desk's entry.
+pub fn compare_fine(file: &[u8], random: &mut Random) -> Result<u32, String> {
+    compare_through(Memory::run_fine, &Limits::SUPERFINE, file, random)
 }
 
 /// The same through an entry with its limits.

@@ -1,13 +1,15 @@
 //! The proved engine against the reference on sales on file, generated ones, damaged ones and
-//! random bytes; on lists of calls apart from their catalogue; then on short memory. The program
-//! `splitter` on the sales on file. The environment's SEED, a number, gives other sales than the
-//! usual ones.
+//! random bytes; through the superfine desk's entry too; on lists of calls apart from their catalogue;
+//! then on short memory. The program `splitter` on the sales on file. The environment's SEED, a
+//! number, gives other sales than the usual ones.
 
-use compare::{compare, compare_list, random_bytes, random_list, sales_on_file, Memory};
+use compare::{
+    compare, compare_fine, compare_list, random_bytes, random_list, sales_on_file, Memory,
+};
 use kapokdrill::lent::{Outcome, Record, Stack, NETS, OUTPUT, PINS, ROWS, VERTICES};
 use reference::catalogue::{Buyer, Lot};
 use reference::generator::{calls, damaged, sale, sale_of_kind, write_sale, Kind, Random};
-use reference::{Catalogue, Sale};
+use reference::{Catalogue, Limits, Sale};
 use std::fs::File;
 use std::process::Command;
 
@@ -20,6 +22,18 @@ fn seed() -> u64 {
 
 /// Compares `count` files, each made from a seed of its own; how many had each return.
 fn all_agree(name: &str, count: u64, make: impl Fn(u64) -> Vec<u8>) -> [u64; 8] {
+    all_agree_by(compare, name, count, make)
+}
+
+/// How a file is compared: the return, or what differs.
+type Comparison = fn(&[u8], &mut Random) -> Result<u32, String>;
+
+fn all_agree_by(
+    compare: Comparison,
+    name: &str,
+    count: u64,
+    make: impl Fn(u64) -> Vec<u8>,
+) -> [u64; 8] {
     let mut returns = [0; 8];
     let first = seed() * 1_000_000;
     for seed in first..first + count {
@@ -39,8 +53,10 @@ fn sales_on_file_agree() {
     let mut random = Random::new(seed());
     for path in &sales {
         let file = std::fs::read(path).expect("a sale file");
-        if let Err(what) = compare(&file, &mut random) {
-            panic!("{}: {what}", path.display());
+        for compare in [compare, compare_fine] {
+            if let Err(what) = compare(&file, &mut random) {
+                panic!("{}: {what}", path.display());
+            }
         }
     }
 }
@@ -77,6 +93,18 @@ fn damaged_sales_agree() {
 fn random_bytes_agree() {
     let returns = all_agree("bytes", 3_000, random_bytes);
     assert_eq!(returns[2], 3_000);
+}
+
+#[test]
+fn the_superfine_entry_agrees() {
+    let returns = all_agree_by(compare_fine, "superfine", 100, |seed| {
+        sale_of_kind(seed, Kind::Superfine)
+    });
+    assert!(returns[0] > 20 && returns[3] > 20);
+    let returns = all_agree_by(compare_fine, "sale", 4_000, sale);
+    assert!(returns[0] > 2_000 && returns[3] > 200);
+    let returns = all_agree_by(compare_fine, "damaged", 4_000, damaged);
+    assert!(returns[2] > 1_000 && returns[3] > 200);
 }
 
 #[test]
@@ -213,6 +241,21 @@ fn short_memory_is_told_first_and_nothing_is_touched() {
                 assert!(list.stack == Stack::of(&[]) && list.record == Record::of(&[]));
                 assert!(memory == before, "8 touched something");
             }
+        }
+    }
+    let fine: [Cut; 3] = [
+        (256, |memory, length| memory.lots.truncate(length)),
+        (ROWS, |memory, length| memory.counts.truncate(length)),
+        (4_096, |memory, length| memory.gains.truncate(length)),
+    ];
+    for (length, cut) in fine {
+        for short in [length - 1, 0] {
+            let mut memory = Memory::noise_within(&Limits::SUPERFINE, &mut random);
+            cut(&mut memory, short);
+            let before = memory.clone();
+            assert_eq!(memory.run_fine(accepted), told);
+            assert!(memory == before, "8 touched something");
+            assert_eq!(memory.run(accepted), told, "the main entry asks for more");
         }
     }
     for column in 0..3 {

@@ -1,8 +1,9 @@
 //! `soak SEED COUNT`: so many files through the engine and the reference, each with a seed of its own
-//! from SEED on: generated sales, damaged ones, random bytes, and lists of calls apart from their
-//! catalogue. Shows its progress, stops at the first difference and writes that file.
+//! from SEED on: generated sales, damaged ones, random bytes, every fifth of them through the
+//! superfine desk's entry, and lists of calls apart from their catalogue. Shows its progress, stops at
+//! the first difference and writes that file.
 
-use compare::{compare, compare_list, random_bytes, random_list};
+use compare::{compare, compare_fine, compare_list, random_bytes, random_list};
 use reference::generator::{damaged, sale, Random};
 use std::process::ExitCode;
 
@@ -31,6 +32,7 @@ fn main() -> ExitCode {
         let random = &mut Random::new(seed);
         let found = match &list {
             Some(list) => compare_list(&file, list, random),
+            None if seed % 5 == 0 => compare_fine(&file, random),
             None => compare(&file, random),
         };
         match found {
