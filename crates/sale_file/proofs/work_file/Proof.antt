@@ -127,12 +127,13 @@ same-length-21 c = search needs
 
 returns-2 : tie.Need-returns-2
 returns-2 c =
+    let reported = c .before .before .before .before .before .before .before .before .before .before .before .before .before .before .before .before .before .before .report-sale .ensures in
     let long = c .before .before .before .before .before .before .before .before .before .before .before .before .before .before .before .before .before .before .before .before .before .before .before .before .before .before .before .before .before .before .before .before .before .before .before .before .before .before .before .before .before .before .before .before .before .before .before .before .before .before .before .before .before .before .before .before .before .before .before .before .before .before .before .before .before .before .before .before .before .before .before .before .before .before .before .pre in
     let loads = c .before .before .before .before .before .before .before .before .before .before .before .before .before .before .before .before .before .before .before .before .before .before .before .before .before .before .before .before .before .before .before .before .before .before .before .before .before .before .before .before .before .before .before .before .before .before .before .before .before .before .before .before .load .ensures in
     let accepted = c .before .before .before .before .before .before .before .before .before .before .before .before .before .before .before .before .before .before .before .before .before .before .before .before .before .before .before .before .before .before .before .before .before .z .given .1 in
     let calls-long = c .before .before .before .before .before .before .before .before .before .before .before .before .before .before .before .before .before .before .before .before .before .before .before .before .before .before .before .before .before .before .before .before .before .before .before .before .before .before .before .before .before .before .before .before .before .before .before .before .before .before .before .before .load .kept in (
       worked long loads accepted
-          (c .before .before .before .before .before .before .before .before .before .before .before .before .before .before .before .before .before .before .report-sale .ensures _ _ _ _ (catalogued long loads accepted) (listed long loads accepted (omega (arith, calls-long, length-replicate {A = ℕ} 1536 0)))),
+          (reported _ _ _ _ (catalogued long loads accepted) (listed long loads accepted (omega (arith, calls-long, length-replicate {A = ℕ} 1536 0)))),
       lots-read long loads accepted,
     )
 
