@@ -19,6 +19,7 @@ use edit_calls::moving::call_back;
 use edit_calls::moving::call_move;
 use operations::pairs::Journal;
 use operations::pairs::Stack;
+use operations::size::Size;
 use report::answers::Answer;
 use search_calls::cycling::call_all;
 use search_calls::searching::call_polish;
@@ -300,7 +301,7 @@ fn contracting(
     }
 }
 
-// Any call: its letter's byte and its two numbers. `average` is ⌈W/k⌉.
+// Any call: its letter's byte and its two numbers.
 pub fn perform(
     counts: &mut [u16],
     visited: &mut [u16],
@@ -316,10 +317,7 @@ pub fn perform(
     firsts: &[u16],
     loadedsizes: &[u16],
     ceilings: &[u64; 16],
-    n: usize,
-    m: usize,
-    k: usize,
-    average: u64,
+    size: Size,
     total: u32,
     stack: Stack,
     journal: Journal,
@@ -327,9 +325,9 @@ pub fn perform(
     x: usize,
     y: usize,
 ) -> Turn
-    requires { ⌜ ReadyA (tables (now counts) (now visited) (now gains) (now presentpins) (now presentsizes) (now bits) (now blocks) (now weights) (now aboves) (now loads) (now netweights) (now firsts) (now loadedsizes) n m k total) (two (stack .into) (stack .gone) (stack .len)) (two (journal .vertices) (journal .blocks) (journal .len)) average ⌝ }
-    ensures { λ r. ⌜ ((h : Hypergraph) (ceiling : ℕ → ℕ) → AverageIs average h → CeilingIs (now (ceilings .entry)) h ceiling → Called h ceiling (tables (now (counts .entry)) (now (visited .entry)) (now (gains .entry)) (now (presentpins .entry)) (now (presentsizes .entry)) (now (bits .entry)) (now (blocks .entry)) (now (weights .entry)) (now (aboves .entry)) (now (loads .entry)) (now (netweights .entry)) (now (firsts .entry)) (now (loadedsizes .entry)) n m k total)
-        (tables (now (counts .exit)) (now (visited .exit)) (now (gains .exit)) (now (presentpins .exit)) (now (presentsizes .exit)) (now (bits .exit)) (now (blocks .exit)) (now (weights .exit)) (now (aboves .exit)) (now (loads .exit)) (now (netweights .exit)) (now (firsts .exit)) (now (loadedsizes .exit)) n m k (r .total)) (two (stack .into) (stack .gone) (stack .len)) (two (r .stack .into) (r .stack .gone) (r .stack .len)) (two (journal .vertices) (journal .blocks) (journal .len)) (two (r .journal .vertices) (r .journal .blocks) (r .journal .len)) (anyCall letter x y) (answerOf (r .answer))) ⌝ }
+    requires { ⌜ ReadyA (tables (now counts) (now visited) (now gains) (now presentpins) (now presentsizes) (now bits) (now blocks) (now weights) (now aboves) (now loads) (now netweights) (now firsts) (now loadedsizes) (size .n) (size .m) (size .k) total) (two (stack .into) (stack .gone) (stack .len)) (two (journal .vertices) (journal .blocks) (journal .len)) (size .average) ⌝ }
+    ensures { λ r. ⌜ ((h : Hypergraph) (ceiling : ℕ → ℕ) → AverageIs (size .average) h → CeilingIs (now (ceilings .entry)) h ceiling → Called h ceiling (tables (now (counts .entry)) (now (visited .entry)) (now (gains .entry)) (now (presentpins .entry)) (now (presentsizes .entry)) (now (bits .entry)) (now (blocks .entry)) (now (weights .entry)) (now (aboves .entry)) (now (loads .entry)) (now (netweights .entry)) (now (firsts .entry)) (now (loadedsizes .entry)) (size .n) (size .m) (size .k) total)
+        (tables (now (counts .exit)) (now (visited .exit)) (now (gains .exit)) (now (presentpins .exit)) (now (presentsizes .exit)) (now (bits .exit)) (now (blocks .exit)) (now (weights .exit)) (now (aboves .exit)) (now (loads .exit)) (now (netweights .exit)) (now (firsts .exit)) (now (loadedsizes .exit)) (size .n) (size .m) (size .k) (r .total)) (two (stack .into) (stack .gone) (stack .len)) (two (r .stack .into) (r .stack .gone) (r .stack .len)) (two (journal .vertices) (journal .blocks) (journal .len)) (two (r .journal .vertices) (r .journal .blocks) (r .journal .len)) (anyCall letter x y) (answerOf (r .answer))) ⌝ }
 {
     if is_contracting(letter) {
         let t = contracting(
@@ -345,9 +343,9 @@ pub fn perform(
             netweights,
             firsts,
             loadedsizes,
-            n,
-            m,
-            k,
+            size.n,
+            size.m,
+            size.k,
             total,
             stack,
             journal,
@@ -379,9 +377,9 @@ pub fn perform(
             netweights,
             firsts,
             ceilings,
-            n,
-            m,
-            k,
+            size.n,
+            size.m,
+            size.k,
             total,
             journal,
             letter,
@@ -412,10 +410,7 @@ pub fn perform(
         firsts,
         loadedsizes,
         ceilings,
-        n,
-        m,
-        k,
-        average,
+        size,
         total,
         stack,
         journal,

@@ -12,6 +12,7 @@ ghost use Rattle.call_list.specs.Course.{CanStep, Steps, Begins, CanRun,
 use any_call::performing::perform;
 use operations::pairs::Journal;
 use operations::pairs::Stack;
+use operations::size::Size;
 use report::answers::put_answer;
 
 // Where a list stands between two calls: the contraction stack, the journal, the metric, and where the output's text ends.
@@ -46,18 +47,15 @@ fn step(
     firsts: &[u16],
     loadedsizes: &[u16],
     ceilings: &[u64; 16],
-    n: usize,
-    m: usize,
-    k: usize,
-    average: u64,
+    size: Size,
     course: Course,
     letter: u32,
     x: usize,
     y: usize,
 ) -> Course
-    requires { ⌜ CanStep (tables (now counts) (now visited) (now gains) (now presentpins) (now presentsizes) (now bits) (now blocks) (now weights) (now aboves) (now loads) (now netweights) (now firsts) (now loadedsizes) n m k (course .total)) (two (course .stack .into) (course .stack .gone) (course .stack .len)) (two (course .journal .vertices) (course .journal .blocks) (course .journal .len)) average (now ceilings) (length (now output)) (course .at) (anyCall letter x y) ⌝ }
-    ensures { λ r. ⌜ ((h : Hypergraph) (ceiling : ℕ → ℕ) → AverageIs average h → CeilingIs (now (ceilings .entry)) h ceiling → Steps h ceiling (tables (now (counts .entry)) (now (visited .entry)) (now (gains .entry)) (now (presentpins .entry)) (now (presentsizes .entry)) (now (bits .entry)) (now (blocks .entry)) (now (weights .entry)) (now (aboves .entry)) (now (loads .entry)) (now (netweights .entry)) (now (firsts .entry)) (now (loadedsizes .entry)) n m k (course .total))
-        (tables (now (counts .exit)) (now (visited .exit)) (now (gains .exit)) (now (presentpins .exit)) (now (presentsizes .exit)) (now (bits .exit)) (now (blocks .exit)) (now (weights .exit)) (now (aboves .exit)) (now (loads .exit)) (now (netweights .exit)) (now (firsts .exit)) (now (loadedsizes .exit)) n m k (r .total)) (two (course .stack .into) (course .stack .gone) (course .stack .len)) (two (r .stack .into) (r .stack .gone) (r .stack .len)) (two (course .journal .vertices) (course .journal .blocks) (course .journal .len)) (two (r .journal .vertices) (r .journal .blocks) (r .journal .len)) (anyCall letter x y) (now (output .entry)) (now (output .exit)) (course .at) (r .at)) ⌝ }
+    requires { ⌜ CanStep (tables (now counts) (now visited) (now gains) (now presentpins) (now presentsizes) (now bits) (now blocks) (now weights) (now aboves) (now loads) (now netweights) (now firsts) (now loadedsizes) (size .n) (size .m) (size .k) (course .total)) (two (course .stack .into) (course .stack .gone) (course .stack .len)) (two (course .journal .vertices) (course .journal .blocks) (course .journal .len)) (size .average) (now ceilings) (length (now output)) (course .at) (anyCall letter x y) ⌝ }
+    ensures { λ r. ⌜ ((h : Hypergraph) (ceiling : ℕ → ℕ) → AverageIs (size .average) h → CeilingIs (now (ceilings .entry)) h ceiling → Steps h ceiling (tables (now (counts .entry)) (now (visited .entry)) (now (gains .entry)) (now (presentpins .entry)) (now (presentsizes .entry)) (now (bits .entry)) (now (blocks .entry)) (now (weights .entry)) (now (aboves .entry)) (now (loads .entry)) (now (netweights .entry)) (now (firsts .entry)) (now (loadedsizes .entry)) (size .n) (size .m) (size .k) (course .total))
+        (tables (now (counts .exit)) (now (visited .exit)) (now (gains .exit)) (now (presentpins .exit)) (now (presentsizes .exit)) (now (bits .exit)) (now (blocks .exit)) (now (weights .exit)) (now (aboves .exit)) (now (loads .exit)) (now (netweights .exit)) (now (firsts .exit)) (now (loadedsizes .exit)) (size .n) (size .m) (size .k) (r .total)) (two (course .stack .into) (course .stack .gone) (course .stack .len)) (two (r .stack .into) (r .stack .gone) (r .stack .len)) (two (course .journal .vertices) (course .journal .blocks) (course .journal .len)) (two (r .journal .vertices) (r .journal .blocks) (r .journal .len)) (anyCall letter x y) (now (output .entry)) (now (output .exit)) (course .at) (r .at)) ⌝ }
 {
     let stack = course.stack;
     let journal = course.journal;
@@ -76,10 +74,7 @@ fn step(
         firsts,
         loadedsizes,
         ceilings,
-        n,
-        m,
-        k,
-        average,
+        size,
         course.total,
         stack,
         journal,
@@ -118,15 +113,12 @@ pub fn run_calls(
     ceilings: &[u64; 16],
     calls: &[u32],
     count: usize,
-    n: usize,
-    m: usize,
-    k: usize,
-    average: u64,
+    size: Size,
     total: u32,
 ) -> Course
-    requires { ⌜ CanRun (tables (now counts) (now visited) (now gains) (now presentpins) (now presentsizes) (now bits) (now blocks) (now weights) (now aboves) (now loads) (now netweights) (now firsts) (now loadedsizes) n m k total) average (now ceilings) (now calls) count (length (now output)) ⌝ }
-    ensures { λ r. ⌜ ((limits : Limits) (h : Hypergraph) → Begins limits h (tables (now (counts .entry)) (now (visited .entry)) (now (gains .entry)) (now (presentpins .entry)) (now (presentsizes .entry)) (now (bits .entry)) (now (blocks .entry)) (now (weights .entry)) (now (aboves .entry)) (now (loads .entry)) (now (netweights .entry)) (now (firsts .entry)) (now (loadedsizes .entry)) n m k total) average (now (ceilings .entry)) (now (calls .entry)) count (length (now (output .entry))) → Done h (now (calls .entry)) count (tables (now (counts .entry)) (now (visited .entry)) (now (gains .entry)) (now (presentpins .entry)) (now (presentsizes .entry)) (now (bits .entry)) (now (blocks .entry)) (now (weights .entry)) (now (aboves .entry)) (now (loads .entry)) (now (netweights .entry)) (now (firsts .entry)) (now (loadedsizes .entry)) n m k total)
-        (tables (now (counts .exit)) (now (visited .exit)) (now (gains .exit)) (now (presentpins .exit)) (now (presentsizes .exit)) (now (bits .exit)) (now (blocks .exit)) (now (weights .exit)) (now (aboves .exit)) (now (loads .exit)) (now (netweights .exit)) (now (firsts .exit)) (now (loadedsizes .exit)) n m k (r .total)) (two (r .stack .into) (r .stack .gone) (r .stack .len)) (two (r .journal .vertices) (r .journal .blocks) (r .journal .len)) (now (output .entry)) (now (output .exit)) (r .at)) ⌝ }
+    requires { ⌜ CanRun (tables (now counts) (now visited) (now gains) (now presentpins) (now presentsizes) (now bits) (now blocks) (now weights) (now aboves) (now loads) (now netweights) (now firsts) (now loadedsizes) (size .n) (size .m) (size .k) total) (size .average) (now ceilings) (now calls) count (length (now output)) ⌝ }
+    ensures { λ r. ⌜ ((limits : Limits) (h : Hypergraph) → Begins limits h (tables (now (counts .entry)) (now (visited .entry)) (now (gains .entry)) (now (presentpins .entry)) (now (presentsizes .entry)) (now (bits .entry)) (now (blocks .entry)) (now (weights .entry)) (now (aboves .entry)) (now (loads .entry)) (now (netweights .entry)) (now (firsts .entry)) (now (loadedsizes .entry)) (size .n) (size .m) (size .k) total) (size .average) (now (ceilings .entry)) (now (calls .entry)) count (length (now (output .entry))) → Done h (now (calls .entry)) count (tables (now (counts .entry)) (now (visited .entry)) (now (gains .entry)) (now (presentpins .entry)) (now (presentsizes .entry)) (now (bits .entry)) (now (blocks .entry)) (now (weights .entry)) (now (aboves .entry)) (now (loads .entry)) (now (netweights .entry)) (now (firsts .entry)) (now (loadedsizes .entry)) (size .n) (size .m) (size .k) total)
+        (tables (now (counts .exit)) (now (visited .exit)) (now (gains .exit)) (now (presentpins .exit)) (now (presentsizes .exit)) (now (bits .exit)) (now (blocks .exit)) (now (weights .exit)) (now (aboves .exit)) (now (loads .exit)) (now (netweights .exit)) (now (firsts .exit)) (now (loadedsizes .exit)) (size .n) (size .m) (size .k) (r .total)) (two (r .stack .into) (r .stack .gone) (r .stack .len)) (two (r .journal .vertices) (r .journal .blocks) (r .journal .len)) (now (output .entry)) (now (output .exit)) (r .at)) ⌝ }
 {
     let stack = Stack::new();
     let journal = Journal::new();
@@ -155,10 +147,7 @@ pub fn run_calls(
             firsts,
             loadedsizes,
             ceilings,
-            n,
-            m,
-            k,
-            average,
+            size,
             course,
             calls[at],
             index(calls[at + 1]),

@@ -11,6 +11,7 @@ use best_contraction::join::plan_join;
 use incidence::numbers::narrow;
 use operations::joins::join;
 use operations::pairs::Stack;
+use operations::size::Size;
 
 // The stack, and how many vertices have still to leave the board: 0 too where no pair is left.
 pub struct Round {
@@ -46,18 +47,15 @@ fn coarsen_once(
     aboves: &mut [u16],
     netweights: &[u16],
     firsts: &[u16],
-    n: usize,
-    m: usize,
-    k: usize,
-    average: u64,
+    size: Size,
     total: u32,
     s: Round,
 ) -> Round
-    requires { ⌜ OnceOk (λ loads loadedsizes. tables (now counts) (now visited) (now gains) (now presentpins) (now presentsizes) (now bits) (now blocks) (now weights) (now aboves) loads (now netweights) (now firsts) loadedsizes n m k total) (locals (s .stack .into) (s .stack .gone) (s .stack .len) (s .left)) average ⌝ }
-    requires { ⌜ Blank (now acc) × Bounded (scoreOf (now bits) (now presentpins) (now firsts) (now presentsizes) (now netweights) (now blocks) (now weights) m average) n (now bounds) ⌝ }
-    ensures { λ r. ⌜ ((loads loadedsizes : List ℕ) → Once (tables (now (counts .entry)) (now (visited .entry)) (now (gains .entry)) (now (presentpins .entry)) (now (presentsizes .entry)) (now (bits .entry)) (now (blocks .entry)) (now (weights .entry)) (now (aboves .entry)) loads (now (netweights .entry)) (now (firsts .entry)) loadedsizes n m k total) (locals (s .stack .into) (s .stack .gone) (s .stack .len) (s .left)) average
-        (tables (now (counts .exit)) (now (visited .exit)) (now (gains .exit)) (now (presentpins .exit)) (now (presentsizes .exit)) (now (bits .exit)) (now (blocks .exit)) (now (weights .exit)) (now (aboves .exit)) loads (now (netweights .exit)) (now (firsts .exit)) loadedsizes n m k total) (locals (r .stack .into) (r .stack .gone) (r .stack .len) (r .left))) ⌝ }
-    ensures { λ r. ⌜ Blank (now (acc .exit)) × Bounded (scoreOf (now (bits .exit)) (now (presentpins .exit)) (now (firsts .exit)) (now (presentsizes .exit)) (now (netweights .exit)) (now (blocks .exit)) (now (weights .exit)) m average) n (now (bounds .exit)) ⌝ }
+    requires { ⌜ OnceOk (λ loads loadedsizes. tables (now counts) (now visited) (now gains) (now presentpins) (now presentsizes) (now bits) (now blocks) (now weights) (now aboves) loads (now netweights) (now firsts) loadedsizes (size .n) (size .m) (size .k) total) (locals (s .stack .into) (s .stack .gone) (s .stack .len) (s .left)) (size .average) ⌝ }
+    requires { ⌜ Blank (now acc) × Bounded (scoreOf (now bits) (now presentpins) (now firsts) (now presentsizes) (now netweights) (now blocks) (now weights) (size .m) (size .average)) (size .n) (now bounds) ⌝ }
+    ensures { λ r. ⌜ ((loads loadedsizes : List ℕ) → Once (tables (now (counts .entry)) (now (visited .entry)) (now (gains .entry)) (now (presentpins .entry)) (now (presentsizes .entry)) (now (bits .entry)) (now (blocks .entry)) (now (weights .entry)) (now (aboves .entry)) loads (now (netweights .entry)) (now (firsts .entry)) loadedsizes (size .n) (size .m) (size .k) total) (locals (s .stack .into) (s .stack .gone) (s .stack .len) (s .left)) (size .average)
+        (tables (now (counts .exit)) (now (visited .exit)) (now (gains .exit)) (now (presentpins .exit)) (now (presentsizes .exit)) (now (bits .exit)) (now (blocks .exit)) (now (weights .exit)) (now (aboves .exit)) loads (now (netweights .exit)) (now (firsts .exit)) loadedsizes (size .n) (size .m) (size .k) total) (locals (r .stack .into) (r .stack .gone) (r .stack .len) (r .left))) ⌝ }
+    ensures { λ r. ⌜ Blank (now (acc .exit)) × Bounded (scoreOf (now (bits .exit)) (now (presentpins .exit)) (now (firsts .exit)) (now (presentsizes .exit)) (now (netweights .exit)) (now (blocks .exit)) (now (weights .exit)) (size .m) (size .average)) (size .n) (now (bounds .exit)) ⌝ }
 {
     let pair = plan_join(
         acc,
@@ -69,9 +67,9 @@ fn coarsen_once(
         netweights,
         blocks,
         weights,
-        average,
-        m,
-        n,
+        size.average,
+        size.m,
+        size.n,
     );
     let before = s.stack;
     let rating = pair.rating;
@@ -95,9 +93,9 @@ fn coarsen_once(
         aboves,
         netweights,
         firsts,
-        n,
-        m,
-        k,
+        size.n,
+        size.m,
+        size.k,
         total,
         u - 1,
         v - 1,
@@ -122,16 +120,13 @@ pub fn coarsen(
     aboves: &mut [u16],
     netweights: &[u16],
     firsts: &[u16],
-    n: usize,
-    m: usize,
-    k: usize,
-    average: u64,
+    size: Size,
     total: u32,
     stack: Stack,
 ) -> Stack
-    requires { ⌜ CoarsenOk (λ loads loadedsizes. tables (now counts) (now visited) (now gains) (now presentpins) (now presentsizes) (now bits) (now blocks) (now weights) (now aboves) loads (now netweights) (now firsts) loadedsizes n m k total) (stack .into) (stack .gone) (stack .len) average ⌝ }
-    ensures { λ r. ⌜ ((loads loadedsizes : List ℕ) → Coarsens (tables (now (counts .entry)) (now (visited .entry)) (now (gains .entry)) (now (presentpins .entry)) (now (presentsizes .entry)) (now (bits .entry)) (now (blocks .entry)) (now (weights .entry)) (now (aboves .entry)) loads (now (netweights .entry)) (now (firsts .entry)) loadedsizes n m k total) (stack .into) (stack .gone) (stack .len) average
-        (tables (now (counts .exit)) (now (visited .exit)) (now (gains .exit)) (now (presentpins .exit)) (now (presentsizes .exit)) (now (bits .exit)) (now (blocks .exit)) (now (weights .exit)) (now (aboves .exit)) loads (now (netweights .exit)) (now (firsts .exit)) loadedsizes n m k total) (r .into) (r .gone) (r .len)) ⌝ }
+    requires { ⌜ CoarsenOk (λ loads loadedsizes. tables (now counts) (now visited) (now gains) (now presentpins) (now presentsizes) (now bits) (now blocks) (now weights) (now aboves) loads (now netweights) (now firsts) loadedsizes (size .n) (size .m) (size .k) total) (stack .into) (stack .gone) (stack .len) (size .average) ⌝ }
+    ensures { λ r. ⌜ ((loads loadedsizes : List ℕ) → Coarsens (tables (now (counts .entry)) (now (visited .entry)) (now (gains .entry)) (now (presentpins .entry)) (now (presentsizes .entry)) (now (bits .entry)) (now (blocks .entry)) (now (weights .entry)) (now (aboves .entry)) loads (now (netweights .entry)) (now (firsts .entry)) loadedsizes (size .n) (size .m) (size .k) total) (stack .into) (stack .gone) (stack .len) (size .average)
+        (tables (now (counts .exit)) (now (visited .exit)) (now (gains .exit)) (now (presentpins .exit)) (now (presentsizes .exit)) (now (bits .exit)) (now (blocks .exit)) (now (weights .exit)) (now (aboves .exit)) loads (now (netweights .exit)) (now (firsts .exit)) loadedsizes (size .n) (size .m) (size .k) total) (r .into) (r .gone) (r .len)) ⌝ }
 {
     let mut acc = [0u64; 1025];
     let mut bounds = [0u64; 1025];
@@ -143,12 +138,12 @@ pub fn coarsen(
         presentsizes,
         netweights,
         blocks,
-        m,
-        n,
+        size.m,
+        size.n,
     );
     let mut s = Round {
         stack: stack,
-        left: excess(n, k, stack.len),
+        left: excess(size.n, size.k, stack.len),
     };
     while 0 < s.left {
         s = coarsen_once(
@@ -165,10 +160,7 @@ pub fn coarsen(
             aboves,
             netweights,
             firsts,
-            n,
-            m,
-            k,
-            average,
+            size,
             total,
             s,
         );

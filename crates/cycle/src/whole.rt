@@ -5,6 +5,7 @@ use crate::numbers::counted;
 use crate::refining::refine;
 use coarsening::coarsen;
 use operations::pairs::Stack;
+use operations::size::Size;
 use polish::polishing::polish;
 
 // How many contractions were made, the moves that the walks made and kept, all together, and the metric.
@@ -24,7 +25,7 @@ pub struct Cycled {
     pub total: u32,
 }
 
-// Down to the coarsest level and back. `average` is ⌈W/k⌉.
+// Down to the coarsest level and back.
 fn descend(
     counts: &mut [u16],
     visited: &mut [u16],
@@ -40,15 +41,12 @@ fn descend(
     firsts: &[u16],
     loadedsizes: &[u16],
     ceilings: &[u64; 16],
-    n: usize,
-    m: usize,
-    k: usize,
-    average: u64,
+    size: Size,
     total: u32,
 ) -> Descent
-    requires { ⌜ CycleOk (tables (now counts) (now visited) (now gains) (now presentpins) (now presentsizes) (now bits) (now blocks) (now weights) (now aboves) (now loads) (now netweights) (now firsts) (now loadedsizes) n m k total) average ⌝ }
-    ensures { λ r. ⌜ Levels (tables (now (counts .entry)) (now (visited .entry)) (now (gains .entry)) (now (presentpins .entry)) (now (presentsizes .entry)) (now (bits .entry)) (now (blocks .entry)) (now (weights .entry)) (now (aboves .entry)) (now (loads .entry)) (now (netweights .entry)) (now (firsts .entry)) (now (loadedsizes .entry)) n m k total) average (now (ceilings .entry))
-        (tables (now (counts .exit)) (now (visited .exit)) (now (gains .exit)) (now (presentpins .exit)) (now (presentsizes .exit)) (now (bits .exit)) (now (blocks .exit)) (now (weights .exit)) (now (aboves .exit)) (now (loads .exit)) (now (netweights .exit)) (now (firsts .exit)) (now (loadedsizes .exit)) n m k (r .total)) (r .joins) (r .tried) (r .kept) ⌝ }
+    requires { ⌜ CycleOk (tables (now counts) (now visited) (now gains) (now presentpins) (now presentsizes) (now bits) (now blocks) (now weights) (now aboves) (now loads) (now netweights) (now firsts) (now loadedsizes) (size .n) (size .m) (size .k) total) (size .average) ⌝ }
+    ensures { λ r. ⌜ Levels (tables (now (counts .entry)) (now (visited .entry)) (now (gains .entry)) (now (presentpins .entry)) (now (presentsizes .entry)) (now (bits .entry)) (now (blocks .entry)) (now (weights .entry)) (now (aboves .entry)) (now (loads .entry)) (now (netweights .entry)) (now (firsts .entry)) (now (loadedsizes .entry)) (size .n) (size .m) (size .k) total) (size .average) (now (ceilings .entry))
+        (tables (now (counts .exit)) (now (visited .exit)) (now (gains .exit)) (now (presentpins .exit)) (now (presentsizes .exit)) (now (bits .exit)) (now (blocks .exit)) (now (weights .exit)) (now (aboves .exit)) (now (loads .exit)) (now (netweights .exit)) (now (firsts .exit)) (now (loadedsizes .exit)) (size .n) (size .m) (size .k) (r .total)) (r .joins) (r .tried) (r .kept) ⌝ }
 {
     let stack = coarsen(
         counts,
@@ -62,10 +60,7 @@ fn descend(
         aboves,
         netweights,
         firsts,
-        n,
-        m,
-        k,
-        average,
+        size,
         total,
         Stack::new(),
     );
@@ -84,9 +79,9 @@ fn descend(
         firsts,
         loadedsizes,
         ceilings,
-        n,
-        m,
-        k,
+        size.n,
+        size.m,
+        size.k,
         total,
         stack,
     );
@@ -114,15 +109,12 @@ pub fn run(
     firsts: &[u16],
     loadedsizes: &[u16],
     ceilings: &[u64; 16],
-    n: usize,
-    m: usize,
-    k: usize,
-    average: u64,
+    size: Size,
     total: u32,
 ) -> Cycled
-    requires { ⌜ CycleOk (tables (now counts) (now visited) (now gains) (now presentpins) (now presentsizes) (now bits) (now blocks) (now weights) (now aboves) (now loads) (now netweights) (now firsts) (now loadedsizes) n m k total) average ⌝ }
-    ensures { λ r. ⌜ Does (tables (now (counts .entry)) (now (visited .entry)) (now (gains .entry)) (now (presentpins .entry)) (now (presentsizes .entry)) (now (bits .entry)) (now (blocks .entry)) (now (weights .entry)) (now (aboves .entry)) (now (loads .entry)) (now (netweights .entry)) (now (firsts .entry)) (now (loadedsizes .entry)) n m k total) average (now (ceilings .entry))
-        (tables (now (counts .exit)) (now (visited .exit)) (now (gains .exit)) (now (presentpins .exit)) (now (presentsizes .exit)) (now (bits .exit)) (now (blocks .exit)) (now (weights .exit)) (now (aboves .exit)) (now (loads .exit)) (now (netweights .exit)) (now (firsts .exit)) (now (loadedsizes .exit)) n m k (r .total)) (r .joins) (r .tried) (r .kept) (r .moves) ⌝ }
+    requires { ⌜ CycleOk (tables (now counts) (now visited) (now gains) (now presentpins) (now presentsizes) (now bits) (now blocks) (now weights) (now aboves) (now loads) (now netweights) (now firsts) (now loadedsizes) (size .n) (size .m) (size .k) total) (size .average) ⌝ }
+    ensures { λ r. ⌜ Does (tables (now (counts .entry)) (now (visited .entry)) (now (gains .entry)) (now (presentpins .entry)) (now (presentsizes .entry)) (now (bits .entry)) (now (blocks .entry)) (now (weights .entry)) (now (aboves .entry)) (now (loads .entry)) (now (netweights .entry)) (now (firsts .entry)) (now (loadedsizes .entry)) (size .n) (size .m) (size .k) total) (size .average) (now (ceilings .entry))
+        (tables (now (counts .exit)) (now (visited .exit)) (now (gains .exit)) (now (presentpins .exit)) (now (presentsizes .exit)) (now (bits .exit)) (now (blocks .exit)) (now (weights .exit)) (now (aboves .exit)) (now (loads .exit)) (now (netweights .exit)) (now (firsts .exit)) (now (loadedsizes .exit)) (size .n) (size .m) (size .k) (r .total)) (r .joins) (r .tried) (r .kept) (r .moves) ⌝ }
 {
     let d = descend(
         counts,
@@ -139,10 +131,7 @@ pub fn run(
         firsts,
         loadedsizes,
         ceilings,
-        n,
-        m,
-        k,
-        average,
+        size,
         total,
     );
     let p = polish(
@@ -158,9 +147,9 @@ pub fn run(
         netweights,
         firsts,
         ceilings,
-        n,
-        m,
-        k,
+        size.n,
+        size.m,
+        size.k,
         d.total,
     );
     Cycled {

@@ -2,3 +2,4 @@
 pub mod joins;
 pub mod moves;
 pub mod pairs;
+pub mod size;

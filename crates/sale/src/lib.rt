@@ -10,6 +10,7 @@ use loader::Sizes;
 use opening::open;
 use operations::pairs::Journal;
 use operations::pairs::Stack;
+use operations::size::Size;
 
 pub mod closing;
 
@@ -48,7 +49,12 @@ pub fn sell(
     let n = z.vertices as usize;
     let m = z.nets as usize;
     let k = z.blocks as usize;
-    let average = z.average as u64;
+    let size = Size {
+        n: n,
+        m: m,
+        k: k,
+        average: z.average as u64,
+    };
     let capacity = z.capacity as u64;
     let ceilings = [capacity; 16];
     let mut bits = [0u64; 16384];
@@ -87,10 +93,7 @@ pub fn sell(
         &ceilings,
         calls,
         count,
-        n,
-        m,
-        k,
-        average,
+        size,
         draft,
     );
     let stack = course.stack;

@@ -14,14 +14,14 @@ use Rattle.coarsening.proofs.coarsen.Statement.{statement}
 use Rattle.coarsening.proofs.coarsen.Tie as tie
 
 abbrev Inv-loop : tie.InvT-loop
-Inv-loop counts₀ visited₀ gains₀ pins₀ sizes₀ bits₀ blocks₀ weights₀ aboves₀ netweights firsts n m k average total acc₀ bounds₀ s₀ counts visited gains pins sizes bits blocks weights aboves acc bounds s =
-    ((loads loaded : List ℕ) → Going (tables counts₀ visited₀ gains₀ pins₀ sizes₀ bits₀ blocks₀ weights₀ aboves₀ loads netweights firsts loaded n m k total) (s₀ .stack .into) (s₀ .stack .gone) (s₀ .stack .len) average (tables counts visited gains pins sizes bits blocks weights aboves loads netweights firsts loaded n m k total) (locals (s .stack .into) (s .stack .gone) (s .stack .len) (s .left)))
+Inv-loop counts₀ visited₀ gains₀ pins₀ sizes₀ bits₀ blocks₀ weights₀ aboves₀ netweights firsts size total acc₀ bounds₀ s₀ counts visited gains pins sizes bits blocks weights aboves acc bounds s =
+    ((loads loaded : List ℕ) → Going (tables counts₀ visited₀ gains₀ pins₀ sizes₀ bits₀ blocks₀ weights₀ aboves₀ loads netweights firsts loaded (size .n) (size .m) (size .k) total) (s₀ .stack .into) (s₀ .stack .gone) (s₀ .stack .len) (size .average) (tables counts visited gains pins sizes bits blocks weights aboves loads netweights firsts loaded (size .n) (size .m) (size .k) total) (locals (s .stack .into) (s .stack .gone) (s .stack .len) (s .left)))
     × Blank acc
-    × Bounded (scoreOf bits pins firsts sizes netweights blocks weights m average) n bounds
+    × Bounded (scoreOf bits pins firsts sizes netweights blocks weights (size .m) (size .average)) (size .n) bounds
     × (length counts ≡ length counts₀) × (length visited ≡ length visited₀) × (length gains ≡ length gains₀) × (length pins ≡ length pins₀) × (length sizes ≡ length sizes₀) × (length bits ≡ length bits₀) × (length blocks ≡ length blocks₀) × (length weights ≡ length weights₀) × (length aboves ≡ length aboves₀)
 
 abbrev μ-loop : tie.MeasureT-loop
-μ-loop counts₀ visited₀ gains₀ pins₀ sizes₀ bits₀ blocks₀ weights₀ aboves₀ netweights firsts n m k average total acc₀ bounds₀ s₀ counts visited gains pins sizes bits blocks weights aboves acc bounds s =
+μ-loop counts₀ visited₀ gains₀ pins₀ sizes₀ bits₀ blocks₀ weights₀ aboves₀ netweights firsts size total acc₀ bounds₀ s₀ counts visited gains pins sizes bits blocks weights aboves acc bounds s =
     s .left
 
 begin-requires : tie.Need-begin-requires Inv-loop μ-loop

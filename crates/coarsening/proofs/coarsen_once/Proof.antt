@@ -57,8 +57,8 @@ push-requires c κs =
     let p = c .before .before .before .before .before .before .before .before .before .before .before .before .before .before .before .before .before .before .before .before .before .before .before .before .before .before .before .before .before .before .before .before .before .before .before .before .before .before .before .before .before .before .before .before .before .before .before .before .before .pre .0 in
     (omega (arith, once-room p), p .here .stands .into-fit, p .here .stands .gone-fit)
 
-sub-t58 : tie.Need-sub-t58
-sub-t58 c = omega (arith, c .before .before .before .before .before .before .before .before .before .before .before .before .before .before .before .before .before .before .before .before .before .before .before .before .before .before .before .before .before .before .before .before .before .before .before .before .before .before .before .before .before .before .before .before .before .before .before .before .before .before .before .pre .0 .some)
+sub-t55 : tie.Need-sub-t55
+sub-t55 c = omega (arith, c .before .before .before .before .before .before .before .before .before .before .before .before .before .before .before .before .before .before .before .before .before .before .before .before .before .before .before .before .before .before .before .before .before .before .before .before .before .before .before .before .before .before .before .before .before .before .before .before .before .before .before .pre .0 .some)
 
 same-length-6 : tie.Need-same-length-6
 same-length-6 c = omega (arith, c .before .before .before .before .before .before .before .before .before .before .before .before .before .before .before .before .before .before .before .before .before .join .kept)
@@ -112,7 +112,7 @@ coarsen-once-spec =
     narrow-requires
     narrow-requires-2
     push-requires
-    sub-t58
+    sub-t55
     same-length-6
     same-length-7
     same-length-8
