@@ -6,7 +6,7 @@ use mathlib.Core.Bool.{Bool, true, false, _&&_, cond}
 use mathlib.Core.List.{List}
 use Prim.Native.Nat.{ℕ, _+_, _-_, _*_, _≤_, _<_}
 use native.Mathlib.Decide.{ℕ-discrete}
-use native.Mathlib.Nat.{add-mul, one-mul, zero-mul}
+use native.Mathlib.Nat.{add-mul, one-mul, zero-mul, mul-zero}
 use native.Mathlib.Omega.{arith}
 use borrow.Author.Tests.{eq-eqb, ne-eqb, lt-ltb, le-ltb}
 use lib.Dec.{eqb}
@@ -184,3 +184,14 @@ share-small blocks u own near far y k a b e = go (earlier blocks u own y) e
     go : (t : Bool) → k ≡ cond t near far → k ≤ 536870912
     go true q = omega arith
     go false q = omega arith
+
+-- ---- a net that adds nothing leaves all bounds as they are
+pub share-none : (blocks : List ℕ) (u own near far y : ℕ) → near + far ≡ 0 → riseAt blocks u own near far y ≡ 0
+share-none blocks u own near far y h = go (earlier blocks u own y)
+  where
+    go : (t : Bool) → cond t near far ≡ 0
+    go true = omega arith
+    go false = omega arith
+
+pub lift-still : (pins blocks l : List ℕ) (f n u own near far : ℕ) → length l ≡ 1025 → near + far ≡ 0 → Risen l l (λ z. occ pins f n z * riseAt blocks u own near far z)
+lift-still pins blocks l f n u own near far h e = risen-none l _ h (λ z. ap (λ (k : ℕ). occ pins f n z * k) (share-none blocks u own near far z e) ∙ mul-zero (occ pins f n z))

@@ -143,7 +143,7 @@ fn raised(bound: u64, more: u64) -> u64
     bound + more
 }
 
-// Raises the bounds of the pins of a net.
+// Raises the bounds of the pins of a net. One that adds nothing, as a broad net that loses a pin may, is not passed over.
 fn lift_net(
     bounds: &mut [u64; 1025],
     presentpins: &[u16],
@@ -159,6 +159,9 @@ fn lift_net(
     requires { ⌜ (near ≤ 536870912) × (far ≤ 536870912) ⌝ }
     ensures { λ _. ⌜ Risen (now (bounds .entry)) (now (bounds .exit)) (λ z. occ (now (presentpins .entry)) first n z * riseAt (now (blocks .entry)) u own near far z) ⌝ }
 {
+    if near + far == 0 {
+        return;
+    }
     let mut i = 0;
     while i < n {
         let y = index(presentpins[first + i]);
