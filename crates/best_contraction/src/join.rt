@@ -6,7 +6,7 @@ use crate::rating::accumulate;
 use incidence::numbers::long;
 ghost use mathlib.Core.Path.{_≡_};
 ghost use mathlib.Core.Bool.{cond};
-ghost use Prim.Native.Nat.{_-_, _≤_};
+ghost use Prim.Native.Nat.{ℕ, _+_, _-_, _≤_, _<_};
 ghost use lib.ListN.{length, getD};
 ghost use Rattle.best_contraction.specs.Rating.{fits, scoreIn, scoreOf, TablesOk, Blank, Cleared};
 ghost use Rattle.best_contraction.specs.PartnerLaw.{topped, topTo};
@@ -89,6 +89,74 @@ fn weigh_partner(
     best
 }
 
+// The best of the vertices up to `to`, where `before` is the best of those up to `from`.
+fn weigh_to(
+    acc: &[u64; 1025],
+    blocks: &[u16],
+    weights: &[u32],
+    u: usize,
+    own: u16,
+    a: u64,
+    limit: u64,
+    from: usize,
+    to: usize,
+    before: Partner,
+) -> Partner
+    requires { ⌜ (length (now acc) ≡ 1025) × (from ≤ to) × (to ≤ 1024) × (to ≤ length (now blocks)) × (to ≤ length (now weights)) ⌝ }
+    requires { ⌜ before ≡ topTo (scoreIn (fits (now blocks) (now weights) u own a limit) (λ z. getD (now acc) z 0)) from ⌝ }
+    ensures { λ r. ⌜ r ≡ topTo (scoreIn (fits (now (blocks .entry)) (now (weights .entry)) u own a limit) (λ z. getD (now (acc .entry)) z 0)) to ⌝ }
+{
+    let mut best = before;
+    let mut y = from;
+    while y < to {
+        best = weigh_partner(blocks, weights, u, own, a, limit, y + 1, acc[y + 1], best);
+        y += 1;
+    }
+    best
+}
+
+// The larger of two ratings.
+fn larger(a: u64, b: u64) -> u64
+    ensures { λ r. ⌜ (a ≤ r) × (b ≤ r) ⌝ }
+{
+    if a < b { b } else { a }
+}
+
+// The highest of the ratings of the four vertices after `y`.
+fn four_top(acc: &[u64; 1025], y: usize) -> u64
+    requires { ⌜ (length (now acc) ≡ 1025) × (y + 4 ≤ 1024) ⌝ }
+    ensures { λ r. ⌜ ((z : ℕ) → y < z → z ≤ y + 4 → getD (now (acc .entry)) z 0 ≤ r) ⌝ }
+{
+    larger(
+        larger(acc[y + 1], acc[y + 2]),
+        larger(acc[y + 3], acc[y + 4]),
+    )
+}
+
+// The best of the vertices up to `y + 4`, where `best` is the best of those up to `y`. Few rate higher, so that four are compared with it at
+// once.
+fn weigh_four(
+    acc: &[u64; 1025],
+    blocks: &[u16],
+    weights: &[u32],
+    u: usize,
+    own: u16,
+    a: u64,
+    limit: u64,
+    y: usize,
+    best: Partner,
+) -> Partner
+    requires { ⌜ (length (now acc) ≡ 1025) × (y + 4 ≤ 1024) × (y + 4 ≤ length (now blocks)) × (y + 4 ≤ length (now weights)) ⌝ }
+    requires { ⌜ best ≡ topTo (scoreIn (fits (now blocks) (now weights) u own a limit) (λ z. getD (now acc) z 0)) y ⌝ }
+    ensures { λ r. ⌜ r ≡ topTo (scoreIn (fits (now (blocks .entry)) (now (weights .entry)) u own a limit) (λ z. getD (now (acc .entry)) z 0)) (y + 4) ⌝ }
+{
+    let high = best.rating;
+    if four_top(acc, y) <= high {
+        return best;
+    }
+    weigh_to(acc, blocks, weights, u, own, a, limit, y, y + 4, best)
+}
+
 // The best partner of `u` by the ratings in `acc`: only the vertices after it may be, and of equals the first is kept.
 fn select(
     acc: &[u64; 1025],
@@ -109,11 +177,11 @@ fn select(
         vertex: 0,
     };
     let mut y = u;
-    while y < n {
-        best = weigh_partner(blocks, weights, u, own, a, limit, y + 1, acc[y + 1], best);
-        y += 1;
+    while y + 4 <= n {
+        best = weigh_four(acc, blocks, weights, u, own, a, limit, y, best);
+        y += 4;
     }
-    best
+    weigh_to(acc, blocks, weights, u, own, a, limit, y, n, best)
 }
 
 // Clears the places of the `n` vertices.

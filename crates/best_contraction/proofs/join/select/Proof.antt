@@ -1,9 +1,9 @@
--- `select`: the best of the vertices up to y.
+-- `select`: the best of the vertices up to y, four at a time, then of the rest.
 use Prim.Native.Nat.{ℕ, _≤_, _-_}
-use mathlib.Core.Path.{_≡_, ap₂, _∙_}
+use mathlib.Core.Path.{_≡_, ap, _∙_}
 use lib.ListN.{getD}
 use Rattle.best_contraction.specs.Rating.{fits, scoreIn}
-use Rattle.best_contraction.specs.PartnerLaw.{topTo, select-none, select-more}
+use Rattle.best_contraction.specs.PartnerLaw.{topTo, select-none}
 use Rattle.best_contraction.specs.declared.join.Partner.{Partner}
 use native.Mathlib.Omega.{arith}
 use denote.Ref.{now}
@@ -43,20 +43,11 @@ loop-holds c =
     let a = c .before .before .before .before .before .args in
     (omega arith, select-none (now (a .acc)) (now (a .blocks)) (now (a .weights)) (a .u) (getD (now (a .blocks)) (a .u - 1) 0) (c .long .result) (a .limit))
 
-add-weigh-partner : tie.Need-add-weigh-partner Inv-loop μ-loop
-add-weigh-partner c = omega arith
+add-loop : tie.Need-add-loop Inv-loop μ-loop
+add-loop c = omega arith
 
-add-weigh-partner-2 : tie.Need-add-weigh-partner-2 Inv-loop μ-loop
-add-weigh-partner-2 c = omega arith
-
-mul-weigh-partner : tie.Need-mul-weigh-partner Inv-loop μ-loop
-mul-weigh-partner c = omega arith
-
-element-copy-out-weigh-partner : tie.Need-element-copy-out-weigh-partner Inv-loop μ-loop
-element-copy-out-weigh-partner c = omega arith
-
-weigh-partner-requires : tie.Need-weigh-partner-requires Inv-loop μ-loop
-weigh-partner-requires c κs = (omega arith, omega arith, omega arith)
+weigh-four-requires : tie.Need-weigh-four-requires Inv-loop μ-loop
+weigh-four-requires c κs = ((omega arith, omega arith, omega arith, omega arith), c .before .loop .inv .1)
 
 add-y : tie.Need-add-y Inv-loop μ-loop
 add-y c = omega arith
@@ -65,17 +56,16 @@ loop-less : tie.Need-loop-less Inv-loop μ-loop
 loop-less c = omega arith
 
 loop-again : tie.Need-loop-again Inv-loop μ-loop
-loop-again c =
-    let a = c .before .before .before .before .before .before .before .before .before .args in
-    let l = c .before .before .before .loop in
-    (omega arith, select-more (now (a .acc)) (now (a .blocks)) (now (a .weights)) (a .u) (getD (now (a .blocks)) (a .u - 1) 0) (c .before .before .before .before .long .result) (a .limit) (l .y) (l .best) (c .weigh-partner .result) (l .inv .1) (c .weigh-partner .ensures))
+loop-again c = (omega arith, c .weigh-four .ensures)
+
+weigh-to-requires : tie.Need-weigh-to-requires Inv-loop μ-loop
+weigh-to-requires c κs = ((omega arith, c .before .loop .inv .0, omega arith, omega arith, omega arith), c .before .loop .inv .1)
 
 returns : tie.Need-returns Inv-loop μ-loop
 returns c =
-    let a = c .before .before .before .before .before .before .before .args in
-    let l = c .before .loop in
-    let e : l .y ≡ a .n = omega (arith, l .inv .0) in
-    l .inv .1 ∙ ap₂ {A = ℕ} {B = ℕ} {C = Partner} (λ k i. topTo (scoreIn (fits (now (a .blocks)) (now (a .weights)) (a .u) (getD (now (a .blocks)) (a .u - 1) 0) k (a .limit)) (λ z. getD (now (a .acc)) z 0)) i) (c .before .before .long .ensures) e
+    let at-loop = c .before .before in
+    let a = at-loop .before .before .before .before .before .before .args in
+    c .weigh-to .ensures ∙ ap {A = ℕ} {B = Partner} (λ k. topTo (scoreIn (fits (now (a .blocks)) (now (a .weights)) (a .u) (getD (now (a .blocks)) (a .u - 1) 0) k (a .limit)) (λ z. getD (now (a .acc)) z 0)) (a .n)) (at-loop .before .long .ensures)
 
 pub select-spec : {M : Type 1} → statement M
 select-spec =
@@ -91,12 +81,10 @@ select-spec =
     shared-slice-read-long
     long-requires
     loop-holds
-    add-weigh-partner
-    add-weigh-partner-2
-    mul-weigh-partner
-    element-copy-out-weigh-partner
-    weigh-partner-requires
+    add-loop
+    weigh-four-requires
     add-y
     loop-less
     loop-again
+    weigh-to-requires
     returns)
