@@ -1,12 +1,13 @@
 -- Peaks: for each part of 64 vertices a number that no gain of them passes; how they are set and raised. Vertices and blocks count from 0
 -- here: the 64 vertices from 64 * c on are part c. Assumes nothing.
 use mathlib.Core.Path.{_≡_, refl, sym, ap, _∙_, subst}
-use mathlib.Core.Bool.{true, false, true≢false}
+use mathlib.Core.Bool.{Bool, true, false, true≢false}
 use mathlib.Core.List.{List}
-use Prim.Native.Nat.{ℕ, _+_, _-_, _*_, _/_, _≤_, _<_}
+use Prim.Native.Nat.{ℕ, zero, suc, _+_, _-_, _*_, _/_, _≤_, _<_}
 use native.Mathlib.Decide.{ℕ-discrete}
 use native.Mathlib.Omega.{arith}
 use borrow.Author.Tests.{ltb-true, ltb-false, le-ltb}
+use lib.Dec.{ltb}
 use lib.ListN.{length, getD, set, length-set}
 use lib.Seq.{getD-set-same, getD-set-other}
 use lib.IntN.{ℤ, pos, negsuc}
@@ -43,6 +44,18 @@ pub record RowPeak (gains : List ℤ) (x k : ℕ) (before r : ℤ) : Type 0 wher
 pub record PartPeak (gains : List ℤ) (from to k : ℕ) (r : ℤ) : Type 0 where
   pub above : (x b : ℕ) → from ≤ x → x < to → b < k → ltZ r (getD gains (16 * x + b) (pos 0)) ≡ false
 
+-- r is not below their gains to block b
+pub record Column (gains : List ℤ) (from to b : ℕ) (r : ℤ) : Type 0 where
+  pub above : (x : ℕ) → from ≤ x → x < to → ltZ r (getD gains (16 * x + b) (pos 0)) ≡ false
+
+-- r is not below their gains to the blocks b .. b + 3
+pub record FourPeak (gains : List ℤ) (from to b : ℕ) (r : ℤ) : Type 0 where
+  pub above : (x j : ℕ) → from ≤ x → x < to → b ≤ j → j < b + 4 → ltZ r (getD gains (16 * x + j) (pos 0)) ≡ false
+
+-- r is not below their gains to those of k blocks that come before block b
+pub record Before (gains : List ℤ) (from to k b : ℕ) (r : ℤ) : Type 0 where
+  pub above : (x j : ℕ) → from ≤ x → x < to → j < b → j < k → ltZ r (getD gains (16 * x + j) (pos 0)) ≡ false
+
 -- ---- the order of two numbers, by the test that the code makes
 
 pub not-below : (a b c : ℤ) → ltZ a b ≡ false → ltZ b c ≡ false → ltZ a c ≡ false
@@ -71,6 +84,14 @@ larger-second a b r e t = rw e (record { kept = λ z h. not-below b a z (not-bot
 pub larger-first : (a b r : ℤ) → r ≡ a → ltZ a b ≡ false → Larger a b r
 larger-first a b r e t = rw e (record { kept = λ z h. h; above = t })
 
+-- ---- four blocks from b on, or the last four of k
+
+four-low : (b k at j : ℕ) → at ≡ lesser b (k - 4) → b ≤ j → at ≤ j
+four-low b k at j e l = omega arith
+
+four-high : (b k at j : ℕ) → 4 ≤ k → at ≡ lesser b (k - 4) → j < b + 4 → j < k → j < at + 4
+four-high b k at j wide e l u = omega arith
+
 -- ---- one vertex
 
 module _ (gains : List ℤ) where
@@ -95,6 +116,54 @@ module _ (gains : List ℤ) where
       go : (y b : ℕ) → from ≤ y → y < x + 1 → b < k → Dec (y ≡ x) → ltZ r (getD gains (16 * y + b) (pos 0)) ≡ false
       go y b l u q (yes s) = subst (λ (y : ℕ). ltZ r (getD gains (16 * y + b) (pos 0)) ≡ false) (sym s) (p .above b q)
       go y b l u q (no s) = p .kept _ (h .above y b l (omega arith) q)
+
+  -- ---- one part, four blocks at a time
+
+  pub column-begins : (from b : ℕ) (r : ℤ) → Column gains from from b r
+  column-begins from b r = record { above = λ x l u. absurd (omega arith) }
+
+  -- the numbers that are passed and written are read back from their bits: gain from the table, w from the larger of the two
+  pub column-rises : (from x b at : ℕ) (peak gain r w : ℤ) → at ≡ 16 * x + b → Column gains from x b peak → gain ≡ getD gains at (pos 0) → w ≡ r → Larger peak gain r → Column gains from (x + 1) b w
+  column-rises from x b at peak gain r w ea h e ew l = subst (Column gains from (x + 1) b) (sym ew) (record { above = λ y low u. go y low u (ℕ-discrete y x) })
+    where
+      go : (y : ℕ) → from ≤ y → y < x + 1 → Dec (y ≡ x) → ltZ r (getD gains (16 * y + b) (pos 0)) ≡ false
+      go y low u (yes s) =
+          let q : at ≡ 16 * y + b = omega arith in
+          subst (λ (i : ℕ). ltZ r (getD gains i (pos 0)) ≡ false) q (subst (λ (z : ℤ). ltZ r z ≡ false) e (l .above))
+      go y low u (no s) = l .kept _ (h .above y low (omega arith))
+
+  -- r is the larger of s and t, s of the first two peaks and t of the last two
+  larger-four : (from to b : ℕ) (p₀ p₁ p₂ p₃ s t r : ℤ) → Column gains from to b p₀ → Column gains from to (b + 1) p₁ → Column gains from to (b + 2) p₂ → Column gains from to (b + 3) p₃
+      → Larger p₀ p₁ s → Larger p₂ p₃ t → Larger s t r → FourPeak gains from to b r
+  larger-four from to b p₀ p₁ p₂ p₃ s t r h₀ h₁ h₂ h₃ ls lt lr = record { above = λ x j l u low high. go x j l u (j - b) (omega arith) (omega arith) }
+    where
+      go : (x j : ℕ) → from ≤ x → x < to → (d : ℕ) → d < 4 → j ≡ b + d → ltZ r (getD gains (16 * x + j) (pos 0)) ≡ false
+      go x j l u zero k q = let z : j ≡ b = omega arith in rw z (lr .kept _ (ls .kept _ (h₀ .above x l u)))
+      go x j l u (suc zero) k q = rw q (lr .kept _ (not-below s p₁ _ (ls .above) (h₁ .above x l u)))
+      go x j l u (suc (suc zero)) k q = rw q (not-below r t _ (lr .above) (lt .kept _ (h₂ .above x l u)))
+      go x j l u (suc (suc (suc zero))) k q = rw q (not-below r t _ (lr .above) (not-below t p₃ _ (lt .above) (h₃ .above x l u)))
+      go x j l u (suc (suc (suc (suc d)))) k q = absurd (omega arith)
+
+  -- the same by what is passed, s′ and t′, and written, w
+  pub four-ends : (from x to b : ℕ) (p₀ p₁ p₂ p₃ s s′ t t′ r w : ℤ) → x ≡ to → Column gains from x b p₀ → Column gains from x (b + 1) p₁ → Column gains from x (b + 2) p₂ → Column gains from x (b + 3) p₃
+      → Larger p₀ p₁ s → Larger p₂ p₃ t → s′ ≡ s → t′ ≡ t → Larger s′ t′ r → w ≡ r → FourPeak gains from to b w
+  four-ends from x to b p₀ p₁ p₂ p₃ s s′ t t′ r w e h₀ h₁ h₂ h₃ ls lt es et lr ew =
+      subst (λ (k : ℕ). FourPeak gains from k b w) e (subst (FourPeak gains from x b) (sym ew)
+      (larger-four from x b p₀ p₁ p₂ p₃ s t r h₀ h₁ h₂ h₃ ls lt (subst (λ (z : ℤ). Larger z t r) es (subst (λ (z : ℤ). Larger s′ z r) et lr))))
+
+  pub fours-begin : (from to k : ℕ) (r : ℤ) → Before gains from to k 0 r
+  fours-begin from to k r = record { above = λ x j l u s t. absurd (omega arith) }
+
+  -- those before b are done; the four from b on, or the last four, are next
+  pub fours-rise : (from to k b at : ℕ) (p q q′ r w : ℤ) → 4 ≤ k → at ≡ lesser b (k - 4) → Before gains from to k b p → FourPeak gains from to at q → q′ ≡ q → w ≡ r → Larger p q′ r → Before gains from to k (b + 4) w
+  fours-rise from to k b at p q q′ r w wide ea h f eq ew l = subst (Before gains from to k (b + 4)) (sym ew) (record { above = λ x j low u s t. go x j low u s t (ltb j b) refl })
+    where
+      go : (x j : ℕ) → from ≤ x → x < to → j < b + 4 → j < k → (d : Bool) → ltb j b ≡ d → ltZ r (getD gains (16 * x + j) (pos 0)) ≡ false
+      go x j low u s t true e = l .kept _ (h .above x j low u (ltb-true j b e) t)
+      go x j low u s t false e = not-below r q _ (subst (λ (z : ℤ). ltZ r z ≡ false) eq (l .above)) (f .above x j low u (four-low b k at j ea (ltb-false j b e)) (four-high b k at j wide ea s t))
+
+  pub fours-end : (from to k b : ℕ) (r : ℤ) → k ≤ b → Before gains from to k b r → PartPeak gains from to k r
+  fours-end from to k b r all h = record { above = λ x j l u s. h .above x j l u (omega arith) s }
 
   -- ---- all parts: those before part c are done
 

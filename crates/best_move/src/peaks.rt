@@ -5,7 +5,7 @@ ghost use mathlib.Core.Path.{_≡_};
 ghost use Prim.Native.Nat.{ℕ, _+_, _*_, _≤_, _<_};
 ghost use lib.ListN.{length};
 ghost use Rattle.best_move.specs.Open.{RowOk};
-ghost use Rattle.best_move.specs.Peak.{Under, Peaked, Higher, Larger, RowPeak, PartPeak};
+ghost use Rattle.best_move.specs.Peak.{Under, Peaked, Higher, Larger, RowPeak, PartPeak, FourPeak};
 
 // The larger of two gains.
 fn higher(a: i32, b: i32) -> i32
@@ -29,8 +29,8 @@ fn row_peak(gains: &[i32], x: usize, k: usize, before: i32) -> i32
     peak
 }
 
-// The highest gain of the vertices from `from` on and before `to`; where there is none, the lowest number that a table holds.
-fn part_peak(gains: &[i32], from: usize, to: usize, k: usize) -> i32
+// The highest gain of the vertices from `from` on and before `to`, vertex by vertex; where there is none, the lowest number that a table holds.
+fn rows_peak(gains: &[i32], from: usize, to: usize, k: usize) -> i32
     requires { ⌜ (from ≤ to) × (to ≤ 1024) × (k ≤ 16) × (16 * to ≤ length (now gains)) ⌝ }
     ensures { λ r. ⌜ PartPeak (now (gains .entry)) from to k r ⌝ }
 {
@@ -39,6 +39,44 @@ fn part_peak(gains: &[i32], from: usize, to: usize, k: usize) -> i32
     while x < to {
         peak = row_peak(gains, x, k, peak);
         x += 1;
+    }
+    peak
+}
+
+// The highest gain of the same vertices to the four blocks from `b` on: four maxima side by side, of which none waits for another.
+fn four_peak(gains: &[i32], from: usize, to: usize, b: usize) -> i32
+    requires { ⌜ (from ≤ to) × (to ≤ 1024) × (b ≤ 12) × (16 * to ≤ length (now gains)) ⌝ }
+    ensures { λ r. ⌜ FourPeak (now (gains .entry)) from to b r ⌝ }
+{
+    let mut p0: i32 = -2147483648;
+    let mut p1: i32 = -2147483648;
+    let mut p2: i32 = -2147483648;
+    let mut p3: i32 = -2147483648;
+    let mut x = from;
+    while x < to {
+        let at = 16 * x + b;
+        p0 = higher(p0, gains[at]);
+        p1 = higher(p1, gains[at + 1]);
+        p2 = higher(p2, gains[at + 2]);
+        p3 = higher(p3, gains[at + 3]);
+        x += 1;
+    }
+    higher(higher(p0, p1), higher(p2, p3))
+}
+
+// The highest gain of the same vertices to all `k` blocks, four at a time; the last four may hold some of those before them once more.
+fn part_peak(gains: &[i32], from: usize, to: usize, k: usize) -> i32
+    requires { ⌜ (from ≤ to) × (to ≤ 1024) × (k ≤ 16) × (16 * to ≤ length (now gains)) ⌝ }
+    ensures { λ r. ⌜ PartPeak (now (gains .entry)) from to k r ⌝ }
+{
+    if k < 4 {
+        return rows_peak(gains, from, to, k);
+    }
+    let mut peak: i32 = -2147483648;
+    let mut b: usize = 0;
+    while b < k {
+        peak = higher(peak, four_peak(gains, from, to, least(b, k - 4)));
+        b += 4;
     }
     peak
 }
