@@ -136,6 +136,25 @@ shift A B A′ B′ p q s t e d = eq-by _ _ (omega (
   add-is (pos A -ℤ pos B) (((pos p +ℤ negℤ (pos q)) +ℤ negℤ (pos s)) +ℤ pos t),
 ))
 
+-- at the block that a pin leaves, at the one that it comes to, and at any other
+from-none : (F G : ℕ) → pos G -ℤ pos F ≡ pos 0 +ℤ (pos G -ℤ pos F)
+from-none F G = eq-by _ _ (omega (arith, pos-is 0, add-is (pos 0) (pos G -ℤ pos F)))
+
+to-none : (F G : ℕ) → pos 0 ≡ (pos F -ℤ pos G) +ℤ (pos G -ℤ pos F)
+to-none F G = eq-by _ _ (omega (arith, pos-is 0, pos-is F, pos-is G, sub-is (pos F) (pos G), sub-is (pos G) (pos F), add-is (pos F -ℤ pos G) (pos G -ℤ pos F)))
+
+swap : (F D G : ℕ) → pos G -ℤ pos D ≡ (pos F -ℤ pos D) +ℤ (pos G -ℤ pos F)
+swap F D G = eq-by _ _ (omega (
+  arith,
+  pos-is F,
+  pos-is D,
+  pos-is G,
+  sub-is (pos G) (pos D),
+  sub-is (pos F) (pos D),
+  sub-is (pos G) (pos F),
+  add-is (pos F -ℤ pos D) (pos G -ℤ pos F),
+))
+
 -- a pin is counted
 pub rowCount-has : (n : ℕ) (r : ℕ → ℕ) (y o : ℕ) → y < n → r y ≡ o → 1 ≤ o → 1 ≤ rowCount n r o
 rowCount-has n r y o l e h = omega (arith, rowCount-place n r y 0 o l, ap (λ (z : ℕ). one (eqb z o)) e, ap one (eq-eqb o o refl), ap one (ne-eqb 0 o (λ z. omega arith)))
@@ -180,6 +199,24 @@ module _ (n : ℕ) (r : ℕ → ℕ) (x a b w : ℕ) (hx : x < n) (ea : r x ≡ 
               ap (λ (z : ℕ). when z 0 w) (hb h),
             )
         by (no p) (no q) = omega (arith, single-other fa 1 a w c p, single-other fb 0 b w c q, ap (λ (z : ℕ). when z 0 w) (count-other c p q))
+
+    -- the shares of the moved pin itself all change by the same number, its share at the block that it left
+    pub own-change : 1 ≤ a → 1 ≤ b → (c : ℕ) → 1 ≤ c → shareOf (rowCount n (place r x b)) w b c ≡ shareOf (rowCount n r) w a c +ℤ (pos (when fb 0 w) -ℤ pos (when fa 1 w))
+    unfolding shareOf
+    own-change la lb c hc = rw (ne-eqb a 0 (λ z. omega arith), ne-eqb b 0 (λ z. omega arith), sole-b, ← ha la) (by (ℕ-discrete c a) (ℕ-discrete c b))
+      where
+        sole-b : when (rowCount n (place r x b) b) 1 w ≡ when fb 0 w
+        sole-b = when-iff (rowCount n (place r x b) b) 1 fb 0 w (λ z. omega (arith, count-b lb, hb lb)) (λ z. omega (arith, count-b lb, hb lb))
+
+        left-a : when (rowCount n (place r x b) a) 0 w ≡ when fa 1 w
+        left-a = when-iff (rowCount n (place r x b) a) 0 fa 1 w (λ z. omega (arith, count-a la, ha la)) (λ z. omega (arith, count-a la, ha la))
+
+        by : Dec (c ≡ a) → Dec (c ≡ b) → cond (eqb c b) (pos 0) (pos (when fb 0 w) -ℤ pos (when (rowCount n (place r x b) c) 0 w)) ≡
+            cond (eqb c a) (pos 0) (pos (when fa 1 w) -ℤ pos (when (rowCount n r c) 0 w)) +ℤ (pos (when fb 0 w) -ℤ pos (when fa 1 w))
+        by (yes p) (yes q) = absurd (ne (sym p ∙ q))
+        by (yes p) (no q) = rw (ne-eqb c b q, eq-eqb c a p, p, left-a) (from-none (when fa 1 w) (when fb 0 w))
+        by (no p) (yes q) = rw (eq-eqb c b q, ne-eqb c a p, q, ← hb lb) (to-none (when fa 1 w) (when fb 0 w))
+        by (no p) (no q) = rw (ne-eqb c b q, ne-eqb c a p, count-other c p q) (swap (when fa 1 w) (when (rowCount n r c) 0 w) (when fb 0 w))
 
     module _ (y o : ℕ) (hy : y < n) (ny : y ≡ x → ⊥) (eo : r y ≡ o) (ho : 1 ≤ o) where
       still : 1 ≤ rowCount n (place r x b) o

@@ -9,6 +9,7 @@
 -- Set     the contract of set_pin
 -- Change  the rules of the critical counts
 -- Touch   the rules at one vertex, and at all other pins
+-- Moved   the row of the changed pin itself, where it moves
 -- Steps   the steps of set_pin's proof
 -- Whole   all pins of a net that has none yet
 -- Empty   tables of zeros stand for the matrix of no pins
@@ -22,6 +23,7 @@ pub mod Law
 pub mod Set
 pub mod Change
 pub mod Touch
+pub mod Moved
 pub mod Steps
 pub mod Whole
 pub mod Empty

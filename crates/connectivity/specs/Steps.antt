@@ -1,4 +1,5 @@
--- The steps of `set_pin`: the row of the changed pin, the counts, the other pins, that row again. Rests on Set and Touch.
+-- The steps of `set_pin`: the row of the changed pin where it goes, the counts, the other pins, that row where it comes or moves. Rests on Set,
+-- Touch and Moved.
 use Prim.Native.Nat.{ℕ, zero, suc, _+_, _*_, _-_, _<_, _≤_}
 use mathlib.Core.Path.{_≡_, refl, sym, ap, _∙_}
 use mathlib.Core.Bool.{Bool, true, false}
@@ -6,7 +7,7 @@ use mathlib.Core.List.{List}
 use native.Mathlib.Omega.{arith}
 use native.Mathlib.Decide.{ℕ-discrete}
 use lib.ListN.{length, getD}
-use lib.IntN.{ℤ, natAbs, _+ℤ_, _-ℤ_, +ℤ-idr}
+use lib.IntN.{ℤ, pos, natAbs, _+ℤ_, _-ℤ_, +ℤ-idr}
 use Rattle.laws.specs.Place.{place, place-at, place-off}
 use Rattle.laws.specs.Integer.{eq-by, add-is, sub-is, natAbs-add}
 use Rattle.laws.specs.IntegerSum.{sumZ, sumZ-change}
@@ -16,8 +17,10 @@ use Rattle.connectivity.specs.Matrix.{rowCount, shareOf, rowShare, setPi
 use Rattle.connectivity.specs.Row.{read, row, setPin-here, setPin-there, shareOf-le, shareOf-none}
 use Rattle.connectivity.specs.Law.{Step, count-of, given-is, small-of, stands-ext, setPin-none}
 use Rattle.connectivity.specs.Set.{Sets, Set, come, kept-none, kept-tally-trans, kept-gains-trans, kept-step, kept-laid, past-none}
-use Rattle.connectivity.specs.Change.{delta, delta-none, share-change}
-use Rattle.connectivity.specs.Touch.{Others, Delta}
+use Rattle.connectivity.specs.Listed.{clear16}
+use Rattle.connectivity.specs.Change.{delta, delta-none, share-change, own-change}
+use Rattle.connectivity.specs.Touch.{Room, Others, Delta}
+use Rattle.connectivity.specs.Moved.{lone, wayBack, lone-none, lone-both, lone-only, back-come, back-go, back-moved, kept-row}
 use Rattle.connectivity.specs.Laid.{Laid, given, given-none, signed, signed-le, laid-none, laid-more, laid-next, raised-given}
 
 -- the count of a block, and `none` where there is no block
@@ -35,12 +38,12 @@ pub record OwnRow (g : List ℤ) (counts : List ℕ) (x e a k w : ℕ) : Type 0 
   pub small : (j : ℕ) → j < k → natAbs (at g (16 * x + j)) ≤ 2000000
 
 module _ {g : List ℤ} {counts : List ℕ} {x e a k w : ℕ} (t : Bool) (c : OwnRow g counts x e a k w) where
-  pub own-none : a ≡ 0 → Laid (given t counts e w) (place (λ _. 0) x a) k g g
-  own-none z = laid-none (given-none t counts e w) _ g (λ y. by y (ℕ-discrete y x))
+  pub own-none : {z : ℕ} → z ≡ 0 → Laid (given t counts e w) (place (λ _. 0) x z) k g g
+  own-none {z} e₀ = laid-none (given-none t counts e w) _ g (λ y. by y (ℕ-discrete y x))
     where
-      by : (y : ℕ) → Dec (y ≡ x) → place (λ _. 0) x a y ≡ 0
-      by y (yes q) = rw q (place-at (λ _. 0) x a ∙ z)
-      by y (no q) = place-off (λ _. 0) x a y q
+      by : (y : ℕ) → Dec (y ≡ x) → place (λ _. 0) x z y ≡ 0
+      by y (yes q) = rw q (place-at (λ _. 0) x z ∙ e₀)
+      by y (no q) = place-off (λ _. 0) x z y q
 
   pub own-ready : 1 ≤ a → Ready g counts (16 * x) (16 * e) (a - 1) k w
   own-ready h = record {
@@ -51,39 +54,93 @@ module _ {g : List ℤ} {counts : List ℕ} {x e a k w : ℕ} (t : Bool) (c : Ow
     small = c .small;
   }
 
-  pub own-some : {g₁ : List ℤ} → 1 ≤ a → Raised (λ j. signed t (share counts (16 * e) (a - 1) w j)) (16 * x) k g g₁ → Laid (given t counts e w) (place (λ _. 0) x a) k g g₁
-  own-some h u = laid-more (given-none t counts e w) (c .few) (laid-none (given-none t counts e w) (λ _. 0) g (λ y. refl)) refl (place-at (λ _. 0) x a) (λ y ne. place-off (λ _. 0) x a y ne) (raised-given t counts x e a w h u)
+  pub own-some : {z : ℕ} {g₁ : List ℤ} → z ≡ a → 1 ≤ a → Raised (λ j. signed t (share counts (16 * e) (a - 1) w j)) (16 * x) k g g₁ → Laid (given t counts e w) (place (λ _. 0) x z) k g g₁
+  own-some {z} ez h u = laid-more (given-none t counts e w) (c .few) (laid-none (given-none t counts e w) (λ _. 0) g (λ y. refl)) refl (place-at (λ _. 0) x z ∙ ez) (λ y ne. place-off (λ _. 0) x z y ne) (raised-given t counts x e a w h u)
 
 -- ---- the law of the whole change
 moved-by : (s f d : ℤ) → (s -ℤ f) +ℤ (f +ℤ d) ≡ s +ℤ d
 moved-by s f d = eq-by _ _ (omega (arith, sub-is s f, add-is f d, add-is (s -ℤ f) (f +ℤ d), add-is s d))
 
-module _ {Q : ℕ → ℕ → ℕ} {n m k : ℕ} {weights cs vs cs′ vs′ : List ℕ} {g g₁ g₂ g₃ : List ℤ} (R : ℕ → ℕ) (e x a b w fa fb : ℕ) (he : e < m) (hx : x < n) (few : k ≤ 16) (ha : a ≤ k) (hb : b ≤ k) (ew : w ≡ getD weights e 0) (ne : a ≡ b → ⊥)
+module _ {Q : ℕ → ℕ → ℕ} {n m k : ℕ} {weights cs vs cs′ vs′ : List ℕ} {g g₁ g₂ g₃ g₄ : List ℤ} (R : ℕ → ℕ) (e x a b w fa fb : ℕ) (he : e < m) (hx : x < n) (few : k ≤ 16) (ha : a ≤ k) (hb : b ≤ k) (ew : w ≡ getD weights e 0) (ne : a ≡ b → ⊥)
     (s : Stands Q n m k weights cs vs g) (seen : (y : ℕ) → y < n → Q e y ≡ place R x a y) (ca : CountAt cs e a 3 fa) (cb : CountAt cs e b 2 fb)
     (t : Tally (setPin Q e x b) n m k cs′ vs′)
-    (l₁ : Laid (given true cs e w) (place (λ _. 0) x a) k g g₁) (l₂ : Laid (Delta a b fa fb w) (place R x 0) k g₁ g₂) (l₃ : Laid (given false cs′ e w) (place (λ _. 0) x b) k g₂ g₃) where
+    (l₁ : Laid (given true cs e w) (place (λ _. 0) x (lone a b)) k g g₁) (l₂ : Laid (Delta a b fa fb w) (place R x 0) k g₁ g₂) (l₃ : Laid (given false cs′ e w) (place (λ _. 0) x (lone b a)) k g₂ g₃)
+    (r₄ : Raised (λ _. wayBack a b fa fb w) (16 * x) k g₃ g₄) where
   own : Q e x ≡ a
   own = seen x hx ∙ place-at R x a
 
   own-now : setPin Q e x b e x ≡ b
   own-now = rw setPin-here (place-at (Q e) x b)
 
-  at-x : (j : ℕ) → j < k → at g₃ (16 * x + j) ≡ (at g (16 * x + j) -ℤ rowShare n (getD weights e 0) (Q e) x (j + 1)) +ℤ rowShare n (getD weights e 0) (setPin Q e x b e) x (j + 1)
-  unfolding signed
-  at-x j hj =
-      l₃ .inside x j hj
-      ∙ cc (
-        l₂ .inside x j hj,
-        l₁ .inside x j hj,
-        place-at (λ (_ : ℕ). 0) x a,
-        place-at (λ (_ : ℕ). 0) x b,
-        place-at R x 0,
-        delta-none a b fa fb w (j + 1),
-        +ℤ-idr (at g₁ (16 * x + j)),
-        given-is (s .tally) e x j w a he hx hj own,
-        given-is t e x j w b he hx hj own-now,
-        ew,
-      )
+  count-a : 1 ≤ a → fa ≡ rowCount n (Q e) a
+  count-a h = ca .yes h ∙ count-of (s .tally) e x he hx few a h ha
+
+  count-b : 1 ≤ b → fb ≡ rowCount n (Q e) b
+  count-b h = cb .yes h ∙ count-of (s .tally) e x he hx few b h hb
+
+  module _ (j : ℕ) (hj : j < k) where
+    abbrev was : ℤ
+    was = rowShare n w (Q e) x (j + 1)
+
+    abbrev is : ℤ
+    is = rowShare n w (setPin Q e x b e) x (j + 1)
+
+    all-steps : at g₄ (16 * x + j) ≡ ((at g (16 * x + j) +ℤ given true cs e w (lone a b) j) +ℤ given false cs′ e w (lone b a) j) +ℤ wayBack a b fa fb w
+    all-steps =
+        r₄ .inside j hj
+        ∙ cc (
+          l₃ .inside x j hj,
+          l₂ .inside x j hj,
+          l₁ .inside x j hj,
+          place-at (λ (_ : ℕ). 0) x (lone a b),
+          place-at (λ (_ : ℕ). 0) x (lone b a),
+          place-at R x 0,
+          delta-none a b fa fb w (j + 1),
+          +ℤ-idr (at g₁ (16 * x + j)),
+        )
+
+    -- the pin comes or goes
+    one-sided : lone a b ≡ a → lone b a ≡ b → wayBack a b fa fb w ≡ pos 0 → at g₄ (16 * x + j) ≡ (at g (16 * x + j) -ℤ was) +ℤ is
+    unfolding signed
+    one-sided p q z =
+        all-steps
+        ∙ cc (
+          p,
+          q,
+          z,
+          +ℤ-idr ((at g (16 * x + j) +ℤ given true cs e w a j) +ℤ given false cs′ e w b j),
+          given-is (s .tally) e x j w a he hx hj own,
+          given-is t e x j w b he hx hj own-now,
+        )
+
+    own-moves : 1 ≤ a → 1 ≤ b → is ≡ was +ℤ wayBack a b fa fb w
+    own-moves h i = rw (own-now, own, setPin-here, back-moved a b fa fb w (λ z. omega arith) (λ z. omega arith))
+        (own-change n (Q e) x a b w hx own ne fa fb count-a count-b h i (j + 1) (omega arith))
+
+    -- the pin moves
+    both-sided : 1 ≤ a → 1 ≤ b → at g₄ (16 * x + j) ≡ (at g (16 * x + j) -ℤ was) +ℤ is
+    both-sided h i =
+        all-steps
+        ∙ cc (
+          lone-both a b (λ z. omega arith),
+          lone-both b a (λ z. omega arith),
+          given-none true cs e w j,
+          given-none false cs′ e w j,
+          +ℤ-idr (at g (16 * x + j)),
+        )
+        ∙ sym (moved-by (at g (16 * x + j)) was (wayBack a b fa fb w))
+        ∙ ap (λ (z : ℤ). (at g (16 * x + j) -ℤ was) +ℤ z) (sym (own-moves h i))
+
+    at-w : at g₄ (16 * x + j) ≡ (at g (16 * x + j) -ℤ was) +ℤ is
+    at-w = by (ℕ-discrete a 0) (ℕ-discrete b 0)
+      where
+        by : Dec (a ≡ 0) → Dec (b ≡ 0) → at g₄ (16 * x + j) ≡ (at g (16 * x + j) -ℤ was) +ℤ is
+        by (yes p) q = one-sided (lone-none a b p ∙ sym p) (lone-only b a p) (back-come a b fa fb w p)
+        by (no p) (yes q) = one-sided (lone-only a b q) (lone-none b a q ∙ sym q) (back-go a b fa fb w q)
+        by (no p) (no q) = both-sided (omega arith) (omega arith)
+
+    at-x : at g₄ (16 * x + j) ≡ (at g (16 * x + j) -ℤ rowShare n (getD weights e 0) (Q e) x (j + 1)) +ℤ rowShare n (getD weights e 0) (setPin Q e x b e) x (j + 1)
+    at-x = rw (← ew) at-w
 
   -- at any other vertex
   share-now : (y c : ℕ) → y < n → (y ≡ x → ⊥) → 1 ≤ c → rowShare n w (setPin Q e x b e) y c ≡ rowShare n w (Q e) y c +ℤ delta a b fa fb w (Q e y) c
@@ -91,17 +148,16 @@ module _ {Q : ℕ → ℕ → ℕ} {n m k : ℕ} {weights cs vs cs′ vs′ : Li
     where
       by : (o : ℕ) → Q e y ≡ o → shareOf (rowCount n (place (Q e) x b)) w o c ≡ shareOf (rowCount n (Q e)) w o c +ℤ delta a b fa fb w o c
       by zero q = rw (shareOf-none, shareOf-none, delta-none) refl
-      by (suc o) q = share-change n (Q e) x a b w hx own ne fa fb
-          (λ h. ca .yes h ∙ count-of (s .tally) e x he hx few a h ha) (λ h. cb .yes h ∙ count-of (s .tally) e x he hx few b h hb)
-          y (suc o) hy ny q (omega arith) c hc
+      by (suc o) q = share-change n (Q e) x a b w hx own ne fa fb count-a count-b y (suc o) hy ny q (omega arith) c hc
 
-  at-y : (y j : ℕ) → y < n → j < k → (y ≡ x → ⊥) → at g₃ (16 * y + j) ≡ at g (16 * y + j) +ℤ delta a b fa fb w (Q e y) (j + 1)
+  at-y : (y j : ℕ) → y < n → j < k → (y ≡ x → ⊥) → at g₄ (16 * y + j) ≡ at g (16 * y + j) +ℤ delta a b fa fb w (Q e y) (j + 1)
   at-y y j hy hj ny =
-      laid-next (given-none false cs′ e w) l₃ y (place-off (λ _. 0) x b y ny) j hj
+      r₄ .outside (16 * y + j) (clear16 k x y few (λ z. ny (sym z)) j hj)
+      ∙ laid-next (given-none false cs′ e w) l₃ y (place-off (λ _. 0) x (lone b a) y ny) j hj
       ∙ l₂ .inside y j hj
-      ∙ cc (place-off R x 0 y ny, place-off R x a y ny, seen y hy, laid-next (given-none true cs e w) l₁ y (place-off (λ _. 0) x a y ny) j hj)
+      ∙ cc (place-off R x 0 y ny, place-off R x a y ny, seen y hy, laid-next (given-none true cs e w) l₁ y (place-off (λ _. 0) x (lone a b) y ny) j hj)
 
-  pub stands-set : Stands (setPin Q e x b) n m k weights cs′ vs′ g₃
+  pub stands-set : Stands (setPin Q e x b) n m k weights cs′ vs′ g₄
   stands-set = record { tally = t; gained = λ y j hy hj. by y j hy hj (ℕ-discrete y x) }
     where
       change : (y j : ℕ) → (sumZ (λ d. rowShare n (getD weights d 0) (Q d) y (j + 1)) m -ℤ rowShare n (getD weights e 0) (Q e) y (j + 1)) +ℤ rowShare n (getD weights e 0) (setPin Q e x b e) y (j + 1)
@@ -109,7 +165,7 @@ module _ {Q : ℕ → ℕ → ℕ} {n m k : ℕ} {weights cs vs cs′ vs′ : Li
       change y j = sumZ-change (λ d. rowShare n (getD weights d 0) (Q d) y (j + 1)) (λ d. rowShare n (getD weights d 0) (setPin Q e x b d) y (j + 1)) m e he
           (λ d u nd. ap (λ (r : ℕ → ℕ). rowShare n (getD weights d 0) r y (j + 1)) (sym (setPin-there Q e x b d nd)))
 
-      by : (y j : ℕ) → y < n → j < k → Dec (y ≡ x) → at g₃ (16 * y + j) ≡ sumZ (λ d. rowShare n (getD weights d 0) (setPin Q e x b d) y (j + 1)) m
+      by : (y j : ℕ) → y < n → j < k → Dec (y ≡ x) → at g₄ (16 * y + j) ≡ sumZ (λ d. rowShare n (getD weights d 0) (setPin Q e x b d) y (j + 1)) m
       by y j hy hj (yes q) = rw q (at-x j hj
           ∙ ap (λ (z : ℤ). (z -ℤ rowShare n (getD weights e 0) (Q e) x (j + 1)) +ℤ rowShare n (getD weights e 0) (setPin Q e x b e) x (j + 1)) (s .gained x j hx hj) ∙ change x j)
       by y j hy hj (no q) =
@@ -146,13 +202,13 @@ module _ {weights cs vs pins blocks : List ℕ} {g : List ℤ} {n m k first p e 
       small = λ j l. omega (arith, small x j (o .x-in) l);
     }
 
-    module _ {g₁ : List ℤ} (l₁ : Laid (given true cs e w) (place (λ _. 0) x a) k g g₁) where
+    module _ {g₁ : List ℤ} (l₁ : Laid (given true cs e w) (place (λ _. 0) x (lone a b)) k g g₁) where
       small-1 : (y j : ℕ) → y < n → j < k → natAbs (at g₁ (16 * y + j)) ≤ 2000000
-      small-1 y j hy hj = let z = shareOf (read cs (16 * e)) w (place (λ _. 0) x a y) (j + 1) in rw (l₁ .inside y j hj) (omega (
+      small-1 y j hy hj = let z = shareOf (read cs (16 * e)) w (place (λ _. 0) x (lone a b) y) (j + 1) in rw (l₁ .inside y j hj) (omega (
         arith,
         natAbs-add (at g (16 * y + j)) (signed true z),
         signed-le true z,
-        shareOf-le (read cs (16 * e)) w (place (λ _. 0) x a y) (j + 1),
+        shareOf-le (read cs (16 * e)) w (place (λ _. 0) x (lone a b) y) (j + 1),
         light,
         small y j hy hj,
       ))
@@ -191,13 +247,29 @@ module _ {weights cs vs pins blocks : List ℕ} {g : List ℤ} {n m k first p e 
           small = λ j l. rw (laid-next (λ i. delta-none a b fa fb w (i + 1)) l₂ x (place-at (row pins blocks first p) x 0) j l) (small-1 x j (o .x-in) l);
         }
 
-        pub set-done : {g₃ : List ℤ} → Laid (given false cs₂ e w) (place (λ _. 0) x b) k g₂ g₃ → Set weights pins blocks n m k first p e x a b cs cs₂ vs vs₂ g g₃
-        set-done l₃ = record {
-          stands = λ Q s f. stands-set (row pins blocks first p) e x a b w fa fb (o .e-in) (o .x-in) (o .frame .few) (o .a-in) (o .b-in) ew ne s f ca cb (come o d u Q (s .tally) f) l₁ l₂ l₃;
-          kept = record {
-            of-tally = kept-tally-trans (kept-step (o .e-in) (o .a-in) (o .frame .few) d) (kept-step (o .e-in) (o .b-in) (o .frame .few) u);
-            of-gains = kept-gains-trans (kept-laid (given-none true cs e w) (λ y h. place-off (λ _. 0) x a y (λ q. omega (arith, o .x-in))) l₁)
-                (kept-gains-trans (kept-laid (λ i. delta-none a b fa fb w (i + 1)) (past-none x 0 (o .x-in) (o .net)) l₂)
-                (kept-laid (given-none false cs₂ e w) (λ y h. place-off (λ _. 0) x b y (λ q. omega (arith, o .x-in))) l₃));
-          };
-        }
+        module _ {g₃ : List ℤ} (l₃ : Laid (given false cs₂ e w) (place (λ _. 0) x (lone b a)) k g₂ g₃) where
+          pub set-moved : Room g₃ x k w
+          set-moved = record {
+            fit = omega (arith, set-own-2 .fit, l₃ .len);
+            few = o .frame .few;
+            weight = light;
+            small = λ j l. let z = shareOf (read cs₂ (16 * e)) w (place (λ _. 0) x (lone b a) x) (j + 1) in rw (l₃ .inside x j l) (omega (
+              arith,
+              natAbs-add (at g₂ (16 * x + j)) (signed false z),
+              signed-le false z,
+              shareOf-le (read cs₂ (16 * e)) w (place (λ _. 0) x (lone b a) x) (j + 1),
+              light,
+              set-own-2 .small j l,
+            ));
+          }
+
+          pub set-done : {g₄ : List ℤ} → Raised (λ _. wayBack a b fa fb w) (16 * x) k g₃ g₄ → Set weights pins blocks n m k first p e x a b cs cs₂ vs vs₂ g g₄
+          set-done r₄ = record {
+            stands = λ Q s f. stands-set (row pins blocks first p) e x a b w fa fb (o .e-in) (o .x-in) (o .frame .few) (o .a-in) (o .b-in) ew ne s f ca cb (come o d u Q (s .tally) f) l₁ l₂ l₃ r₄;
+            kept = record {
+              of-tally = kept-tally-trans (kept-step (o .e-in) (o .a-in) (o .frame .few) d) (kept-step (o .e-in) (o .b-in) (o .frame .few) u);
+              of-gains = kept-gains-trans (kept-laid (given-none true cs e w) (λ y h. place-off (λ _. 0) x (lone a b) y (λ q. omega (arith, o .x-in))) l₁)
+                  (kept-gains-trans (kept-laid (λ i. delta-none a b fa fb w (i + 1)) (past-none x 0 (o .x-in) (o .net)) l₂)
+                  (kept-gains-trans (kept-laid (given-none false cs₂ e w) (λ y h. place-off (λ _. 0) x (lone b a) y (λ q. omega (arith, o .x-in))) l₃) (kept-row (o .x-in) (o .frame .few) r₄)));
+            };
+          }

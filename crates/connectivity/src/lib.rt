@@ -15,9 +15,12 @@ ghost use Rattle.connectivity.specs.Row.{row};
 ghost use Rattle.connectivity.specs.Laid.{Laid, given, signed};
 ghost use Rattle.connectivity.specs.Set.{Sets, Set};
 ghost use Rattle.connectivity.specs.Touch.{Room, One, But, Amount, Touches, Others, Delta};
+ghost use Rattle.connectivity.specs.Moved.{lone, wayBack};
 ghost use Rattle.connectivity.specs.Steps.{CountAt, OwnRow};
 use counts::arrive;
 use counts::depart;
+use halves::Halves;
+use halves::when_is;
 use incidence::numbers::index;
 use shares::add_at;
 use shares::share_row;
@@ -144,24 +147,66 @@ fn touch_others(
     }
 }
 
-// The shares of the net `e` in the gains of the vertex `x` alone, of the block `a`.
+// The shares of the net `e` in the gains of the vertex `x` alone, of the block `a`. Nothing where the net counts `x` in a block on both sides of
+// the change: then `own_moved` has all of it.
 fn own_row(
     gains: &mut [i32],
     counts: &[u16],
     x: usize,
     e: usize,
     a: usize,
+    b: usize,
     k: usize,
     w: u16,
     take: bool,
 )
     requires { ⌜ OwnRow (now gains) (now counts) x e a k w ⌝ }
-    ensures { λ _. ⌜ Laid (given take (now (counts .entry)) e w) (place (λ _. 0) x a) k (now (gains .entry)) (now (gains .exit)) ⌝ }
+    ensures { λ _. ⌜ Laid (given take (now (counts .entry)) e w) (place (λ _. 0) x (lone a b)) k (now (gains .entry)) (now (gains .exit)) ⌝ }
 {
     if a == 0 {
         return;
     }
+    if b != 0 {
+        return;
+    }
     share_row(gains, counts, x, e, a - 1, k, w, take);
+}
+
+// Adds `d` to the `k` gains of the vertex `x`.
+fn add_row(gains: &mut [i32], x: usize, k: usize, d: i32)
+    requires { ⌜ Room (now gains) x k (natAbs d) ⌝ }
+    ensures { λ _. ⌜ Raised (λ _. d) (16 * x) k (now (gains .entry)) (now (gains .exit)) ⌝ }
+{
+    let row = 16 * x;
+    let mut j = 0;
+    while j < k {
+        add_at(gains, row + j, d);
+        j += 1;
+    }
+}
+
+// A move of `x` from the block `a` to `b` changes each gain of `x` by the same number: the net's share in the gain of the way back, which frees
+// a block that had no pin and draws in one that had one. `fa` and `fb` are the counts before.
+fn own_moved(gains: &mut [i32], x: usize, a: usize, b: usize, fa: u16, fb: u16, k: usize, w: u16)
+    requires { ⌜ Room (now gains) x k w ⌝ }
+    ensures { λ _. ⌜ Raised (λ _. wayBack a b fa fb w) (16 * x) k (now (gains .entry)) (now (gains .exit)) ⌝ }
+{
+    if a == 0 {
+        return;
+    }
+    if b == 0 {
+        return;
+    }
+    let freed = when_is(fb, 0, w);
+    let drawn = when_is(fa, 1, w);
+    if freed == drawn {
+        return;
+    }
+    let back = Halves {
+        freed: freed as u32,
+        drawn: drawn as u32,
+    };
+    add_row(gains, x, k, back.difference());
 }
 
 // The count of the block `a`, or `none` where that is no block.
@@ -204,9 +249,10 @@ pub fn set_pin(
     let w = netweights[e];
     let fa = count_at(counts, e, a, 3);
     let fb = count_at(counts, e, b, 2);
-    own_row(gains, counts, x, e, a, k, w, true);
+    own_row(gains, counts, x, e, a, b, k, w, true);
     depart(counts, visited, e, a);
     arrive(counts, visited, e, b);
     touch_others(gains, pins, blocks, n, k, first, p, x, a, b, fa, fb, w);
-    own_row(gains, counts, x, e, b, k, w, false);
+    own_row(gains, counts, x, e, b, a, k, w, false);
+    own_moved(gains, x, a, b, fa, fb, k, w);
 }
