@@ -10,7 +10,7 @@ use lib.IntN.{ℤ, pos, _+ℤ_, _-ℤ_, negℤ}
 use Rattle.laws.specs.Integer.{eq-by, add-is, sub-is, neg-is, pos-is}
 use Rattle.laws.specs.Choice.{one}
 use Rattle.laws.specs.Place.{place, place-off}
-use Rattle.connectivity.specs.Share.{when, when-le}
+use Rattle.connectivity.specs.Share.{when}
 use Rattle.connectivity.specs.Matrix.{rowCount, shareOf}
 use Rattle.connectivity.specs.Row.{rowCount-place}
 
@@ -63,15 +63,6 @@ module _ (f want : ℕ) where
   unfolding rowBut
   rowBut-here o a w c e ne = rw (eq-eqb o a e, ne-eqb c a ne)
 
-  pub rowBut-le : (o a w c : ℕ) → rowBut f want o a w c ≤ w
-  unfolding rowBut
-  rowBut-le o a w c = by (eqb o a) (eqb c a)
-    where
-      by : (s t : Bool) → cond s (cond t 0 (when f want w)) 0 ≤ w
-      by true true = omega arith
-      by true false = when-le f want w
-      by false t = omega arith
-
   pub single-other : (a w c : ℕ) → (c ≡ a → ⊥) → single f want a w c ≡ 0
   unfolding single
   single-other a w c ne = rw (ne-eqb c a ne)
@@ -79,14 +70,6 @@ module _ (f want : ℕ) where
   pub single-here : (a w c : ℕ) → c ≡ a → single f want a w c ≡ when f want w
   unfolding single
   single-here a w c e = rw (eq-eqb c a e)
-
-  pub single-le : (a w c : ℕ) → single f want a w c ≤ w
-  unfolding single
-  single-le a w c = by (eqb c a)
-    where
-      by : (t : Bool) → cond t (when f want w) 0 ≤ w
-      by true = when-le f want w
-      by false = omega arith
 
   pub rowBut-idle : (o a w c : ℕ) → (f ≡ want → ⊥) → rowBut f want o a w c ≡ 0
   unfolding rowBut
@@ -158,6 +141,21 @@ swap F D G = eq-by _ _ (omega (
 -- a pin is counted
 pub rowCount-has : (n : ℕ) (r : ℕ → ℕ) (y o : ℕ) → y < n → r y ≡ o → 1 ≤ o → 1 ≤ rowCount n r o
 rowCount-has n r y o l e h = omega (arith, rowCount-place n r y 0 o l, ap (λ (z : ℕ). one (eqb z o)) e, ap one (eq-eqb o o refl), ap one (ne-eqb 0 o (λ z. omega arith)))
+
+-- where one pin is counted there are no two
+pub rowCount-one : (n : ℕ) (r : ℕ → ℕ) (o y z : ℕ) → rowCount n r o ≡ 1 → 1 ≤ o → y < n → z < n → r y ≡ o → r z ≡ o → y ≡ z
+rowCount-one n r o y z e h hy hz ey ez = by (ℕ-discrete z y)
+  where
+    by : Dec (z ≡ y) → y ≡ z
+    by (yes q) = sym q
+    by (no q) = absurd (omega (
+      arith,
+      rowCount-has n (place r y 0) z o hz (place-off r y 0 z q ∙ ez) h,
+      rowCount-place n r y 0 o hy,
+      ap (λ (t : ℕ). one (eqb t o)) ey,
+      ap one (eq-eqb o o refl),
+      ap one (ne-eqb 0 o (λ t. omega arith)),
+    ))
 
 module _ (n : ℕ) (r : ℕ → ℕ) (x a b w : ℕ) (hx : x < n) (ea : r x ≡ a) (ne : a ≡ b → ⊥) where
   count-a : 1 ≤ a → rowCount n (place r x b) a + 1 ≡ rowCount n r a

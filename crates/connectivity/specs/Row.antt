@@ -13,9 +13,10 @@ use lib.IntN.{pos, natAbs, _-ℤ_}
 use Rattle.laws.specs.Choice.{one}
 use Rattle.laws.specs.Sum.{countBelow, count-change, count-le, sum-ext}
 use Rattle.laws.specs.Integer.{natAbs-diff}
+use Rattle.laws.specs.Occurrence.{In}
 use Rattle.laws.specs.Place.{place, place-at, place-off}
 use Rattle.connectivity.specs.Share.{when, when-le, share}
-use Rattle.connectivity.specs.Listed.{has, has-none, has-empty, has-here, has-there}
+use Rattle.connectivity.specs.Listed.{has, has-in, has-none, has-empty, has-here, has-there}
 use Rattle.connectivity.specs.Matrix.{rowCount, shareOf, setPin, setRow}
 
 pub setPin-here : (Q : ℕ → ℕ → ℕ) (e x b : ℕ) → setPin Q e x b e ≡ place (Q e) x b
@@ -114,6 +115,21 @@ row-yes pins blocks first p y e = rw e refl
 pub row-no : (pins blocks : List ℕ) (first p y : ℕ) → has pins first p y ≡ false → row pins blocks first p y ≡ 0
 unfolding row
 row-no pins blocks first p y e = rw e refl
+
+-- a vertex that the row has is among the pins, in its block
+module _ (pins blocks : List ℕ) (first p y : ℕ) (h : 1 ≤ row pins blocks first p y) where
+  row-has : has pins first p y ≡ true
+  row-has = by (has pins first p y) refl
+    where
+      by : (t : Bool) → has pins first p y ≡ t → has pins first p y ≡ true
+      by true e = e
+      by false e = absurd (omega (arith, h, row-no pins blocks first p y e))
+
+  pub row-in : In pins first p (y + 1)
+  row-in = has-in pins first p y row-has
+
+  pub row-block : row pins blocks first p y ≡ getD blocks y 0
+  row-block = row-yes pins blocks first p y row-has
 
 -- membership alone counts
 pub row-by : (pins pins′ blocks : List ℕ) (first p r y : ℕ) → has pins first p y ≡ has pins′ first r y → row pins blocks first p y ≡ row pins′ blocks first r y

@@ -8,18 +8,21 @@ use native.Mathlib.Omega.{arith}
 use native.Mathlib.Decide.{ℕ-discrete}
 use lib.ListN.{length, getD}
 use lib.IntN.{ℤ, pos, natAbs, _+ℤ_, _-ℤ_, +ℤ-idr}
-use Rattle.laws.specs.Place.{place, place-at, place-off}
+use borrow.Author.Tests.{eq-eqb, ne-eqb}
+use lib.Dec.{eqb}
+use Rattle.laws.specs.Choice.{one}
+use Rattle.laws.specs.Place.{place, place-at, place-off, place-ext}
 use Rattle.laws.specs.Integer.{eq-by, add-is, sub-is, natAbs-add}
 use Rattle.laws.specs.IntegerSum.{sumZ, sumZ-change}
 use Rattle.connectivity.specs.Share.{share}
 use Rattle.connectivity.specs.Raised.{Raised, Ready, at}
 use Rattle.connectivity.specs.Matrix.{rowCount, shareOf, rowShare, setPin, Tally, Stands}
-use Rattle.connectivity.specs.Row.{read, row, setPin-here, setPin-there, shareOf-le, shareOf-none}
+use Rattle.connectivity.specs.Row.{read, row, rowCount-place, setPin-here, setPin-there, shareOf-le, shareOf-none}
 use Rattle.connectivity.specs.Law.{Step, count-of, given-is, small-of, stands-ext, setPin-none}
 use Rattle.connectivity.specs.Set.{Sets, Set, come, kept-none, kept-tally-trans, kept-gains-trans, kept-step, kept-laid, past-none}
 use Rattle.connectivity.specs.Listed.{clear16}
-use Rattle.connectivity.specs.Change.{delta, delta-none, share-change, own-change}
-use Rattle.connectivity.specs.Touch.{Room, Others, Delta}
+use Rattle.connectivity.specs.Change.{delta, delta-none, share-change, own-change, rowCount-one}
+use Rattle.connectivity.specs.Touch.{Room, Sole, Others, Delta}
 use Rattle.connectivity.specs.Moved.{lone, wayBack, lone-none, lone-both, lone-only, back-come, back-go, back-moved, kept-row}
 use Rattle.connectivity.specs.Laid.{Laid, given, given-none, signed, signed-le, laid-none, laid-more, laid-next, raised-given}
 
@@ -192,6 +195,45 @@ module _ {weights cs vs pins blocks : List ℕ} {g : List ℤ} {n m k first p e 
     small : (y j : ℕ) → y < n → j < k → natAbs (at g (16 * y + j)) ≤ 1024000
     small = small-of (o .stands) (o .frame .few-nets) (o .frame .weight)
 
+    some-a : (fa ≡ 3 → ⊥) → 1 ≤ a
+    some-a f = by a refl
+      where
+        by : (z : ℕ) → a ≡ z → 1 ≤ a
+        by zero q = absurd (f (ca .no q))
+        by (suc z) q = omega arith
+
+    some-b : (fb ≡ 2 → ⊥) → 1 ≤ b
+    some-b f = by b refl
+      where
+        by : (z : ℕ) → b ≡ z → 1 ≤ b
+        by zero q = absurd (f (cb .no q))
+        by (suc z) q = omega arith
+
+    -- the counts without `x` tell that a block has one other pin
+    without : (y : ℕ) → y < n → place (o .Q e) x 0 y ≡ place (row pins blocks first p) x 0 y
+    without y hy = place-ext (o .Q e) (row pins blocks first p) x 0 y (λ nx. o .seen y hy ∙ place-off (row pins blocks first p) x a y nx)
+
+    sole : (c : ℕ) → 1 ≤ c → rowCount n (place (o .Q e) x 0) c ≡ 1 → Sole (place (row pins blocks first p) x 0) n c
+    sole c h q y z hy hz ey ez = rowCount-one n (place (o .Q e) x 0) c y z q h hy hz (without y hy ∙ ey) (without z hz ∙ ez)
+
+    left : (c : ℕ) → 1 ≤ c → rowCount n (place (o .Q e) x 0) c + one (eqb a c) ≡ rowCount n (o .Q e) c
+    left c h = omega (
+      arith,
+      rowCount-place n (o .Q e) x 0 c (o .x-in),
+      ap (λ (t : ℕ). one (eqb t c)) (o .seen x (o .x-in) ∙ place-at (row pins blocks first p) x a),
+      ap one (ne-eqb 0 c (λ z. omega arith)),
+    )
+
+    sole-a : fa ≡ 2 → (1 ≤ a) × Sole (place (row pins blocks first p) x 0) n a
+    sole-a q =
+        let h : 1 ≤ a = some-a (λ z. omega arith) in
+        (h, sole a h (omega (arith, left a h, ca .yes h, count-of (o .stands .tally) e x (o .e-in) (o .x-in) (o .frame .few) a h (o .a-in), ap one (eq-eqb a a refl))))
+
+    sole-b : fb ≡ 1 → (1 ≤ b) × Sole (place (row pins blocks first p) x 0) n b
+    sole-b q =
+        let h : 1 ≤ b = some-b (λ z. omega arith) in
+        (h, sole b h (omega (arith, left b h, cb .yes h, count-of (o .stands .tally) e x (o .e-in) (o .x-in) (o .frame .few) b h (o .b-in), ap one (ne-eqb a b ne))))
+
     pub set-own : OwnRow g cs x e a k w
     set-own = record {
       fit = omega (arith, o .frame .gains-fit, o .x-in);
@@ -222,18 +264,12 @@ module _ {weights cs vs pins blocks : List ℕ} {g : List ℤ} {n m k first p e 
         weight = light;
         a-in = o .a-in;
         b-in = o .b-in;
-        a-some = λ q. some-a a refl q;
-        b-some = λ q. some-b b refl q;
+        a-some = λ q. some-a (λ z. omega arith);
+        b-some = λ q. some-b (λ z. omega arith);
+        a-sole = sole-a;
+        b-sole = sole-b;
         small = small-1;
       }
-        where
-          some-a : (z : ℕ) → a ≡ z → fa ≡ 1 → 1 ≤ a
-          some-a zero q f = absurd (omega (arith, ca .no q))
-          some-a (suc z) q f = omega arith
-
-          some-b : (z : ℕ) → b ≡ z → fb ≡ 0 → 1 ≤ b
-          some-b zero q f = absurd (omega (arith, cb .no q))
-          some-b (suc z) q f = omega arith
 
       module _ {cs₁ vs₁ cs₂ vs₂ : List ℕ} (d : Step e a (getD cs (16 * e + (a - 1)) 0 - 1) cs cs₁ vs vs₁) (u : Step e b (getD cs₁ (16 * e + (b - 1)) 0 + 1) cs₁ cs₂ vs₁ vs₂)
           {g₂ : List ℤ} (l₂ : Laid (Delta a b fa fb w) (place (row pins blocks first p) x 0) k g₁ g₂) where

@@ -9,12 +9,13 @@ ghost use Prim.Native.Nat.{_+_, _*_, _-_, _<_, _≤_};
 ghost use mathlib.Core.Path.{_≡_};
 ghost use lib.ListN.{length, set};
 ghost use lib.IntN.{ℤ, pos, natAbs, _+ℤ_};
+ghost use Rattle.connectivity.specs.Share.{when};
 ghost use Rattle.connectivity.specs.Raised.{Raised, at};
 ghost use Rattle.laws.specs.Place.{place};
 ghost use Rattle.connectivity.specs.Row.{row};
-ghost use Rattle.connectivity.specs.Laid.{Laid, given, signed};
+ghost use Rattle.connectivity.specs.Laid.{Laid, Net, given, signed};
 ghost use Rattle.connectivity.specs.Set.{Sets, Set};
-ghost use Rattle.connectivity.specs.Touch.{Room, One, But, Amount, Touches, Others, Delta};
+ghost use Rattle.connectivity.specs.Touch.{Room, Rest, Amount, atRow, atColumn, Rows, Sole, Other, Found, Others, Delta};
 ghost use Rattle.connectivity.specs.Moved.{lone, wayBack};
 ghost use Rattle.connectivity.specs.Steps.{CountAt, OwnRow};
 use counts::arrive;
@@ -40,19 +41,6 @@ fn shift_at(g: &mut [i32], i: usize, w: u16, take: bool)
     }
 }
 
-// The weight at the block `a` of the vertex `q`, if the count `f` is `want`.
-fn one_entry(gains: &mut [i32], q: usize, a: usize, f: u16, want: u16, k: usize, w: u16, take: bool)
-    requires { ⌜ Room (now gains) q k w ⌝ }
-    requires { ⌜ a ≤ k ⌝ }
-    requires { ⌜ (f ≡ want → 1 ≤ a) ⌝ }
-    ensures { λ _. ⌜ Raised (One take f want a w) (16 * q) k (now (gains .entry)) (now (gains .exit)) ⌝ }
-{
-    if f != want {
-        return;
-    }
-    shift_at(gains, 16 * q + (a - 1), w, take);
-}
-
 // The weight at each block but `a`; blocks from 0 against `a` from 1.
 fn amount(j: usize, a: usize, w: u16) -> u16
     requires { ⌜ j < 16 ⌝ }
@@ -61,27 +49,11 @@ fn amount(j: usize, a: usize, w: u16) -> u16
     if j + 1 == a { 0 } else { w }
 }
 
-// The weight at each block but `a` of the vertex `q`, if its block is `a` and the count `f` is `want`.
-fn but_row(
-    gains: &mut [i32],
-    q: usize,
-    o: usize,
-    a: usize,
-    f: u16,
-    want: u16,
-    k: usize,
-    w: u16,
-    take: bool,
-)
+// The weight at each block but `a` of the vertex `q`.
+fn but_row(gains: &mut [i32], q: usize, a: usize, k: usize, w: u16, take: bool)
     requires { ⌜ Room (now gains) q k w ⌝ }
-    ensures { λ _. ⌜ Raised (But take f want o a w) (16 * q) k (now (gains .entry)) (now (gains .exit)) ⌝ }
+    ensures { λ _. ⌜ Raised (Rest take a w) (16 * q) k (now (gains .entry)) (now (gains .exit)) ⌝ }
 {
-    if f != want {
-        return;
-    }
-    if o != a {
-        return;
-    }
     let row = 16 * q;
     let mut j = 0;
     while j < k {
@@ -91,28 +63,154 @@ fn but_row(
     }
 }
 
-// The four rules, at a vertex `q` of the block `o`.
-fn touch(
-    gains: &mut [i32],
-    q: usize,
-    o: usize,
-    a: usize,
-    b: usize,
-    fa: u16,
-    fb: u16,
-    k: usize,
-    w: u16,
-)
-    requires { ⌜ Touches (now gains) q o a b fa fb k w ⌝ }
-    ensures { λ _. ⌜ Raised (Delta a b fa fb w o) (16 * q) k (now (gains .entry)) (now (gains .exit)) ⌝ }
+// Whether the vertex `q` is another one than `x`, of the block `s`.
+fn other_in(blocks: &[u16], q: usize, x: usize, s: usize) -> bool
+    requires { ⌜ q < length (now blocks) ⌝ }
+    ensures { λ r. ⌜ Other (now (blocks .entry)) q x s r ⌝ }
 {
-    but_row(gains, q, o, a, fa, 2, k, w, false);
-    but_row(gains, q, o, b, fb, 1, k, w, true);
-    one_entry(gains, q, a, fa, 1, k, w, true);
-    one_entry(gains, q, b, fb, 0, k, w, false);
+    if q == x {
+        return false;
+    }
+    let o = index(blocks[q]);
+    o == s
 }
 
-// The four rules at each pin of the stretch but `x`. Where neither count is critical nothing is done.
+// The first place of a pin but `x` in the block `s`, or `p`.
+fn find_other(
+    pins: &[u16],
+    blocks: &[u16],
+    n: usize,
+    k: usize,
+    first: usize,
+    p: usize,
+    x: usize,
+    s: usize,
+) -> usize
+    requires { ⌜ Net (now pins) (now blocks) first p n k ⌝ }
+    requires { ⌜ n ≤ length (now blocks) ⌝ }
+    ensures { λ r. ⌜ Found (now (pins .entry)) (now (blocks .entry)) first p x s r ⌝ }
+{
+    let mut i = 0;
+    while i < p {
+        let q = index(pins[first + i]) - 1;
+        if other_in(blocks, q, x, s) {
+            return i;
+        }
+        i += 1;
+    }
+    p
+}
+
+// The weight at each block but `a` of the one pin but `x` in the block `a`.
+fn shift_last(
+    gains: &mut [i32],
+    pins: &[u16],
+    blocks: &[u16],
+    n: usize,
+    k: usize,
+    first: usize,
+    p: usize,
+    x: usize,
+    a: usize,
+    w: u16,
+    take: bool,
+)
+    requires { ⌜ Rows (now gains) (now pins) (now blocks) n k first p w ⌝ }
+    requires { ⌜ (1 ≤ a) × Sole (place (row (now pins) (now blocks) first p) x 0) n a ⌝ }
+    ensures { λ _. ⌜ Laid (atRow take a w) (place (row (now (pins .entry)) (now (blocks .entry)) first p) x 0) k (now (gains .entry)) (now (gains .exit)) ⌝ }
+{
+    let i = find_other(pins, blocks, n, k, first, p, x, a);
+    if i == p {
+        return;
+    }
+    let q = index(pins[first + i]) - 1;
+    but_row(gains, q, a, k, w, take);
+}
+
+// The same where the count `f` is `want`. The test stands by itself, so that a compiler can make it before the call.
+fn last_if(
+    gains: &mut [i32],
+    pins: &[u16],
+    blocks: &[u16],
+    n: usize,
+    k: usize,
+    first: usize,
+    p: usize,
+    x: usize,
+    a: usize,
+    f: u16,
+    want: u16,
+    w: u16,
+    take: bool,
+)
+    requires { ⌜ Rows (now gains) (now pins) (now blocks) n k first p w ⌝ }
+    requires { ⌜ (f ≡ want → (1 ≤ a) × Sole (place (row (now pins) (now blocks) first p) x 0) n a) ⌝ }
+    ensures { λ _. ⌜ Laid (atRow take a (when f want w)) (place (row (now (pins .entry)) (now (blocks .entry)) first p) x 0) k (now (gains .entry)) (now (gains .exit)) ⌝ }
+{
+    if f != want {
+        return;
+    }
+    shift_last(gains, pins, blocks, n, k, first, p, x, a, w, take);
+}
+
+// The weight at the block `a` of each pin but `x`.
+fn shift_column(
+    gains: &mut [i32],
+    pins: &[u16],
+    blocks: &[u16],
+    n: usize,
+    k: usize,
+    first: usize,
+    p: usize,
+    x: usize,
+    a: usize,
+    w: u16,
+    take: bool,
+)
+    requires { ⌜ Rows (now gains) (now pins) (now blocks) n k first p w ⌝ }
+    requires { ⌜ (1 ≤ a) × (a ≤ k) ⌝ }
+    ensures { λ _. ⌜ Laid (atColumn take a w) (place (row (now (pins .entry)) (now (blocks .entry)) first p) x 0) k (now (gains .entry)) (now (gains .exit)) ⌝ }
+{
+    let s = a - 1;
+    let mut i = 0;
+    while i < p {
+        let q = index(pins[first + i]) - 1;
+        if q != x {
+            shift_at(gains, 16 * q + s, w, take);
+        }
+        i += 1;
+    }
+}
+
+// The same where the count `f` is `want`.
+fn column_if(
+    gains: &mut [i32],
+    pins: &[u16],
+    blocks: &[u16],
+    n: usize,
+    k: usize,
+    first: usize,
+    p: usize,
+    x: usize,
+    a: usize,
+    f: u16,
+    want: u16,
+    w: u16,
+    take: bool,
+)
+    requires { ⌜ Rows (now gains) (now pins) (now blocks) n k first p w ⌝ }
+    requires { ⌜ a ≤ k ⌝ }
+    requires { ⌜ (f ≡ want → 1 ≤ a) ⌝ }
+    ensures { λ _. ⌜ Laid (atColumn take a (when f want w)) (place (row (now (pins .entry)) (now (blocks .entry)) first p) x 0) k (now (gains .entry)) (now (gains .exit)) ⌝ }
+{
+    if f != want {
+        return;
+    }
+    shift_column(gains, pins, blocks, n, k, first, p, x, a, w, take);
+}
+
+// The four rules at the pins of the stretch but `x`. Where neither count is critical nothing is done. A count that goes from 1 to 0 or from 0 to
+// 1 changes one gain of each of them; one that goes from 2 to 1 or from 1 to 2 changes the gains of the one other pin of that block.
 fn touch_others(
     gains: &mut [i32],
     pins: &[u16],
@@ -136,15 +234,10 @@ fn touch_others(
             return;
         }
     }
-    let mut i = 0;
-    while i < p {
-        let q = index(pins[first + i]) - 1;
-        if q != x {
-            let o = index(blocks[q]);
-            touch(gains, q, o, a, b, fa, fb, k, w);
-        }
-        i += 1;
-    }
+    last_if(gains, pins, blocks, n, k, first, p, x, a, fa, 2, w, false);
+    last_if(gains, pins, blocks, n, k, first, p, x, b, fb, 1, w, true);
+    column_if(gains, pins, blocks, n, k, first, p, x, a, fa, 1, w, true);
+    column_if(gains, pins, blocks, n, k, first, p, x, b, fb, 0, w, false);
 }
 
 // The shares of the net `e` in the gains of the vertex `x` alone, of the block `a`. Nothing where the net counts `x` in a block on both sides of
