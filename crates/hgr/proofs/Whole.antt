@@ -27,10 +27,10 @@ use Rattle.model.specs.Convert.{carried, listed, netOf, catalogueOf, fits, refu
 use Rattle.conversion.specs.Well.{Well, vertices-are}
 use Rattle.conversion.specs.Loads.{loads-as}
 use Rattle.passes.specs.Read.{edgesAt}
-use Rattle.hgr.specs.Form.{Sound, Planned}
-use Rattle.hgr.specs.Check.{Carrying, Listing, verdict, Tabled, Judged, saleRow}
+use Rattle.hgr.specs.Form.{Sound}
+use Rattle.hgr.specs.Check.{Seen, Within, verdict, Tabled, Judged, saleRow}
 use Rattle.hgr.specs.declared.Plan.{Plan}
-use Rattle.hgr.proofs.Checks.{edges-long, edges-said, Within, carried-within}
+use Rattle.hgr.proofs.Checks.{blocks-said, vertices-said, edges-long, edges-said, carried-within}
 
 -- ---- the verdict
 verdict-is : (s : List ℕ) (a b c : Bool) → carried (said s) ≡ a → listed (said s) ≡ b → fits (catalogueOf (said s)) ≡ c → verdict s ≡ cond (not a) 18 (cond (not b) 19 (cond (not c) 18 0))
@@ -85,31 +85,40 @@ module _ (s : List ℕ) (p : Plan) (sound : Sound s p) where
         ∙ ap₂ (λ (x y : List ℕ). record { blocks = f .blocks; imbalance = f .imbalance; totalWeight = sumOver x (λ v. v); weights = x; draft = y; nets = map netOf (f .edges) }) weights-are draft-is
 
   -- ---- the verdict, test by test
-  module _ (w : List ℕ) (r : Bool) (size : ℕ) (x : Carrying s p r size w) where
-    pub judged-carried : (d : List ℕ) → r ≡ false → Judged s p 18 w d
-    judged-carried d q = record { says = sym (verdict-is s false _ _ (sym (x .says) ∙ q) refl refl); tables = λ z. absurd (omega arith) }
+  module _ (w d : List ℕ) (seen : Seen s (p .carried) (p .listed) (p .size) w d) where
+    pub judged-carried : p .carried ≡ false → Judged s p 18 w d
+    judged-carried q = record { says = sym (verdict-is s false _ _ (sym (seen .carried-is) ∙ q) refl refl); tables = λ z. absurd (omega arith) }
 
-    module _ (yes : r ≡ true) where
-      pub within : Within s p sound
-      within = carried-within s p sound (sym (x .says) ∙ yes)
+    module _ (yes : p .carried ≡ true) where
+      pub within : Within p
+      within = carried-within s p sound (sym (seen .carried-is) ∙ yes)
 
-      module _ (d : List ℕ) (t : Bool) (y : Listing s p t d) where
-        pub judged-listed : t ≡ false → Judged s p 19 w d
-        judged-listed q = record { says = sym (verdict-is s true false _ (sym (x .says) ∙ yes) (sym (y .says) ∙ q) refl); tables = λ z. absurd (omega arith) }
+      pub weights-in : take (p .vertices) w ≡ f .weights
+      weights-in = let v = vertices-said s p sound in ap (λ (n : ℕ). take n w) v ∙ seen .weights-are (omega (arith, v, within .vertices-high))
 
-        module _ (good : t ≡ true) (o : Bool) (over : overfullIs (p .vertices) (p .blocks) (p .imbalance) w d o) where
+      pub judged-listed : p .listed ≡ false → Judged s p 19 w d
+      judged-listed q = record { says = sym (verdict-is s true false _ (sym (seen .carried-is) ∙ yes) (sym (seen .listed-is) ∙ q) refl); tables = λ z. absurd (omega arith) }
+
+      module _ (good : p .listed ≡ true) where
+        pub draft-in : take (p .vertices) d ≡ map suc (f .listing)
+        draft-in =
+            let v = vertices-said s p sound in
+            let k = blocks-said s p sound in
+            ap (λ (n : ℕ). take n d) v ∙ seen .draft-is good (omega (arith, k, within .blocks-high)) (omega (arith, v, within .vertices-high))
+
+        module _ (o : Bool) (over : overfullIs (p .vertices) (p .blocks) (p .imbalance) w d o) where
           over-is : overfull (catalogueOf f) ≡ o
-          over-is = sym (over (map netOf (f .edges)) ∙ ap overfull (graph-is w d (x .are yes) (y .are good)))
+          over-is = sym (over (map netOf (f .edges)) ∙ ap overfull (graph-is w d weights-in draft-in))
 
           says : (b c : Bool) → leb (length (catalogueText (catalogueOf f))) 60000 ≡ b → (not o && b) ≡ c → verdict s ≡ cond (not c) 18 0
-          says b c q e = verdict-is s true true c (sym (x .says) ∙ yes) (sym (y .says) ∙ good) (fits-is (catalogueOf f) o b over-is q ∙ e)
+          says b c q e = verdict-is s true true c (sym (seen .carried-is) ∙ yes) (sym (seen .listed-is) ∙ good) (fits-is (catalogueOf f) o b over-is q ∙ e)
 
           pub judged-full : o ≡ true → Judged s p 18 w d
           judged-full q = record { says = sym (says _ false refl (ap (λ (b : Bool). not b && leb (length (catalogueText (catalogueOf f))) 60000) q)); tables = λ z. absurd (omega arith) }
 
-          module _ (free : o ≡ false) (n : ℕ) (long : n ≡ length (saleRow p) + length (lots w d (x .are yes) (y .are good)) + size) where
+          module _ (free : o ≡ false) (n : ℕ) (long : n ≡ length (saleRow p) + length (lots w d weights-in draft-in) + p .size) where
             length-is : n ≡ length (catalogueText (catalogueOf f))
-            length-is = long ∙ ap (λ (k : ℕ). length (saleRow p) + length (lots w d (x .are yes) (y .are good)) + k) (x .size-is yes) ∙ sym (text-length w d (x .are yes) (y .are good))
+            length-is = long ∙ ap (λ (k : ℕ). length (saleRow p) + length (lots w d weights-in draft-in) + k) (seen .size-is) ∙ sym (text-length w d weights-in draft-in)
 
             pub judged-long : 60000 < n → Judged s p 18 w d
             judged-long q = record { says = sym (says false false (lt-leb (length (catalogueText (catalogueOf f))) 60000 (omega (arith, length-is))) (and-false (not o))); tables = λ z. absurd (omega arith) }
@@ -117,7 +126,7 @@ module _ (s : List ℕ) (p : Plan) (sound : Sound s p) where
             pub judged-good : n ≤ 60000 → Judged s p 0 w d
             judged-good q = record {
               says = sym (says true true (le-leb (length (catalogueText (catalogueOf f))) 60000 (omega (arith, length-is))) (ap (λ (b : Bool). not b && true) free));
-              tables = λ _. record { few = within .vertices-high; weights-len = x .len; draft-len = y .len; weights-are = x .are yes; draft-is = y .are good };
+              tables = λ _. record { few = within .vertices-high; weights-len = seen .weights-len; draft-len = seen .draft-len; weights-are = weights-in; draft-is = draft-in };
             }
 
 -- ---- the text written

@@ -1,4 +1,4 @@
--- The form of an input: its first line, its header, and where its edges, its weights and its listing start. Rests on passes' Rows. Assumes nothing.
+-- The form of an input: its first line, its header, its numbers, and where its edges start. Rests on passes' Rows. Assumes nothing.
 use Prim.Native.Nat.{ℕ, suc, _≤_}
 use mathlib.Core.Path.{_≡_}
 use mathlib.Core.Bool.{Bool, true, false, _||_, cond}
@@ -6,7 +6,7 @@ use mathlib.Core.List.{List, [], _∷_}
 use lib.Dec.{eqb}
 use lib.ListN.{length, getD, drop}
 use Rattle.model.specs.Grammar.{at, isLineOf}
-use Rattle.model.specs.Hmetis.{isEnded, linesOf, Sections, isHeader, codeIn, words, firstLine, body, header, code, edgeCount, vertexCount, wellWritten}
+use Rattle.model.specs.Hmetis.{isEnded, linesOf, Sections, isHeader, codeIn, words, firstLine, body, header, code, edgeCount, vertexCount}
 use Rattle.conversion.specs.Well.{Well}
 use Rattle.passes.specs.Rows.{linesAt, sectionsAt, rowsAt}
 use Rattle.hgr.specs.declared.Plan.{Plan}
@@ -58,7 +58,7 @@ pub record Begun (s : List ℕ) (start codes edges vertices blocks imbalance : �
   pub found : sectionsAt s start .found ≡ body s .found
   pub listing : sectionsAt s start .listing ≡ body s .listing
 
--- a plan of a well-written input
+-- the numbers of a well-written input, and where its edges start
 pub record Sound (s : List ℕ) (p : Plan) : Type 0 where
   pub well : Well s
   pub blocks-is : p .blocks ≡ at (firstLine s) 1
@@ -67,13 +67,4 @@ pub record Sound (s : List ℕ) (p : Plan) : Type 0 where
   pub vertices-is : p .vertices ≡ vertexCount s
   pub code-is : p .code ≡ code s
   pub first-high : p .first ≤ length s
-  pub second-high : p .second ≤ length s
-  pub third-high : p .third ≤ length s
   pub first-is : rowsAt s (p .first) ≡ drop 1 (body s .graph)
-  pub second-is : rowsAt s (p .second) ≡ drop (edgeCount s) (drop 1 (body s .graph))
-  pub third-is : linesAt s (p .third) ≡ body s .listing
-  pub lines-are : p .lines ≡ suc (length (body s .listing))
-
-pub record Planned (s : List ℕ) (p : Plan) : Type 0 where
-  pub bad : p .well ≡ false → wellWritten s ≡ false
-  pub good : p .well ≡ true → Sound s p

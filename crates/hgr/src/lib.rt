@@ -1,20 +1,21 @@
 // The converter: an hMETIS file with its partition listing to a catalogue's text, or to the number of its refusal.
 use lines::between;
+use passes::Weights;
+use spaced::both;
 ghost use mathlib.Core.Path.{_≡_};
-ghost use mathlib.Core.Bool.{true, false, cond};
+ghost use mathlib.Core.Bool.{true, false, _&&_};
 ghost use mathlib.Core.List.{[], _∷_, _++_};
 ghost use Prim.Native.Nat.{_+_, _≤_, _<_};
+ghost use lib.Dec.{eqb, leb};
 ghost use lib.ListN.{length, take, replicate};
 ghost use lib.Seq.{slice};
-ghost use Rattle.model.specs.Grammar.{isNumber};
 ghost use Rattle.model.specs.Report.{digits, row};
 ghost use Rattle.model.specs.CatalogueText.{lotText, catalogueText};
 ghost use Rattle.fields.specs.Wrote.{Wrote};
 ghost use Rattle.model.specs.Hmetis.{edgesWeighted, verticesWeighted, said};
-ghost use Rattle.model.specs.Convert.{carried, catalogueOf, Converts};
-ghost use Rattle.passes.specs.Rows.{rowsAt, wellRows};
-ghost use Rattle.hgr.specs.Form.{knownCode, codeOr, FirstRead, HeaderRead, Begun, Sound, Planned};
-ghost use Rattle.hgr.specs.Check.{inRange, weightsFrom, Weighed, Carrying, Listing, Tabled, Judged, saleRow};
+ghost use Rattle.model.specs.Convert.{catalogueOf, Converts};
+ghost use Rattle.hgr.specs.Form.{knownCode, codeOr, FirstRead, HeaderRead, Begun, Sound};
+ghost use Rattle.hgr.specs.Check.{inRange, Weighed, Checked, Planned, Within, Tabled, Judges, saleRow};
 
 // The first line: the number of sessions, the slack, and where the next line starts, or 0.
 pub struct First {
@@ -31,24 +32,27 @@ pub struct Header {
     pub next: usize,
 }
 
-// A well-written input: its numbers, where its edges, its vertices' weights and its listing start, and one more than its listing's lines.
+// What the rows behind the header are: whether they are well written; whether the input can be carried over, whether the listing has a block
+// for each vertex, and how many bytes the buyers' lines have.
+pub struct Rows {
+    pub well: bool,
+    pub carried: bool,
+    pub listed: bool,
+    pub size: usize,
+}
+
+// A checked input: the same of the whole, its numbers, and where its edges start.
 pub struct Plan {
     pub well: bool,
+    pub carried: bool,
+    pub listed: bool,
+    pub size: usize,
     pub blocks: u32,
     pub imbalance: u32,
     pub edges: u32,
     pub vertices: u32,
     pub code: u32,
     pub first: usize,
-    pub second: usize,
-    pub third: usize,
-    pub lines: usize,
-}
-
-// Whether an input can be carried over, and how many bytes its buyers' lines have.
-pub struct Carried {
-    pub carried: bool,
-    pub size: usize,
 }
 
 // The converter's answer: 0 or the number of the refusal, 8 or 17 to 19, and the bytes written.
@@ -107,16 +111,6 @@ fn vertices_weighted(code: u32) -> bool
         return true;
     }
     code == 11
-}
-
-// How many rows have a vertex's weight.
-fn weight_rows(code: u32, vertices: u32) -> usize
-    ensures { λ r. ⌜ r ≡ cond (verticesWeighted code) vertices 0 ⌝ }
-{
-    if vertices_weighted(code) {
-        return vertices as usize;
-    }
-    0
 }
 
 // The first line, of an input that ends in a line feed.
@@ -197,86 +191,6 @@ fn read_header(s: &[u8], at: usize) -> Header
     }
 }
 
-// What is answered of an input that is badly written.
-fn badly() -> Plan
-    ensures { λ r. ⌜ r .well ≡ false ⌝ }
-{
-    Plan {
-        well: false,
-        blocks: 0,
-        imbalance: 0,
-        edges: 0,
-        vertices: 0,
-        code: 0,
-        first: 0,
-        second: 0,
-        third: 0,
-        lines: 0,
-    }
-}
-
-// The form of what follows the header.
-fn plan_rows(
-    s: &[u8],
-    at: usize,
-    code: u32,
-    edges: u32,
-    vertices: u32,
-    blocks: u32,
-    imbalance: u32,
-) -> Plan
-    requires { ⌜ Begun (now s) at code edges vertices blocks imbalance ⌝ }
-    ensures { λ r. ⌜ Planned (now (s .entry)) r ⌝ }
-{
-    let weighted = edges_weighted(code);
-    let second = passes::pass_rows(s, at, edges as usize, false, weighted);
-    if second == 0 {
-        return badly();
-    }
-    let n = weight_rows(code, vertices);
-    let last = passes::pass_rows(s, second, n, true, false);
-    if last == 0 {
-        return badly();
-    }
-    let third = passes::pass_part(s, last);
-    if third == 0 {
-        return badly();
-    }
-    let lines = passes::pass_listing(s, third);
-    if lines == 0 {
-        return badly();
-    }
-    Plan {
-        well: true,
-        blocks: blocks,
-        imbalance: imbalance,
-        edges: edges,
-        vertices: vertices,
-        code: code,
-        first: at,
-        second: second,
-        third: third,
-        lines: lines,
-    }
-}
-
-// The form of the whole input.
-pub fn plan_input(s: &[u8]) -> Plan
-    ensures { λ r. ⌜ Planned (now (s .entry)) r ⌝ }
-{
-    let f = read_first(s);
-    let a = f.next;
-    if a == 0 {
-        return badly();
-    }
-    let h = read_header(s, a);
-    let b = h.next;
-    if b == 0 {
-        return badly();
-    }
-    plan_rows(s, b, h.code, h.edges, h.vertices, f.blocks, f.imbalance)
-}
-
 // Whether the numbers of the first two lines are in their ranges.
 fn in_range(blocks: u32, imbalance: u32, vertices: u32, edges: u32) -> bool
     ensures { λ r. ⌜ r ≡ inRange blocks imbalance vertices edges ⌝ }
@@ -293,64 +207,151 @@ fn in_range(blocks: u32, imbalance: u32, vertices: u32, edges: u32) -> bool
     edges <= 1024
 }
 
-// The weights of n vertices into a table of ones.
-fn weigh(s: &[u8], code: u32, at: usize, n: usize, weights: &mut [u32; 1024]) -> bool
-    requires { ⌜ (at ≤ length (now s)) × (n ≤ 1024) × (now weights ≡ replicate 1024 1) × (verticesWeighted code ≡ true → wellRows isNumber n (rowsAt (now s) at) ≡ true) ⌝ }
-    ensures { λ r. ⌜ Weighed (weightsFrom code (now (s .entry)) at n) n r (now (weights .exit)) ⌝ }
+// Whether an input can be carried over: its ranges, its edges, how many vertices they name together, its vertices' weights.
+fn carries(ranges: bool, edges: bool, pins: usize, weights: bool) -> bool
+    ensures { λ r. ⌜ r ≡ (ranges && edges && leb pins 8192 && weights) ⌝ }
 {
-    if vertices_weighted(code) {
-        return passes::read_weights(s, at, n, weights);
-    }
-    true
+    both(both(both(ranges, edges), pins <= 8192), weights)
 }
 
-// Whether the input can be carried over, save for its listing; the vertices' weights go into a table of ones.
-fn carry(s: &[u8], p: Plan, weights: &mut [u32; 1024]) -> Carried
-    requires { ⌜ (length (now s) ≤ 60000) × Sound (now s) p × (now weights ≡ replicate 1024 1) ⌝ }
-    ensures { λ r. ⌜ Carrying (now (s .entry)) p (r .carried) (r .size) (now (weights .exit)) ⌝ }
+// Whether a listing has a block for each vertex; `lines` is one more than the number of its lines.
+fn lists(lines: usize, vertices: u32, known: bool) -> bool
+    ensures { λ r. ⌜ r ≡ (eqb lines (vertices + 1) && known) ⌝ }
 {
-    if !in_range(p.blocks, p.imbalance, p.vertices, p.edges) {
-        return Carried {
-            carried: false,
-            size: 0,
-        };
+    let n = vertices as usize + 1;
+    both(lines == n, known)
+}
+
+// How many vertices can be named: all of them, or none where there are more than can be carried over.
+fn nameable(vertices: u32) -> u32
+    ensures { λ r. ⌜ (r ≤ 1024) × (vertices ≤ 1024 → r ≡ vertices) ⌝ }
+{
+    if 1024 < vertices {
+        return 0;
     }
-    let weighted = edges_weighted(p.code);
-    let x = passes::check_edges(s, p.first, p.edges as usize, weighted, p.vertices);
-    if !x.carried {
-        return Carried {
-            carried: false,
-            size: 0,
-        };
+    vertices
+}
+
+// Passes over the weights of the vertices, into a table of ones.
+fn weigh(s: &[u8], code: u32, at: usize, vertices: u32, weights: &mut [u32; 1024]) -> Weights
+    requires { ⌜ (1 ≤ at) × (at ≤ length (now s)) × (now weights ≡ replicate 1024 1) ⌝ }
+    ensures { λ r. ⌜ Weighed code (now (s .entry)) at vertices (r .next) (r .carried) (now (weights .exit)) ⌝ }
+{
+    if vertices_weighted(code) {
+        return passes::pass_weights(s, at, vertices as usize, weights);
     }
-    if 8192 < x.pins {
-        return Carried {
-            carried: false,
-            size: 0,
-        };
+    Weights {
+        next: at,
+        carried: true,
     }
-    let good = weigh(s, p.code, p.second, p.vertices as usize, weights);
-    Carried {
-        carried: good,
+}
+
+// What is answered of rows that are badly written.
+fn bad_rows() -> Rows
+    ensures { λ r. ⌜ r .well ≡ false ⌝ }
+{
+    Rows {
+        well: false,
+        carried: false,
+        listed: false,
+        size: 0,
+    }
+}
+
+// What follows the header, in one pass: a bad form ends it; what can't be carried over, or is wrong with the listing, is kept to the end.
+fn check_rows(
+    s: &[u8],
+    f: First,
+    h: Header,
+    weights: &mut [u32; 1024],
+    draft: &mut [u16; 1024],
+) -> Rows
+    requires { ⌜ (length (now s) ≤ 60000) × Begun (now s) (h .next) (h .code) (h .edges) (h .vertices) (f .blocks) (f .imbalance) × (now weights ≡ replicate 1024 1) × (length (now draft) ≡ 1024) ⌝ }
+    ensures { λ r. ⌜ Checked (now (s .entry)) (r .well) (r .carried) (r .listed) (r .size) (now (weights .exit)) (now (draft .exit)) ⌝ }
+{
+    let weighted = edges_weighted(h.code);
+    let known = nameable(h.vertices);
+    let x = passes::pass_edges(s, h.next, h.edges as usize, weighted, known);
+    let second = x.next;
+    if second == 0 {
+        return bad_rows();
+    }
+    let w = weigh(s, h.code, second, h.vertices, weights);
+    let last = w.next;
+    if last == 0 {
+        return bad_rows();
+    }
+    let third = passes::pass_part(s, last);
+    if third == 0 {
+        return bad_rows();
+    }
+    let l = passes::pass_blocks(s, third, f.blocks, draft);
+    let lines = l.lines;
+    if lines == 0 {
+        return bad_rows();
+    }
+    let ranges = in_range(f.blocks, f.imbalance, h.vertices, h.edges);
+    let carried = carries(ranges, x.carried, x.pins, w.carried);
+    let listed = lists(lines, h.vertices, l.known);
+    Rows {
+        well: true,
+        carried: carried,
+        listed: listed,
         size: x.size,
     }
 }
 
-// Whether the listing has a block for each vertex; the blocks go into a table, counted from 1.
-fn list(s: &[u8], p: Plan, draft: &mut [u16; 1024]) -> bool
-    requires { ⌜ Sound (now s) p × (p .vertices ≤ 1024) × (p .blocks ≤ 16) × (length (now draft) ≡ 1024) ⌝ }
-    ensures { λ r. ⌜ Listing (now (s .entry)) p r (now (draft .exit)) ⌝ }
+// What is answered of an input that is badly written.
+fn badly() -> Plan
+    ensures { λ r. ⌜ r .well ≡ false ⌝ }
 {
-    let n = p.vertices as usize;
-    if p.lines != n + 1 {
-        return false;
+    Plan {
+        well: false,
+        carried: false,
+        listed: false,
+        size: 0,
+        blocks: 0,
+        imbalance: 0,
+        edges: 0,
+        vertices: 0,
+        code: 0,
+        first: 0,
     }
-    passes::read_blocks(s, p.third, n, p.blocks, draft)
+}
+
+// Checks a whole input in one pass; the tables for the text are filled.
+fn check_input(s: &[u8], weights: &mut [u32; 1024], draft: &mut [u16; 1024]) -> Plan
+    requires { ⌜ (length (now s) ≤ 60000) × (now weights ≡ replicate 1024 1) × (length (now draft) ≡ 1024) ⌝ }
+    ensures { λ r. ⌜ Planned (now (s .entry)) r (now (weights .exit)) (now (draft .exit)) ⌝ }
+{
+    let f = read_first(s);
+    let a = f.next;
+    if a == 0 {
+        return badly();
+    }
+    let h = read_header(s, a);
+    let b = h.next;
+    if b == 0 {
+        return badly();
+    }
+    let x = check_rows(s, f, h, weights, draft);
+    Plan {
+        well: x.well,
+        carried: x.carried,
+        listed: x.listed,
+        size: x.size,
+        blocks: f.blocks,
+        imbalance: f.imbalance,
+        edges: h.edges,
+        vertices: h.vertices,
+        code: h.code,
+        first: b,
+    }
 }
 
 // How many bytes the catalogue has, where the buyers' lines have `size`.
 fn length_of(p: Plan, weights: &[u32; 1024], draft: &[u16; 1024], size: usize) -> usize
-    requires { ⌜ (p .vertices ≤ 1024) × (length (now weights) ≡ 1024) × (length (now draft) ≡ 1024) × (size ≤ 675866624) ⌝ }
+    requires { ⌜ (p .vertices ≤ 1024) × (length (now weights) ≡ 1024) × (length (now draft) ≡ 1024) × (size ≤ 1560000) ⌝ }
     ensures { λ r. ⌜ r ≡ length (saleRow p) + length (lotText (take (p .vertices) (now (weights .entry))) (take (p .vertices) (now (draft .entry)))) + size ⌝ }
 {
     let a = spaced::width(p.vertices);
@@ -361,22 +362,21 @@ fn length_of(p: Plan, weights: &[u32; 1024], draft: &[u16; 1024], size: usize) -
     9 + a + b + c + d + lots + size
 }
 
-// The refusal of a well-written input, or 0; the tables for the text are filled.
-fn judge(s: &[u8], p: Plan, weights: &mut [u32; 1024], draft: &mut [u16; 1024]) -> u32
-    requires { ⌜ (length (now s) ≤ 60000) × Sound (now s) p × (now weights ≡ replicate 1024 1) × (length (now draft) ≡ 1024) ⌝ }
-    ensures { λ r. ⌜ Judged (now (s .entry)) p r (now (weights .exit)) (now (draft .exit)) ⌝ }
+// The refusal of a well-written input, or 0.
+fn judge(p: Plan, weights: &[u32; 1024], draft: &[u16; 1024]) -> u32
+    requires { ⌜ (p .carried ≡ true → Within p) × (p .size ≤ 1560000) × (length (now weights) ≡ 1024) × (length (now draft) ≡ 1024) ⌝ }
+    ensures { λ r. ⌜ Judges p (now (weights .entry)) (now (draft .entry)) r ⌝ }
 {
-    let x = carry(s, p, weights);
-    if !x.carried {
+    if !p.carried {
         return 18;
     }
-    if !list(s, p, draft) {
+    if !p.listed {
         return 19;
     }
     if reader::overfull(p.vertices, p.blocks, p.imbalance, weights, draft) {
         return 18;
     }
-    if 60000 < length_of(p, weights, draft, x.size) {
+    if 60000 < length_of(p, weights, draft, p.size) {
         return 18;
     }
     0
@@ -424,13 +424,13 @@ pub extern "C" fn kapokdrill_convert(input: &[u8], output: &mut [u8]) -> Convert
     if 60000 < input.len() {
         return refuse(output, 18);
     }
-    let p = plan_input(input);
+    let mut weights = [1u32; 1024];
+    let mut draft = [0u16; 1024];
+    let p = check_input(input, &mut weights, &mut draft);
     if !p.well {
         return refuse(output, 17);
     }
-    let mut weights = [1u32; 1024];
-    let mut draft = [0u16; 1024];
-    let q = judge(input, p, &mut weights, &mut draft);
+    let q = judge(p, &weights, &draft);
     if q != 0 {
         return refuse(output, q);
     }

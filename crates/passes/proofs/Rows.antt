@@ -14,7 +14,7 @@ use Rattle.laws.specs.Fold.{all}
 use Rattle.laws.specs.Choice.{and-left, and-right}
 use Rattle.model.specs.Grammar.{Fields, bytes, same, parts, onto, isDigit, leadingZero, isNumber}
 use Rattle.model.specs.Hmetis.{isPart, Sections, withLine, sections, later, spread, words, numbersIn, isEdge}
-use Rattle.passes.specs.Rows.{linesAt, sectionsAt, rowsAt, lineThen, noSections, atPart, RowAt, rowFits, wellRows, RowsPassed, PartPassed}
+use Rattle.passes.specs.Rows.{linesAt, sectionsAt, rowsAt, lineThen, noSections, atPart, RowAt, wellRows, RowsPassed, PartPassed}
 
 -- ---- PART is no row of numbers
 same-is : (l m : List ℕ) → same l m ≡ true → l ≡ m
@@ -42,11 +42,6 @@ no-part p n l e = go (isPart l) refl
     go : (b : Bool) → isPart l ≡ b → b ≡ false
     go true q = absurd (true≢false (sym e ∙ ap p (same-is l PART q) ∙ n))
     go false q = refl
-
-pub fits-part : (single weighted : Bool) → rowFits single weighted PART ≡ false
-unfolding rowFits
-fits-part true weighted = part-number
-fits-part false weighted = part-edge weighted
 
 -- ---- one row
 pub then-part : (l : List ℕ) (ls : Fields) → isPart l ≡ true → lineThen l ls ≡ atPart ls
@@ -179,6 +174,12 @@ module _ (p : List ℕ → Bool) (s : List ℕ) (at n i k : ℕ) (on : OnRows p 
           go true q = ap (λ (x : Sections). wellRows p (n - k) (x .graph)) (then-part (slice a e s) (linesAt s (e + 1)) q) ∙ well-none p (n - k) (omega arith)
           go false q = ap (λ (x : Sections). wellRows p (n - k) (x .graph)) (then-row (slice a e s) (linesAt s (e + 1)) q) ∙ well-bad p (n - k) (slice a e s) (rowsAt s (e + 1)) (omega arith) f
 
+      pub rows-first : p PART ≡ false → p (slice a e s) ≡ true → take (n - k) (rowsAt s i) ≡ slice a e s ∷ take (n - (k + 1)) (rowsAt s (e + 1))
+      rows-first not f =
+          let x = row .line lt ∙ then-row (slice a e s) (linesAt s (e + 1)) (no-part p not (slice a e s) f) in
+          let z : n - k - 1 ≡ n - (k + 1) = omega arith in
+          ap (λ (x : Sections). take (n - k) (x .graph)) x ∙ take-first (n - k) (slice a e s) (rowsAt s (e + 1)) (omega arith) ∙ ap (λ (m : ℕ). slice a e s ∷ take m (rowsAt s (e + 1))) z
+
       pub rows-on : p PART ≡ false → p (slice a e s) ≡ true → OnRows p s at n (e + 1) (k + 1)
       rows-on not f =
           let x = row .line lt ∙ then-row (slice a e s) (linesAt s (e + 1)) (no-part p not (slice a e s) f) in
@@ -216,21 +217,3 @@ module _ (s : List ℕ) (at a e : ℕ) (row : RowAt s at a e) where
           found = λ z. ap (λ (x : Sections). x .found) x;
           listing = λ z. ap (λ (x : Sections). x .listing) x;
         }
-
--- ---- a row's form
-pub fits-single : (single weighted : Bool) (l : List ℕ) (r : Bool) → single ≡ true → r ≡ isNumber l → r ≡ rowFits single weighted l
-unfolding rowFits
-fits-single true weighted l r q e = e
-fits-single false weighted l r q e = absurd (true≢false (sym q))
-
-pub fits-two : (single weighted : Bool) (l : List ℕ) (n : ℕ) → single ≡ false → weighted ≡ true → n ≡ numbersIn l → leb 2 n ≡ rowFits single weighted l
-unfolding rowFits isEdge
-fits-two true weighted l n q w e = absurd (true≢false q)
-fits-two false true l n q w e = ap (leb 2) e
-fits-two false false l n q w e = absurd (true≢false (sym w))
-
-pub fits-one : (single weighted : Bool) (l : List ℕ) (n : ℕ) → single ≡ false → weighted ≡ false → n ≡ numbersIn l → leb 1 n ≡ rowFits single weighted l
-unfolding rowFits isEdge
-fits-one true weighted l n q w e = absurd (true≢false q)
-fits-one false true l n q w e = absurd (true≢false w)
-fits-one false false l n q w e = ap (leb 1) e

@@ -5,9 +5,9 @@ use native.Mathlib.Numerals.{add-one}
 use native.Mathlib.Decide.{ℕ-discrete}
 use native.Mathlib.Omega.{arith}
 use mathlib.Core.Path.{_≡_, refl, ap, sym, _∙_, subst}
-use mathlib.Core.Bool.{Bool, true, false, _&&_, cond, true≢false}
+use mathlib.Core.Bool.{Bool, true, false, _&&_, cond, true≢false, and-true}
 use mathlib.Core.List.{List, [], _∷_, _++_, map, append-assoc, append-nil}
-use borrow.Author.Tests.{lt-ltb, le-ltb}
+use borrow.Author.Tests.{ltb-true}
 use lib.Dec.{ltb}
 use lib.ListN.{length, getD, set, take, drop, length-append, length-set, drop-of-length-le}
 use lib.Seq.{slice, take-suc-set, drop-cons, drop-length, length-take-le, getD-take, append-snoc}
@@ -22,23 +22,32 @@ use Rattle.fields.proofs.Laws.{remains-all, remains-more, remains-none, remains
 use Rattle.model.specs.Hmetis.{Edge, isEdge, edgeOf}
 use Rattle.model.specs.Convert.{isCarried, netOf}
 use Rattle.spaced.specs.Pins.{Fresh, EdgeChecked, edgeRow}
-use Rattle.passes.specs.Rows.{linesAt, rowsAt, wellRows}
-use Rattle.passes.specs.Read.{WeightsRead, BlocksRead, edgesAt, EdgesChecked}
-use Rattle.passes.proofs.Lines.{lines-on, lines-none}
-use Rattle.passes.proofs.Rows.{RowHere, well-zero}
+use Rattle.passes.specs.Rows.{linesAt, rowsAt, RowAt, wellRows, RowsPassed, listCount}
+use Rattle.passes.specs.Read.{WeightsRead, BlocksRead, edgesAt, EdgesRead}
+use Rattle.passes.proofs.Lines.{lines-on, lines-none, lines-end, list-none, list-bad, list-on, list-end}
+use Rattle.passes.proofs.Rows.{part-number, part-edge, RowHere, OnRows, rows-start, rows-done, rows-bad, rows-first, rows-on}
 
 -- ---- tests over a list
 all-nil : {A : Type 0} (p : A → Bool) → all [] p ≡ true
 unfolding all
 all-nil p = refl
 
-all-no : {A : Type 0} (x : A) (xs : List A) (p : A → Bool) → p x ≡ false → all (x ∷ xs) p ≡ false
+all-cons : {A : Type 0} (x : A) (xs : List A) (p : A → Bool) → all (x ∷ xs) p ≡ (p x && all xs p)
 unfolding all
-all-no x xs p e = ap (λ (b : Bool). b && all xs p) e
+all-cons x xs p = refl
 
-all-on : {A : Type 0} (x : A) (xs : List A) (p : A → Bool) → p x ≡ true → all (x ∷ xs) p ≡ all xs p
-unfolding all
-all-on x xs p e = ap (λ (b : Bool). b && all xs p) e
+and-three : (a b c : Bool) → (a && (b && c)) ≡ ((a && b) && c)
+and-three true b c = refl
+and-three false b c = refl
+
+-- one element further, where the tests before it gave good, and its own gives b
+all-next : {A : Type 0} (p : A → Bool) (whole : Bool) (good b g : Bool) (x : A) (xs rest : List A) → rest ≡ x ∷ xs → whole ≡ (good && all rest p) → b ≡ p x → g ≡ (good && b) → whole ≡ (g && all xs p)
+all-next p whole good b g x xs rest next says is both =
+    says ∙ ap (λ (l : List _). good && all l p) next ∙ ap (λ (t : Bool). good && t) (all-cons x xs p) ∙ and-three good (p x) (all xs p)
+    ∙ ap (λ (t : Bool). (good && t) && all xs p) (sym is) ∙ ap (λ (t : Bool). t && all xs p) (sym both)
+
+all-end : {A : Type 0} (p : A → Bool) (whole good : Bool) (rest : List A) → rest ≡ [] → whole ≡ (good && all rest p) → good ≡ whole
+all-end p whole good rest none says = sym (says ∙ ap (λ (l : List _). good && all l p) none ∙ ap (λ (t : Bool). good && t) (all-nil p) ∙ and-true good)
 
 -- one entry more of a table: the list that begins as the table does
 table-on : (table : List ℕ) (k v : ℕ) (vs : List ℕ) → k < length table → take k table ++ (v ∷ vs) ≡ take (k + 1) (set table k v) ++ vs
@@ -48,124 +57,109 @@ table-on table k v vs lt = sym (ap (λ (l : List ℕ). l ++ vs) (ap (λ (m : ℕ
 abbrev numbersAt : List ℕ → ℕ → ℕ → List ℕ
 numbersAt s i m = map value (take m (rowsAt s i))
 
-pub record OnWeights (s : List ℕ) (at n : ℕ) (table : List ℕ) (i k : ℕ) : Type 0 where
-  pub high : i ≤ length s
-  pub done : k ≤ n
+pub record OnWeights (s : List ℕ) (at n : ℕ) (table : List ℕ) (i k : ℕ) (good : Bool) : Type 0 where
+  pub rows : OnRows isNumber s at n i k
   pub len : length table ≡ 1024
-  pub well : wellRows isNumber (n - k) (rowsAt s i) ≡ true
-  pub says : all (numbersAt s at n) (within 1 65535) ≡ all (numbersAt s i (n - k)) (within 1 65535)
-  pub are : numbersAt s at n ≡ take k table ++ numbersAt s i (n - k)
+  pub says : all (numbersAt s at n) (within 1 65535) ≡ (good && all (numbersAt s i (n - k)) (within 1 65535))
+  pub are : n ≤ 1024 → numbersAt s at n ≡ take k table ++ numbersAt s i (n - k)
 
-pub weights-start : (s : List ℕ) (at n : ℕ) (table : List ℕ) → at ≤ length s → length table ≡ 1024 → wellRows isNumber n (rowsAt s at) ≡ true → OnWeights s at n table at 0
-weights-start s at n table h len w =
+pub weights-start : (s : List ℕ) (at n : ℕ) (table : List ℕ) → 1 ≤ at → at ≤ length s → length table ≡ 1024 → OnWeights s at n table at 0 true
+weights-start s at n table l h len =
     let z : n ≡ n - 0 = omega arith in
-    record { high = h; done = omega arith; len = len; well = subst (λ (m : ℕ). wellRows isNumber m (rowsAt s at) ≡ true) z w; says = ap (λ (m : ℕ). all (numbersAt s at m) (within 1 65535)) z; are = ap (numbersAt s at) z }
+    record { rows = rows-start isNumber s at n l h; len = len; says = ap (λ (m : ℕ). all (numbersAt s at m) (within 1 65535)) z; are = λ _. ap (numbersAt s at) z }
 
-module _ (s : List ℕ) (at n : ℕ) (table : List ℕ) (i k : ℕ) (on : OnWeights s at n table i k) where
-  pub weights-done : n ≤ k → WeightsRead s at n true table
+pub weights-bad : (s : List ℕ) (at n : ℕ) (table : List ℕ) → length table ≡ 1024 → RowsPassed isNumber s at n 0 → WeightsRead s at n 0 false table
+weights-bad s at n table len passed = record { len = len; passed = passed; says = λ z. absurd (omega arith); are = λ z. absurd (omega arith) }
+
+module _ (s : List ℕ) (at n : ℕ) (table : List ℕ) (i k : ℕ) (good : Bool) (on : OnWeights s at n table i k good) where
+  pub weights-done : n ≤ k → WeightsRead s at n i good table
   weights-done l =
       let z : n - k ≡ 0 = omega arith in
-      let q : k ≡ n = omega (arith, on .done) in
+      let q : k ≡ n = omega (arith, on .rows .done) in
+      let none : numbersAt s i (n - k) ≡ [] = ap (numbersAt s i) z in
       record {
         len = on .len;
-        says = sym (on .says ∙ ap (λ (m : ℕ). all (numbersAt s i m) (within 1 65535)) z ∙ all-nil (within 1 65535));
-        are = λ _. sym (on .are ∙ ap (λ (m : ℕ). take k table ++ numbersAt s i m) z ∙ append-nil (take k table) ∙ ap (λ (m : ℕ). take m table) q);
+        passed = rows-done isNumber s at n i k (on .rows) l;
+        says = λ _. all-end (within 1 65535) _ good (numbersAt s i (n - k)) none (on .says);
+        are = λ _ few. sym (on .are few ∙ ap (λ (l : List ℕ). take k table ++ l) none ∙ append-nil (take k table) ∙ ap (λ (m : ℕ). take m table) q);
       }
 
-  module _ (a e w : ℕ) (here : RowHere isNumber s i (n - k) a e) (is : w ≡ value (slice a e s)) where
-    next : numbersAt s i (n - k) ≡ w ∷ numbersAt s (e + 1) (n - k - 1)
-    next = ap (map value) (here .first) ∙ ap (λ (x : ℕ). x ∷ numbersAt s (e + 1) (n - k - 1)) (sym is)
+  module _ (a e : ℕ) (row : RowAt s i a e) (more : k < n) (lt : e < length s) (form : isNumber (slice a e s) ≡ true) (w : ℕ) (is : w ≡ value (slice a e s)) where
+    next : numbersAt s i (n - k) ≡ w ∷ numbersAt s (e + 1) (n - (k + 1))
+    next = ap (map value) (rows-first isNumber s at n i k (on .rows) a e row more lt part-number form) ∙ ap (λ (x : ℕ). x ∷ numbersAt s (e + 1) (n - (k + 1))) (sym is)
 
-    pub weights-stop : within 1 65535 w ≡ false → WeightsRead s at n false table
-    weights-stop f = record {
-      len = on .len;
-      says = sym (on .says ∙ ap (λ (l : List ℕ). all l (within 1 65535)) next ∙ all-no w (numbersAt s (e + 1) (n - k - 1)) (within 1 65535) f);
-      are = λ z. absurd (true≢false (sym z));
+    pub weights-on : (b : Bool) → b ≡ within 1 65535 w → (g : Bool) → g ≡ (good && b) → (table′ : List ℕ) → length table′ ≡ 1024 → (k < 1024 → table′ ≡ set table k w) → OnWeights s at n table′ (e + 1) (k + 1) g
+    weights-on b range g both table′ len kept = record {
+      rows = rows-on isNumber s at n i k (on .rows) a e row more lt part-number form;
+      len = len;
+      says = all-next (within 1 65535) _ good b g w (numbersAt s (e + 1) (n - (k + 1))) (numbersAt s i (n - k)) next (on .says) range both;
+      are = λ few.
+          on .are few ∙ ap (λ (l : List ℕ). take k table ++ l) next ∙ table-on table k w (numbersAt s (e + 1) (n - (k + 1))) (omega (arith, on .len))
+          ∙ ap (λ (t : List ℕ). take (k + 1) t ++ numbersAt s (e + 1) (n - (k + 1))) (sym (kept (omega arith)));
     }
-
-    pub weights-on : k < n → n ≤ 1024 → within 1 65535 w ≡ true → OnWeights s at n (set table k w) (e + 1) (k + 1)
-    weights-on lt few f =
-        let z : n - k - 1 ≡ n - (k + 1) = omega arith in
-        record {
-          high = omega (arith, here .more);
-          done = omega arith;
-          len = simp length-set (on .len);
-          well = subst (λ (m : ℕ). wellRows isNumber m (rowsAt s (e + 1)) ≡ true) z (here .well);
-          says = on .says ∙ ap (λ (l : List ℕ). all l (within 1 65535)) next ∙ all-on w (numbersAt s (e + 1) (n - k - 1)) (within 1 65535) f ∙ ap (λ (m : ℕ). all (numbersAt s (e + 1) m) (within 1 65535)) z;
-          are = on .are ∙ ap (λ (l : List ℕ). take k table ++ l) next ∙ table-on table k w (numbersAt s (e + 1) (n - k - 1)) (omega (arith, on .len)) ∙ ap (λ (m : ℕ). take (k + 1) (set table k w) ++ numbersAt s (e + 1) m) z;
-        }
 
 -- ---- blocks
 abbrev blocksAt : List ℕ → ℕ → List ℕ
 blocksAt s i = map value (linesAt s i)
 
-pub record OnBlocks (s : List ℕ) (at n blocks : ℕ) (table : List ℕ) (i k : ℕ) : Type 0 where
+pub record OnBlocks (s : List ℕ) (at blocks : ℕ) (table : List ℕ) (i k : ℕ) (good : Bool) : Type 0 where
+  pub few : k < i
   pub high : i ≤ length s
-  pub done : k ≤ n
   pub len : length table ≡ 1024
-  pub left : k + length (linesAt s i) ≡ n
-  pub well : all (linesAt s i) isNumber ≡ true
-  pub says : all (blocksAt s at) (λ b. ltb b blocks) ≡ all (blocksAt s i) (λ b. ltb b blocks)
-  pub are : map suc (blocksAt s at) ≡ take k table ++ map suc (blocksAt s i)
+  pub lines-are : listCount 1 (linesAt s at) ≡ listCount (k + 1) (linesAt s i)
+  pub left : length (linesAt s at) ≡ k + length (linesAt s i)
+  pub says : all (blocksAt s at) (λ b. ltb b blocks) ≡ (good && all (blocksAt s i) (λ b. ltb b blocks))
+  pub are : good ≡ true → blocks ≤ 16 → length (linesAt s at) ≤ 1024 → map suc (blocksAt s at) ≡ take k table ++ map suc (blocksAt s i)
 
-pub blocks-start : (s : List ℕ) (at n blocks : ℕ) (table : List ℕ) → at ≤ length s → length table ≡ 1024 → length (linesAt s at) ≡ n → all (linesAt s at) isNumber ≡ true → OnBlocks s at n blocks table at 0
-blocks-start s at n blocks table h len long w = record { high = h; done = omega arith; len = len; left = omega arith; well = w; says = refl; are = refl }
+pub blocks-start : (s : List ℕ) (at blocks : ℕ) (table : List ℕ) → 1 ≤ at → at ≤ length s → length table ≡ 1024 → OnBlocks s at blocks table at 0 true
+blocks-start s at blocks table l h len = record { few = omega arith; high = h; len = len; lines-are = refl; left = omega arith; says = refl; are = λ _ _ _. refl }
 
-empty : (l : Fields) → length l ≡ 0 → l ≡ []
-empty [] e = refl
-empty (x ∷ l) e = absurd (omega arith)
-
-module _ (s : List ℕ) (at n blocks : ℕ) (table : List ℕ) (i k : ℕ) (on : OnBlocks s at n blocks table i k) where
-  pub blocks-done : n ≤ k → BlocksRead s at n blocks true table
-  blocks-done l =
-      let q : k ≡ n = omega (arith, on .done) in
-      let z = empty (linesAt s i) (omega (arith, on .left)) in
+module _ (s : List ℕ) (at blocks : ℕ) (table : List ℕ) (i k : ℕ) (good : Bool) (on : OnBlocks s at blocks table i k good) where
+  ended : linesAt s i ≡ [] → listCount (k + 1) (linesAt s i) ≡ k + 1 → BlocksRead s at blocks (k + 1) good table
+  ended none count =
+      let q : k ≡ length (linesAt s at) = omega (arith, on .left, ap length none) in
       record {
         len = on .len;
-        says = sym (on .says ∙ ap (λ (ls : Fields). all (map value ls) (λ b. ltb b blocks)) z ∙ all-nil (λ b. ltb b blocks));
-        are = λ _. sym (on .are ∙ ap (λ (ls : Fields). take k table ++ map suc (map value ls)) z ∙ append-nil (take k table) ∙ ap (λ (m : ℕ). take m table) q);
+        lines-are = sym (on .lines-are ∙ count);
+        says = λ _. all-end (λ b. ltb b blocks) _ good (blocksAt s i) (ap (map value) none) (on .says);
+        are = λ _ yes few fit. sym (on .are yes few fit ∙ ap (λ (ls : Fields). take k table ++ map suc (map value ls)) none ∙ append-nil (take k table) ∙ ap (λ (m : ℕ). take m table) q);
       }
 
-  module _ (e : ℕ) (found : FirstAt s i (length s) 10 e) (lt : k < n) where
-    pub blocks-more : e < length s
-    blocks-more = go (ℕ-discrete e (length s))
-      where
-        go : Dec (e ≡ length s) → e < length s
-        go (yes q) = absurd (omega (arith, on .left, ap length (lines-none s i e (on .high) found q)))
-        go (no m) = omega (arith, found .high)
+  pub blocks-end : i ≡ length s → BlocksRead s at blocks (k + 1) good table
+  blocks-end q = ended (lines-end s i q) (list-end s i (k + 1) q)
 
-    line : linesAt s i ≡ slice i e s ∷ linesAt s (e + 1)
-    line = lines-on s i e (on .high) found blocks-more
+  module _ (e : ℕ) (found : FirstAt s i (length s) 10 e) where
+    pub blocks-none : e ≡ length s → BlocksRead s at blocks (k + 1) good table
+    blocks-none q = ended (lines-none s i e (on .high) found q) (list-none s i e (k + 1) (on .high) found q)
 
-    numbers-all : all (slice i e s ∷ linesAt s (e + 1)) isNumber ≡ true
-    numbers-all = ap (λ (ls : Fields). all ls isNumber) (sym line) ∙ on .well
+    module _ (lt : e < length s) where
+      pub blocks-bad : isNumber (slice i e s) ≡ false → BlocksRead s at blocks 0 false table
+      blocks-bad n = record { len = on .len; lines-are = sym (on .lines-are ∙ list-bad s i e (k + 1) (on .high) found lt n); says = λ z. absurd (omega arith); are = λ z. absurd (omega arith) }
 
-    pub block-number : isNumber (slice i e s) ≡ true
-    unfolding all
-    block-number = and-left (isNumber (slice i e s)) (all (linesAt s (e + 1)) isNumber) numbers-all
+      module _ (form : isNumber (slice i e s) ≡ true) (b : ℕ) (is : b ≡ value (slice i e s)) where
+        line : linesAt s i ≡ slice i e s ∷ linesAt s (e + 1)
+        line = lines-on s i e (on .high) found lt
 
-    module _ (b : ℕ) (is : b ≡ value (slice i e s)) where
-      next-block : blocksAt s i ≡ b ∷ blocksAt s (e + 1)
-      next-block = ap (map value) line ∙ ap (λ (x : ℕ). x ∷ blocksAt s (e + 1)) (sym is)
+        next-block : blocksAt s i ≡ b ∷ blocksAt s (e + 1)
+        next-block = ap (map value) line ∙ ap (λ (x : ℕ). x ∷ blocksAt s (e + 1)) (sym is)
 
-      pub blocks-stop : blocks ≤ b → BlocksRead s at n blocks false table
-      blocks-stop f = record {
-        len = on .len;
-        says = sym (on .says ∙ ap (λ (l : List ℕ). all l (λ b. ltb b blocks)) next-block ∙ all-no b (blocksAt s (e + 1)) (λ b. ltb b blocks) (le-ltb b blocks f));
-        are = λ z. absurd (true≢false (sym z));
-      }
-
-      pub blocks-on : (x : ℕ) → x ≡ b + 1 → n ≤ 1024 → b < blocks → OnBlocks s at n blocks (set table k x) (e + 1) (k + 1)
-      unfolding all
-      blocks-on x session few f = record {
-        high = omega (arith, blocks-more);
-        done = omega arith;
-        len = simp length-set (on .len);
-        left = omega (arith, on .left, ap length line);
-        well = and-right (isNumber (slice i e s)) (all (linesAt s (e + 1)) isNumber) numbers-all;
-        says = on .says ∙ ap (λ (l : List ℕ). all l (λ b. ltb b blocks)) next-block ∙ all-on b (blocksAt s (e + 1)) (λ b. ltb b blocks) (lt-ltb b blocks f);
-        are = on .are ∙ ap (λ (l : List ℕ). take k table ++ map suc l) next-block ∙ ap (λ (y : ℕ). take k table ++ (y ∷ map suc (blocksAt s (e + 1)))) (sym (session ∙ add-one b)) ∙ table-on table k x (map suc (blocksAt s (e + 1))) (omega (arith, on .len));
-      }
+        pub blocks-on : (g : Bool) → g ≡ (good && ltb b blocks) → (table′ : List ℕ) → length table′ ≡ 1024 → (k < 1024 → b < 16 → table′ ≡ set table k (b + 1)) → OnBlocks s at blocks table′ (e + 1) (k + 1) g
+        blocks-on g both table′ len kept = record {
+          few = omega (arith, on .few, found .low);
+          high = omega arith;
+          len = len;
+          lines-are = on .lines-are ∙ list-on s i e (k + 1) (on .high) found lt form;
+          left = omega (arith, on .left, ap length line);
+          says = all-next (λ b. ltb b blocks) _ good (ltb b blocks) g b (blocksAt s (e + 1)) (blocksAt s i) next-block (on .says) refl both;
+          are = λ yes few fit.
+              let t = sym both ∙ yes in
+              let known : b < blocks = ltb-true b blocks (and-right good (ltb b blocks) t) in
+              on .are (and-left good (ltb b blocks) t) few fit
+              ∙ ap (λ (l : List ℕ). take k table ++ map suc l) next-block
+              ∙ ap (λ (y : ℕ). take k table ++ (y ∷ map suc (blocksAt s (e + 1)))) (sym (add-one b))
+              ∙ table-on table k (b + 1) (map suc (blocksAt s (e + 1))) (omega (arith, on .len, on .left, ap length line))
+              ∙ ap (λ (t : List ℕ). take (k + 1) t ++ map suc (blocksAt s (e + 1))) (sym (kept (omega (arith, on .left, ap length line)) (omega arith)));
+        }
 
 -- ---- edges checked
 abbrev pinsOf : List Edge → ℕ
@@ -193,78 +187,73 @@ text-nil : textOf [] ≡ []
 unfolding buyText
 text-nil = refl
 
-pub record OnEdges (weighted : Bool) (s : List ℕ) (at n v : ℕ) (stamps : List ℕ) (i k pins size : ℕ) : Type 0 where
-  pub high : i ≤ length s
-  pub done : k ≤ n
+pub record OnEdges (weighted : Bool) (s : List ℕ) (at n v : ℕ) (stamps : List ℕ) (i k : ℕ) (good : Bool) (pins size : ℕ) : Type 0 where
+  pub rows : OnRows (isEdge weighted) s at n i k
+  pub turns : k < i
   pub len : length stamps ≡ 1024
   pub fresh : Fresh (k + 1) stamps
-  pub few : pins ≤ k * 60001
-  pub small : size ≤ k * 660026
-  pub well : wellRows (isEdge weighted) (n - k) (rowsAt s i) ≡ true
-  pub says : all (edgesAt weighted s at n) (isCarried v) ≡ all (edgesAt weighted s i (n - k)) (isCarried v)
+  pub few : pins ≤ i
+  pub small : size ≤ 11 * pins + 15 * k
+  pub says : all (edgesAt weighted s at n) (isCarried v) ≡ (good && all (edgesAt weighted s i (n - k)) (isCarried v))
   pub pins-are : pins + pinsOf (edgesAt weighted s i (n - k)) ≡ pinsOf (edgesAt weighted s at n)
   pub size-is : size + length (textOf (edgesAt weighted s i (n - k))) ≡ length (textOf (edgesAt weighted s at n))
 
-pub edges-start : (weighted : Bool) (s : List ℕ) (at n v : ℕ) (stamps : List ℕ) → at ≤ length s → length stamps ≡ 1024 → ((x : ℕ) → getD stamps x 0 ≡ 0) → wellRows (isEdge weighted) n (rowsAt s at) ≡ true → OnEdges weighted s at n v stamps at 0 0 0
-edges-start weighted s at n v stamps h len blank w =
+pub edges-start : (weighted : Bool) (s : List ℕ) (at n v : ℕ) (stamps : List ℕ) → 1 ≤ at → at ≤ length s → length stamps ≡ 1024 → ((x : ℕ) → getD stamps x 0 ≡ 0) → OnEdges weighted s at n v stamps at 0 true 0 0
+edges-start weighted s at n v stamps l h len blank =
     let z : n ≡ n - 0 = omega arith in
     record {
-      high = h;
-      done = omega arith;
+      rows = rows-start (isEdge weighted) s at n l h;
+      turns = omega arith;
       len = len;
       fresh = record { below = λ x. omega (arith, blank x) };
       few = omega arith;
       small = omega arith;
-      well = subst (λ (m : ℕ). wellRows (isEdge weighted) m (rowsAt s at) ≡ true) z w;
       says = ap (λ (m : ℕ). all (edgesAt weighted s at m) (isCarried v)) z;
       pins-are = zero-add _ ∙ ap (λ (m : ℕ). pinsOf (edgesAt weighted s at m)) (sym z);
       size-is = zero-add _ ∙ ap (λ (m : ℕ). length (textOf (edgesAt weighted s at m))) (sym z);
     }
 
-module _ (weighted : Bool) (s : List ℕ) (at n v : ℕ) (stamps : List ℕ) (i k pins size : ℕ) (on : OnEdges weighted s at n v stamps i k pins size) where
-  pub edges-done : n ≤ 1024 → n ≤ k → EdgesChecked (edgesAt weighted s at n) v true pins size
-  edges-done few l =
+pub edges-bad : (weighted : Bool) (s : List ℕ) (at n v next : ℕ) (r : Bool) (pins size : ℕ) → next ≡ 0 → size ≡ 0 → RowsPassed (isEdge weighted) s at n 0 → EdgesRead weighted s at n v next r pins size
+edges-bad weighted s at n v next r pins size z none passed = record {
+  passed = subst (λ (m : ℕ). RowsPassed (isEdge weighted) s at n m) (sym z) passed;
+  says = λ l. absurd (omega arith);
+  pins-are = λ l. absurd (omega arith);
+  size-is = λ l. absurd (omega arith);
+  small = omega arith;
+}
+
+module _ (weighted : Bool) (s : List ℕ) (at n v : ℕ) (stamps : List ℕ) (i k : ℕ) (good : Bool) (pins size : ℕ) (on : OnEdges weighted s at n v stamps i k good pins size) where
+  pub edges-done : length s ≤ 60000 → n ≤ k → EdgesRead weighted s at n v i good pins size
+  edges-done short l =
       let z : n - k ≡ 0 = omega arith in
-      let q : k ≡ n = omega (arith, on .done) in
       record {
-        says = sym (on .says ∙ ap (λ (m : ℕ). all (edgesAt weighted s i m) (isCarried v)) z ∙ all-nil (isCarried v));
+        passed = rows-done (isEdge weighted) s at n i k (on .rows) l;
+        says = λ _. all-end (isCarried v) _ good (edgesAt weighted s i (n - k)) (ap (edgesAt weighted s i) z) (on .says);
         pins-are = λ _. omega (arith, on .pins-are, ap (λ (m : ℕ). pinsOf (edgesAt weighted s i m)) z, pins-nil);
         size-is = λ _. omega (arith, on .size-is, ap (λ (m : ℕ). length (textOf (edgesAt weighted s i m))) z, ap length text-nil);
-        small = omega (arith, on .small);
+        small = omega (arith, on .small, on .few, on .turns, on .rows .high);
       }
 
-  module _ (a e : ℕ) (here : RowHere (isEdge weighted) s i (n - k) a e) where
-    abbrev edge : Edge
-    edge = edgeOf weighted (slice a e s)
+  module _ (a e : ℕ) (row : RowAt s i a e) (more : k < n) (lt : e < length s) (count : ℕ) (b : Bool) (bytes : ℕ) (stamps′ : List ℕ) (x : EdgeChecked s a e weighted v (k + 1) count b bytes stamps′) where
+    pub edges-stop : count ≡ 0 → RowsPassed (isEdge weighted) s at n 0
+    edges-stop z = rows-bad (isEdge weighted) s at n i k (on .rows) a e row more lt (x .bad z)
 
-    next-edge : edgesAt weighted s i (n - k) ≡ edge ∷ edgesAt weighted s (e + 1) (n - k - 1)
-    next-edge = ap (map (edgeOf weighted)) (here .first)
-
-    module _ (count bytes : ℕ) (stamps′ : List ℕ) (x : EdgeChecked edge v (k + 1) count bytes stamps′) where
-      pub edges-stop : count ≡ 0 → EdgesChecked (edgesAt weighted s at n) v false 0 0
-      edges-stop z = record {
-        says = sym (on .says ∙ ap (λ (es : List Edge). all es (isCarried v)) next-edge ∙ all-no edge (edgesAt weighted s (e + 1) (n - k - 1)) (isCarried v) (x .refused z));
-        pins-are = λ z. absurd (true≢false (sym z));
-        size-is = λ z. absurd (true≢false (sym z));
-        small = omega arith;
-      }
-
-      pub edges-on : k < n → 1 ≤ count → OnEdges weighted s at n v stamps′ (e + 1) (k + 1) (pins + count) (size + bytes)
-      edges-on lt some =
-          let z : n - k - 1 ≡ n - (k + 1) = omega arith in
-          let left : List Edge = edgesAt weighted s (e + 1) (n - k - 1) in
-          record {
-            high = omega (arith, here .more);
-            done = omega arith;
-            len = x .len;
-            fresh = record { below = λ y. omega (arith, x .below some y) };
-            few = omega (arith, on .few, x .few);
-            small = omega (arith, on .small, x .small);
-            well = subst (λ (m : ℕ). wellRows (isEdge weighted) m (rowsAt s (e + 1)) ≡ true) z (here .well);
-            says = on .says ∙ ap (λ (es : List Edge). all es (isCarried v)) next-edge ∙ all-on edge left (isCarried v) (x .carried some) ∙ ap (λ (m : ℕ). all (edgesAt weighted s (e + 1) m) (isCarried v)) z;
-            pins-are = omega (arith, on .pins-are, ap pinsOf next-edge, pins-cons edge left, x .count-is some, ap (λ (m : ℕ). pinsOf (edgesAt weighted s (e + 1) m)) z);
-            size-is = omega (arith, on .size-is, ap (λ (es : List Edge). length (textOf es)) next-edge, text-size edge left, x .size-is some, ap (λ (m : ℕ). length (textOf (edgesAt weighted s (e + 1) m))) z);
-          }
+    pub edges-on : 1 ≤ count → (g : Bool) → g ≡ (good && b) → OnEdges weighted s at n v stamps′ (e + 1) (k + 1) g (pins + count) (size + bytes)
+    edges-on some g both =
+        let edge : Edge = edgeOf weighted (slice a e s) in
+        let left : List Edge = edgesAt weighted s (e + 1) (n - (k + 1)) in
+        let next : edgesAt weighted s i (n - k) ≡ edge ∷ left = ap (map (edgeOf weighted)) (rows-first (isEdge weighted) s at n i k (on .rows) a e row more lt (part-edge weighted) (x .form some)) in
+        record {
+          rows = rows-on (isEdge weighted) s at n i k (on .rows) a e row more lt (part-edge weighted) (x .form some);
+          turns = omega (arith, on .turns, row .low, row .mid);
+          len = x .len;
+          fresh = record { below = λ y. omega (arith, x .below some y) };
+          few = omega (arith, on .few, x .few, row .low);
+          small = omega (arith, on .small, x .small);
+          says = all-next (isCarried v) _ good b g edge left (edgesAt weighted s i (n - k)) next (on .says) (x .says some) both;
+          pins-are = omega (arith, on .pins-are, ap pinsOf next, pins-cons edge left, x .count-is some);
+          size-is = omega (arith, on .size-is, ap (λ (es : List Edge). length (textOf es)) next, text-size edge left, x .size-is some);
+        }
 
 -- ---- edges written
 pub record OnNets (weighted : Bool) (s : List ℕ) (at n : ℕ) (out₀ : List ℕ) (p : ℕ) (out : List ℕ) (i q k : ℕ) : Type 0 where

@@ -9,7 +9,7 @@ use lib.ListN.{length, take, drop}
 use lib.Seq.{slice}
 use Rattle.laws.specs.Fold.{all}
 use Rattle.model.specs.Grammar.{isNumber}
-use Rattle.model.specs.Hmetis.{linesOf, isPart, Sections, withLine, sections, isEdge}
+use Rattle.model.specs.Hmetis.{linesOf, isPart, Sections, withLine, sections}
 
 -- the lines from i on
 unfoldable pub linesAt : List ℕ → ℕ → List (List ℕ)
@@ -40,10 +40,6 @@ pub record RowAt (s : List ℕ) (at start end : ℕ) : Type 0 where
   pub high : end ≤ length s
   pub line : end < length s → sectionsAt s at ≡ lineThen (slice start end s) (linesAt s (end + 1))
   pub none : end ≡ length s → sectionsAt s at ≡ noSections
-
--- a row's form: one number alone, or an edge
-unfoldable pub rowFits : Bool → Bool → List ℕ → Bool
-rowFits single weighted l = cond single (isNumber l) (isEdge weighted l)
 
 -- there are n lines, and the first n have the form
 unfoldable pub wellRows : (List ℕ → Bool) → ℕ → List (List ℕ) → Bool

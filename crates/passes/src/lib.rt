@@ -1,20 +1,17 @@
-// Passes over an hMETIS file: its rows, one by one or many at once, their form, their numbers into tables, its edges checked and written.
-// A row is a line of the file that is no comment.
+// Passes over an hMETIS file: each reads a run of its rows once, tests their form and what can be carried over, and keeps their numbers;
+// then its edges are written. A row is a line of the file that is no comment.
 use lines::between;
 ghost use mathlib.Core.Path.{_≡_};
 ghost use mathlib.Core.Bool.{true};
 ghost use mathlib.Core.List.{map};
 ghost use Prim.Native.Nat.{_+_, _≤_, _<_};
-ghost use lib.ListN.{length, take};
-ghost use lib.Seq.{slice};
-ghost use Rattle.laws.specs.Fold.{all};
-ghost use Rattle.model.specs.Grammar.{isNumber};
+ghost use lib.ListN.{length, set, take};
 ghost use Rattle.model.specs.CatalogueText.{lotText, buyText};
 ghost use Rattle.fields.specs.Wrote.{Wrote};
 ghost use Rattle.model.specs.Hmetis.{isEdge};
 ghost use Rattle.model.specs.Convert.{netOf};
-ghost use Rattle.passes.specs.Rows.{rowsAt, linesAt, RowAt, rowFits, wellRows, RowsPassed, PartPassed, listCount};
-ghost use Rattle.passes.specs.Read.{WeightsRead, BlocksRead, edgesAt, EdgesChecked};
+ghost use Rattle.passes.specs.Rows.{rowsAt, RowAt, wellRows, PartPassed};
+ghost use Rattle.passes.specs.Read.{WeightsRead, BlocksRead, edgesAt, EdgesRead};
 
 // Where a row stands; its end is the text's end where there is none.
 pub struct Place {
@@ -22,11 +19,25 @@ pub struct Place {
     pub end: usize,
 }
 
-// Edges: whether all can be carried over, how many vertices they name together, and how long their lines of the catalogue are.
+// Edges: where the next line starts, or 0 where one is badly written; whether all can be carried over, how many vertices they name together,
+// and how long their lines of the catalogue are.
 pub struct Edges {
+    pub next: usize,
     pub carried: bool,
     pub pins: usize,
     pub size: usize,
+}
+
+// Vertices' weights: where the next line starts, or 0 where one is badly written; and whether all can be carried over.
+pub struct Weights {
+    pub next: usize,
+    pub carried: bool,
+}
+
+// A listing: one more than the number of its lines, or 0 where one is badly written; and whether each names a block.
+pub struct Blocks {
+    pub lines: usize,
+    pub known: bool,
 }
 
 // The first row from `at` on.
@@ -55,45 +66,6 @@ pub fn row(s: &[u8], at: usize) -> Place
     }
 }
 
-// Whether a row has its form: one number alone, or an edge.
-pub fn fits(s: &[u8], at: usize, end: usize, single: bool, weighted: bool) -> bool
-    requires { ⌜ (at ≤ end) × (end ≤ length (now s)) ⌝ }
-    ensures { λ r. ⌜ r ≡ rowFits single weighted (slice at end (now (s .entry))) ⌝ }
-{
-    if single {
-        return spaced::is_number(s, at, end);
-    }
-    let n = spaced::count(s, at, end);
-    if weighted {
-        return 2 <= n;
-    }
-    1 <= n
-}
-
-// Passes over n rows of a form: where the next line starts, or 0.
-pub fn pass_rows(s: &[u8], at: usize, n: usize, single: bool, weighted: bool) -> usize
-    requires { ⌜ (1 ≤ at) × (at ≤ length (now s)) ⌝ }
-    ensures { λ r. ⌜ RowsPassed (rowFits single weighted) (now (s .entry)) at n r ⌝ }
-{
-    let len = s.len();
-    let mut i = at;
-    let mut k: usize = 0;
-    while k < n {
-        let x = row(s, i);
-        let a = x.start;
-        let e = x.end;
-        if e == len {
-            return 0;
-        }
-        if !fits(s, a, e, single, weighted) {
-            return 0;
-        }
-        i = e + 1;
-        k += 1;
-    }
-    i
-}
-
 // Passes over PART, which has to be the next row: where the next line starts, or 0.
 pub fn pass_part(s: &[u8], at: usize) -> usize
     requires { ⌜ at ≤ length (now s) ⌝ }
@@ -111,48 +83,102 @@ pub fn pass_part(s: &[u8], at: usize) -> usize
     e + 1
 }
 
-// One more than the number of lines from `at` on, if each is a number; else 0.
-pub fn pass_listing(s: &[u8], at: usize) -> usize
-    requires { ⌜ (1 ≤ at) × (at ≤ length (now s)) ⌝ }
-    ensures { λ r. ⌜ r ≡ listCount 1 (linesAt (now (s .entry)) at) ⌝ }
+// What is answered of edges of which one is badly written.
+fn no_edges() -> Edges
+    ensures { λ r. ⌜ (r .next ≡ 0) × (r .size ≡ 0) ⌝ }
 {
-    let len = s.len();
-    let mut i = at;
-    let mut n: usize = 1;
-    while i < len {
-        let e = text::line_end(s, i, len);
-        if e == len {
-            return n;
-        }
-        if !spaced::is_number(s, i, e) {
-            return 0;
-        }
-        n += 1;
-        i = e + 1;
+    Edges {
+        next: 0,
+        carried: false,
+        pins: 0,
+        size: 0,
     }
-    n
 }
 
-// The weights of n vertices, a row each, into a table.
-pub fn read_weights(s: &[u8], at: usize, n: usize, weights: &mut [u32; 1024]) -> bool
-    requires { ⌜ (at ≤ length (now s)) × (n ≤ 1024) × (length (now weights) ≡ 1024) × (wellRows isNumber n (rowsAt (now s) at) ≡ true) ⌝ }
-    ensures { λ r. ⌜ WeightsRead (now (s .entry)) at n r (now (weights .exit)) ⌝ }
+// Passes over n edges, a row each.
+pub fn pass_edges(s: &[u8], at: usize, n: usize, weighted: bool, vertices: u32) -> Edges
+    requires { ⌜ (1 ≤ at) × (at ≤ length (now s)) × (length (now s) ≤ 60000) × (vertices ≤ 1024) ⌝ }
+    ensures { λ r. ⌜ EdgesRead weighted (now (s .entry)) at n vertices (r .next) (r .carried) (r .pins) (r .size) ⌝ }
 {
+    let len = s.len();
+    let mut stamps = [0u16; 1024];
     let mut i = at;
     let mut k: usize = 0;
+    let mut good = true;
+    let mut pins: usize = 0;
+    let mut size: usize = 0;
     while k < n {
         let x = row(s, i);
         let a = x.start;
         let e = x.end;
-        let w = spaced::read(s, a, e);
-        if !between(1, 65535, w) {
-            return false;
+        if e == len {
+            return no_edges();
         }
-        weights[k] = w;
+        let p = spaced::check_edge(s, a, e, weighted, vertices, (k + 1) as u16, &mut stamps);
+        let c = p.count;
+        if c == 0 {
+            return no_edges();
+        }
+        good = spaced::both(good, p.carried);
+        pins += c;
+        size += p.size;
         i = e + 1;
         k += 1;
     }
-    true
+    Edges {
+        next: i,
+        carried: good,
+        pins: pins,
+        size: size,
+    }
+}
+
+// Keeps the weight of a vertex, if the table has a place for it.
+fn keep_weight(weights: &mut [u32; 1024], k: usize, w: u32)
+    requires { ⌜ length (now weights) ≡ 1024 ⌝ }
+    ensures { λ _. ⌜ (length (now (weights .exit)) ≡ 1024) × (k < 1024 → now (weights .exit) ≡ set (now (weights .entry)) k w) ⌝ }
+{
+    if 1024 <= k {
+        return;
+    }
+    weights[k] = w;
+}
+
+// Passes over the weights of n vertices, a row each, into a table.
+pub fn pass_weights(s: &[u8], at: usize, n: usize, weights: &mut [u32; 1024]) -> Weights
+    requires { ⌜ (1 ≤ at) × (at ≤ length (now s)) × (length (now weights) ≡ 1024) ⌝ }
+    ensures { λ r. ⌜ WeightsRead (now (s .entry)) at n (r .next) (r .carried) (now (weights .exit)) ⌝ }
+{
+    let len = s.len();
+    let mut i = at;
+    let mut k: usize = 0;
+    let mut good = true;
+    while k < n {
+        let x = row(s, i);
+        let a = x.start;
+        let e = x.end;
+        if e == len {
+            return Weights {
+                next: 0,
+                carried: false,
+            };
+        }
+        if !spaced::is_number(s, a, e) {
+            return Weights {
+                next: 0,
+                carried: false,
+            };
+        }
+        let w = spaced::read(s, a, e);
+        good = spaced::both(good, between(1, 65535, w));
+        keep_weight(weights, k, w);
+        i = e + 1;
+        k += 1;
+    }
+    Weights {
+        next: i,
+        carried: good,
+    }
 }
 
 // The number of a session, where block b is session b + 1.
@@ -163,59 +189,54 @@ fn session(b: u32) -> u16
     (b + 1) as u16
 }
 
-// The blocks of n vertices, a line each, into a table, counted from 1.
-pub fn read_blocks(s: &[u8], at: usize, n: usize, blocks: u32, draft: &mut [u16; 1024]) -> bool
-    requires { ⌜ (at ≤ length (now s)) × (n ≤ 1024) × (blocks ≤ 16) × (length (now draft) ≡ 1024) × (length (linesAt (now s) at) ≡ n) × (all (linesAt (now s) at) isNumber ≡ true) ⌝ }
-    ensures { λ r. ⌜ BlocksRead (now (s .entry)) at n blocks r (now (draft .exit)) ⌝ }
+// Keeps the session of a vertex, if there can be such a block and the table has a place for it.
+fn keep_block(draft: &mut [u16; 1024], k: usize, b: u32)
+    requires { ⌜ length (now draft) ≡ 1024 ⌝ }
+    ensures { λ _. ⌜ (length (now (draft .exit)) ≡ 1024) × (k < 1024 → b < 16 → now (draft .exit) ≡ set (now (draft .entry)) k (b + 1)) ⌝ }
+{
+    if 1024 <= k {
+        return;
+    }
+    if 16 <= b {
+        return;
+    }
+    draft[k] = session(b);
+}
+
+// Passes over a listing: the blocks of the vertices, a line each, into a table, counted from 1.
+pub fn pass_blocks(s: &[u8], at: usize, blocks: u32, draft: &mut [u16; 1024]) -> Blocks
+    requires { ⌜ (1 ≤ at) × (at ≤ length (now s)) × (length (now draft) ≡ 1024) ⌝ }
+    ensures { λ r. ⌜ BlocksRead (now (s .entry)) at blocks (r .lines) (r .known) (now (draft .exit)) ⌝ }
 {
     let len = s.len();
     let mut i = at;
     let mut k: usize = 0;
-    while k < n {
+    let mut good = true;
+    while i < len {
         let e = text::line_end(s, i, len);
-        let b = spaced::read(s, i, e);
-        if blocks <= b {
-            return false;
-        }
-        draft[k] = session(b);
-        i = e + 1;
-        k += 1;
-    }
-    true
-}
-
-// Checks n edges, a row each.
-pub fn check_edges(s: &[u8], at: usize, n: usize, weighted: bool, vertices: u32) -> Edges
-    requires { ⌜ (at ≤ length (now s)) × (length (now s) ≤ 60000) × (n ≤ 1024) × (vertices ≤ 1024) × (wellRows (isEdge weighted) n (rowsAt (now s) at) ≡ true) ⌝ }
-    ensures { λ r. ⌜ EdgesChecked (edgesAt weighted (now (s .entry)) at n) vertices (r .carried) (r .pins) (r .size) ⌝ }
-{
-    let mut stamps = [0u16; 1024];
-    let mut i = at;
-    let mut k: usize = 0;
-    let mut pins: usize = 0;
-    let mut size: usize = 0;
-    while k < n {
-        let x = row(s, i);
-        let a = x.start;
-        let e = x.end;
-        let p = spaced::check_edge(s, a, e, weighted, vertices, (k + 1) as u16, &mut stamps);
-        let c = p.count;
-        if c == 0 {
-            return Edges {
-                carried: false,
-                pins: 0,
-                size: 0,
+        if e == len {
+            let lines = k + 1;
+            return Blocks {
+                lines: lines,
+                known: good,
             };
         }
-        pins += c;
-        size += p.size;
+        if !spaced::is_number(s, i, e) {
+            return Blocks {
+                lines: 0,
+                known: false,
+            };
+        }
+        let b = spaced::read(s, i, e);
+        good = spaced::both(good, b < blocks);
+        keep_block(draft, k, b);
         i = e + 1;
         k += 1;
     }
-    Edges {
-        carried: true,
-        pins: pins,
-        size: size,
+    let lines = k + 1;
+    Blocks {
+        lines: lines,
+        known: good,
     }
 }
 

@@ -3,25 +3,25 @@ use Prim.Native.Nat.{ℕ, zero, suc, _+_, _-_, _*_, _≤_, _<_}
 use native.Mathlib.Nat.{zero-add}
 use native.Mathlib.Omega.{arith}
 use mathlib.Core.Path.{_≡_, refl, ap, ap₂, sym, _∙_, subst}
-use mathlib.Core.Bool.{Bool, true, false, not, _&&_, cond, true≢false, and-false}
+use mathlib.Core.Bool.{Bool, true, false, not, _&&_, cond, true≢false, and-true}
 use mathlib.Core.List.{List, [], _∷_, _++_, map, append-assoc}
-use borrow.Author.Tests.{leb-true}
+use borrow.Author.Tests.{leb-true, le-leb, lt-leb}
 use lib.Dec.{eqb, leb}
-use lib.ListN.{length, getD, set, length-append}
+use lib.ListN.{length, getD, set, length-append, length-map}
 use lib.Seq.{slice}
 use Rattle.laws.specs.Fold.{any, all}
 use Rattle.laws.specs.Choice.{and-left, and-right}
 use Rattle.model.specs.Grammar.{Fields, isNumber, value, at, within, bytes}
 use Rattle.model.specs.Report.{digits, tail, row}
-use Rattle.text.specs.Field.{FirstAt}
+use Rattle.text.specs.Field.{FirstAt, counted}
 use Rattle.model.specs.CatalogueText.{numbers}
 use Rattle.fields.specs.Wrote.{Wrote, Remains}
 use Rattle.fields.proofs.Laws.{remains-all, remains-more, remains-none, remains-room, wrote-one}
 use Rattle.model.specs.Hmetis.{words, numbersIn, Edge, isEdge, edgeFrom, edgeOf}
 use Rattle.model.specs.Convert.{named, isCarried}
-use Rattle.spaced.specs.Row.{Skipped, Numbers, weightIn, pinWords, FirstPin}
+use Rattle.spaced.specs.Row.{Skipped, Numbers, weightIn, pinWords, WordRead, LeadRead}
 use Rattle.spaced.specs.Pins.{Fresh, Stamped, StampOne, commas, PinsChecked, edgeRow, EdgeChecked}
-use Rattle.spaced.proofs.Words.{words-last, words-on, words-first, word-number, words-rest}
+use Rattle.spaced.proofs.Words.{words-last, words-on, words-first, word-number, words-rest, numbers-counted, count-last, count-on, word-count}
 use Rattle.spaced.proofs.Stamps.{stamped-none}
 
 -- ---- how many numbers a line has
@@ -33,44 +33,83 @@ numbers-are l m some e = go (all (words l) isNumber) refl (leb-true m (numbersIn
     go true q h = (refl, h)
     go false q h = absurd (omega arith)
 
-pub edge-numbers : (weighted : Bool) (l : List ℕ) → isEdge weighted l ≡ true → Numbers l 0
+numbers-length : (l : List ℕ) → 1 ≤ numbersIn l → numbersIn l ≡ length (words l)
+unfolding numbersIn
+numbers-length l some = go (all (words l) isNumber) refl some
+  where
+    go : (b : Bool) → all (words l) isNumber ≡ b → 1 ≤ cond b (length (words l)) 0 → cond b (length (words l)) 0 ≡ length (words l)
+    go true q h = refl
+    go false q h = absurd (omega arith)
+
+-- ---- the lead of an edge's line
+plain-form : (l : List ℕ) → isEdge false l ≡ leb 1 (numbersIn l)
 unfolding isEdge
-edge-numbers true l e = let n = numbers-are l 2 (omega arith) e in record { inside = omega (arith, n .1); are = n .0 }
-edge-numbers false l e = let n = numbers-are l 1 (omega arith) e in record { inside = omega (arith, n .1); are = n .0 }
+plain-form l = refl
 
-pub weight-first : (weighted : Bool) (ws : Fields) (r : ℕ) → weighted ≡ true → 0 < length ws → r ≡ at ws 0 → r ≡ weightIn weighted ws
-weight-first true [] r q l e = absurd (omega arith)
-weight-first true (w ∷ ws) r q l e = e
-weight-first false ws r q l e = absurd (true≢false (sym q))
+two-bad : (l : List ℕ) → numbersIn l ≤ 1 → isEdge true l ≡ false
+unfolding isEdge
+two-bad l few = lt-leb 2 (numbersIn l) (omega arith)
 
-pub weight-none : (weighted : Bool) (ws : Fields) → weighted ≡ false → 1 ≡ weightIn weighted ws
-weight-none true ws q = absurd (true≢false q)
-weight-none false ws q = refl
+-- two numbers or more: one, and one or more behind it
+two-form : (ws : Fields) → leb 2 (counted 1 ws) ≡ leb 1 (counted 0 ws)
+unfolding counted
+two-form ws = go (all ws isNumber)
+  where
+    fewer : (n : ℕ) → leb 2 (1 + n) ≡ leb 1 (0 + n)
+    fewer zero = refl
+    fewer (suc n) = le-leb 2 (1 + suc n) (omega arith) ∙ sym (le-leb 1 (0 + suc n) (omega arith))
 
--- ---- the vertices of an edge's line
+    go : (b : Bool) → leb 2 (cond b (1 + length ws) 0) ≡ leb 1 (cond b (0 + length ws) 0)
+    go true = fewer (length ws)
+    go false = refl
+
+behind-form : (l : List ℕ) (ws : Fields) → counted 0 (words l) ≡ counted 1 ws → isEdge true l ≡ leb 1 (counted 0 ws)
+unfolding isEdge
+behind-form l ws e = ap (leb 2) (numbers-counted l ∙ e) ∙ two-form ws
+
 module _ (s : List ℕ) (at end : ℕ) (le : at ≤ end) (within : end ≤ length s) where
-  pub pins-plain : (weighted : Bool) → isEdge weighted (slice at end s) ≡ true → weighted ≡ false → FirstPin s at end weighted at
-  pins-plain true e q = absurd (true≢false q)
-  pins-plain false e q = record { low = omega arith; high = le; is = refl; are = edge-numbers false (slice at end s) e .are }
+  pub lead-plain : (weighted : Bool) → weighted ≡ false → LeadRead s at end weighted true 1 at
+  lead-plain true q = absurd (true≢false q)
+  lead-plain false q = record { low = omega arith; high = le; bad = λ z. absurd (true≢false z); form = λ _. plain-form (slice at end s); weight-is = λ _. refl; pins-are = λ _. refl }
 
-  module _ (e : ℕ) (found : FirstAt s at end 32 e) (weighted : Bool) (form : isEdge weighted (slice at end s) ≡ true) (q : weighted ≡ true) where
-    two : 2 ≤ length (words (slice at end s))
-    unfolding isEdge
-    two = numbers-are (slice at end s) 2 (omega arith) (subst (λ (w : Bool). leb (cond w 2 1) (numbersIn (slice at end s)) ≡ true) q form) .1
+  lead-few : (weighted : Bool) → weighted ≡ true → numbersIn (slice at end s) ≤ 1 → LeadRead s at end weighted false 0 end
+  lead-few false q few = absurd (true≢false (sym q))
+  lead-few true q few = record {
+    low = le;
+    high = omega arith;
+    bad = λ _. two-bad (slice at end s) few;
+    form = λ z. absurd (true≢false (sym z));
+    weight-is = λ z. absurd (true≢false (sym z));
+    pins-are = λ z. absurd (true≢false (sym z));
+  }
 
-    pub pins-short : e ≡ end → ⊥
-    pins-short x = omega (arith, two, ap length (words-last s at end e le within found x))
+  module _ (weighted : Bool) (q : weighted ≡ true) (well : Bool) (v e : ℕ) (word : WordRead s at end well v e) where
+    pub lead-bad : well ≡ false → LeadRead s at end weighted false 0 end
+    lead-bad z = lead-few weighted q (omega (arith, numbers-counted (slice at end s), word-count s at end le within well v e word z 0))
 
-    pub pins-behind : (j : ℕ) → e < end → Skipped s (e + 1) end j → FirstPin s at end weighted j
-    pins-behind j lt skipped =
-        let on = words-on s at end e le within found j lt skipped in
-        let are = edge-numbers weighted (slice at end s) form .are in
-        record {
-          low = omega (arith, found .low, skipped .low);
-          high = skipped .high;
-          is = sym (ap (pinWords weighted) on ∙ ap (λ (w : Bool). pinWords w (slice at e s ∷ words (slice j end s))) q);
-          are = words-rest s at end e le within found are j lt skipped;
-        }
+    module _ (yes : well ≡ true) where
+      pub lead-short : e ≡ end → LeadRead s at end weighted false 0 end
+      lead-short z = lead-few weighted q (omega (arith, numbers-counted (slice at end s), count-last s at end e 0 le within (word .ends yes) (word .is yes) z))
+
+      pub lead-behind : (f : ℕ) → e < end → Skipped s (e + 1) end f → LeadRead s at end weighted true v f
+      lead-behind f lt skipped = go weighted q
+        where
+          on : words (slice at end s) ≡ slice at e s ∷ words (slice f end s)
+          on = words-on s at end e le within (word .ends yes) f lt skipped
+
+          count : counted 0 (words (slice at end s)) ≡ counted 1 (words (slice f end s))
+          count = count-on s at end e 0 le within (word .ends yes) (word .is yes) f lt skipped
+
+          go : (b : Bool) → b ≡ true → LeadRead s at end b true v f
+          go false z = absurd (true≢false (sym z))
+          go true z = record {
+            low = omega (arith, word .low, skipped .low);
+            high = skipped .high;
+            bad = λ x. absurd (true≢false x);
+            form = λ _. behind-form (slice at end s) (words (slice f end s)) count ∙ ap (leb 1) (sym (numbers-counted (slice f end s)));
+            weight-is = λ _. word .value-is yes ∙ sym (ap (weightIn true) on);
+            pins-are = λ _. sym (ap (pinWords true) on);
+          }
 
 -- ---- the i-th number
 pub record OnGet (s : List ℕ) (at end n i k : ℕ) : Type 0 where
@@ -134,77 +173,79 @@ commas-nil : length (commas []) ≡ 0
 unfolding commas
 commas-nil = refl
 
-pub record OnPins (s : List ℕ) (at end n j : ℕ) (stamps : List ℕ) (i count size : ℕ) : Type 0 where
+and-three : (a b c : Bool) → (a && (b && c)) ≡ ((a && b) && c)
+and-three true b c = refl
+and-three false b c = refl
+
+pub record OnPins (s : List ℕ) (at end n j : ℕ) (stamps : List ℕ) (i count : ℕ) (good : Bool) (size : ℕ) : Type 0 where
   pub high : i ≤ end
-  pub are : all (words (slice i end s)) isNumber ≡ true
   pub len : length stamps ≡ 1024
-  pub few : count ≤ i
+  pub few : at + count ≤ i
   pub small : size ≤ 11 * count
   pub seen : List ℕ
-  pub stamped : Stamped seen j stamps
-  pub says : named n [] (valuesAt s at end) ≡ named n seen (valuesAt s i end)
-  pub count-is : count + length (valuesAt s i end) ≡ length (valuesAt s at end)
+  pub stamped : Stamped n seen j stamps
+  pub count-is : numbersIn (slice at end s) ≡ counted count (words (slice i end s))
+  pub says : named n [] (valuesAt s at end) ≡ (good && named n seen (valuesAt s i end))
   pub size-is : size + length (commas (valuesAt s i end)) ≡ length (commas (valuesAt s at end))
 
-pub pins-start : (s : List ℕ) (at end n j : ℕ) (stamps : List ℕ) → at ≤ end → all (words (slice at end s)) isNumber ≡ true → length stamps ≡ 1024 → Fresh j stamps → OnPins s at end n j stamps at 0 0
-pins-start s at end n j stamps le are len fresh = record {
+pub pins-start : (s : List ℕ) (at end n j : ℕ) (stamps : List ℕ) → at ≤ end → length stamps ≡ 1024 → Fresh j stamps → OnPins s at end n j stamps at 0 true 0
+pins-start s at end n j stamps le len fresh = record {
   high = le;
-  are = are;
   len = len;
   few = omega arith;
   small = omega arith;
   seen = [];
-  stamped = stamped-none j stamps fresh;
+  stamped = stamped-none n j stamps fresh;
+  count-is = numbers-counted (slice at end s);
   says = refl;
-  count-is = zero-add _;
   size-is = zero-add _;
 }
 
-module _ (s : List ℕ) (at end n j : ℕ) (stamps : List ℕ) (i count size : ℕ) (on : OnPins s at end n j stamps i count size) (within-s : end ≤ length s) (e v : ℕ) (found : FirstAt s i end 32 e) (is : v ≡ value (slice i e s)) (stamps′ : List ℕ) where
-  pub pins-stop : (r : Bool) → StampOne v n j r stamps stamps′ → r ≡ false → PinsChecked (valuesAt s at end) n j 0 0 stamps′
-  pins-stop true one q = absurd (true≢false q)
-  pins-stop false one q =
-      let w = values-first s i end e v (on .high) within-s found is in
-      record {
-        len = one .len ∙ on .len;
-        small = omega arith;
-        few = omega arith;
-        refused = λ z. on .says ∙ ap (named n (on .seen)) (w .1) ∙ named-cons n (on .seen) v (w .0) false (one .says (on .seen) (on .stamped));
-        carried = λ z. absurd (omega arith);
-        count-is = λ z. absurd (omega arith);
-        size-is = λ z. absurd (omega arith);
-        below = λ z. absurd (omega arith);
-      }
+module _ (s : List ℕ) (at end n j : ℕ) (stamps : List ℕ) (i count : ℕ) (good : Bool) (size : ℕ) (on : OnPins s at end n j stamps i count good size) (within-s : end ≤ length s) (well : Bool) (v e : ℕ) (word : WordRead s i end well v e) where
+  pub pins-stop : well ≡ false → PinsChecked s at end n j 0 false 0 stamps
+  pins-stop q = record {
+    len = on .len;
+    below = λ z. absurd (omega arith);
+    few = omega (arith, on .few, on .high);
+    small = omega arith;
+    count-is = sym (on .count-is ∙ word-count s i end (on .high) within-s well v e word q count);
+    says = λ z. absurd (omega arith);
+    size-is = λ z. absurd (omega arith);
+  }
 
-  module _ (r : Bool) (one : StampOne v n j r stamps stamps′) (yes : r ≡ true) (d : ℕ) (wide : d ≡ length (digits v)) (narrow : d ≤ 10) where
-    pub pins-last : end ≤ 60000 → e ≡ end → PinsChecked (valuesAt s at end) n j (count + 1) (size + (1 + d)) stamps′
-    pins-last short q =
-        let w = values-last s i end e v (on .high) within-s found is q in
-        let next = one .next (on .seen) yes (on .stamped) in
+  module _ (yes : well ≡ true) (r : Bool) (stamps′ : List ℕ) (one : StampOne v n j r stamps stamps′) (g : Bool) (both : g ≡ (good && r)) (d : ℕ) (wide : d ≡ length (digits v)) (narrow : d ≤ 10) where
+    said : (vs : List ℕ) → valuesAt s i end ≡ v ∷ vs → named n [] (valuesAt s at end) ≡ (g && named n (on .seen ++ (v ∷ [])) vs)
+    said vs w =
+        on .says ∙ ap (λ (l : List ℕ). good && named n (on .seen) l) w
+        ∙ ap (λ (b : Bool). good && b) (named-cons n (on .seen) v vs r (one .says (on .seen) (on .stamped)))
+        ∙ and-three good r (named n (on .seen ++ (v ∷ [])) vs)
+        ∙ ap (λ (b : Bool). b && named n (on .seen ++ (v ∷ [])) vs) (sym both)
+
+    pub pins-last : e ≡ end → PinsChecked s at end n j (count + 1) g (size + (1 + d)) stamps′
+    pins-last q =
+        let w = values-last s i end e v (on .high) within-s (word .ends yes) (word .value-is yes) q in
         record {
           len = one .len ∙ on .len;
-          small = omega (arith, on .small, on .few, on .high);
+          below = λ z. one .next (on .seen) (on .stamped) .below;
           few = omega (arith, on .few, on .high);
-          refused = λ z. absurd (omega arith);
-          carried = λ z. on .says ∙ ap (named n (on .seen)) w ∙ named-cons n (on .seen) v [] true (sym yes ∙ one .says (on .seen) (on .stamped)) ∙ named-nil n (on .seen ++ (v ∷ []));
-          count-is = λ z. omega (arith, on .count-is, ap length w);
+          small = omega (arith, on .small);
+          count-is = sym (on .count-is ∙ count-last s i end e count (on .high) within-s (word .ends yes) (word .is yes) q);
+          says = λ z. sym (said [] w ∙ ap (λ (b : Bool). g && b) (named-nil n (on .seen ++ (v ∷ []))) ∙ and-true g);
           size-is = λ z. omega (arith, on .size-is, ap (λ (vs : List ℕ). length (commas vs)) w, commas-cons v [], commas-nil);
-          below = λ z. next .below;
         }
 
-    pub pins-on : (k : ℕ) → e < end → Skipped s (e + 1) end k → OnPins s at end n j stamps′ k (count + 1) (size + (1 + d))
+    pub pins-on : (k : ℕ) → e < end → Skipped s (e + 1) end k → OnPins s at end n j stamps′ k (count + 1) g (size + (1 + d))
     pins-on k lt skipped =
-        let w = values-on s i end e v (on .high) within-s found is k lt skipped in
+        let w = values-on s i end e v (on .high) within-s (word .ends yes) (word .value-is yes) k lt skipped in
         record {
           high = skipped .high;
-          are = words-rest s i end e (on .high) within-s found (on .are) k lt skipped;
           len = one .len ∙ on .len;
-          few = omega (arith, on .few, found .low, skipped .low);
+          few = omega (arith, on .few, word .low, skipped .low);
           small = omega (arith, on .small);
           seen = on .seen ++ (v ∷ []);
-          stamped = one .next (on .seen) yes (on .stamped);
-          says = on .says ∙ ap (named n (on .seen)) w ∙ named-cons n (on .seen) v (valuesAt s k end) true (sym yes ∙ one .says (on .seen) (on .stamped));
-          count-is = omega (arith, on .count-is, ap length w);
+          stamped = one .next (on .seen) (on .stamped);
+          count-is = on .count-is ∙ count-on s i end e count (on .high) within-s (word .ends yes) (word .is yes) k lt skipped;
+          says = said (valuesAt s k end) w;
           size-is = omega (arith, on .size-is, ap (λ (vs : List ℕ). length (commas vs)) w, commas-cons v (valuesAt s k end));
         }
 
@@ -259,47 +300,58 @@ edge-row : (w : ℕ) (vs : List ℕ) → row "BUY" (numbers (w ∷ vs)) ≡ BUY 
 unfolding row bytes tail
 edge-row w vs = ap (λ (t : List ℕ). BUY ++ ((44 ∷ digits w) ++ t)) (tail-commas vs)
 
-module _ (s : List ℕ) (at end : ℕ) (weighted : Bool) (w f : ℕ) (weight-is : w ≡ weightIn weighted (words (slice at end s))) (pin : FirstPin s at end weighted f) where
-  edge-is : edgeOf weighted (slice at end s) ≡ record { weight = w; pins = valuesAt s f end }
-  edge-is = edge-parts weighted (slice at end s) ∙ ap₂ (λ (x : ℕ) (ws : Fields). record { weight = x; pins = map value ws }) (sym weight-is) (sym (pin .is))
+module _ (s : List ℕ) (at end : ℕ) (weighted well : Bool) (w f : ℕ) (lead : LeadRead s at end weighted well w f) where
+  pub edge-bad : at ≤ end → (n j : ℕ) (stamps : List ℕ) → length stamps ≡ 1024 → well ≡ false → EdgeChecked s at end weighted n j 0 false 0 stamps
+  edge-bad le n j stamps len q = record {
+    len = len;
+    below = λ z. absurd (omega arith);
+    few = omega arith;
+    small = omega arith;
+    bad = λ _. lead .bad q;
+    form = λ z. absurd (omega arith);
+    says = λ z. absurd (omega arith);
+    count-is = λ z. absurd (omega arith);
+    size-is = λ z. absurd (omega arith);
+  }
 
-  pub edge-text : edgeRow (edgeOf weighted (slice at end s)) ≡ BUY ++ ((44 ∷ digits w) ++ (commas (valuesAt s f end) ++ (10 ∷ [])))
-  edge-text = ap edgeRow edge-is ∙ edge-row w (valuesAt s f end)
+  pub lead-well : isEdge weighted (slice at end s) ≡ true → well ≡ true
+  lead-well form = go well refl
+    where
+      go : (b : Bool) → well ≡ b → b ≡ true
+      go true q = refl
+      go false q = absurd (true≢false (sym form ∙ lead .bad q))
 
-  pub edge-good : (n j count size d : ℕ) (stamps : List ℕ) → within 1 1000 w ≡ true → d ≡ length (digits w) → d ≤ 10 → PinsChecked (valuesAt s f end) n j count size stamps → EdgeChecked (edgeOf weighted (slice at end s)) n j count (size + 5 + d) stamps
-  unfolding isCarried
-  edge-good n j count size d stamps q wide narrow x =
-      let e : (n : ℕ) → isCarried n (edgeOf weighted (slice at end s)) ≡ named n [] (valuesAt s f end) = λ n. ap (isCarried n) edge-is ∙ ap (λ (b : Bool). b && named n [] (valuesAt s f end)) q in
-      record {
-        len = x .len;
-        small = omega (arith, x .small);
-        few = x .few;
-        refused = λ z. e n ∙ x .refused z;
-        carried = λ z. e n ∙ x .carried z;
-        count-is = λ z. x .count-is z ∙ sym (ap (λ (y : Edge). length (y .pins)) edge-is);
-        size-is = λ z. omega (
-          arith,
-          x .size-is z,
-          ap length edge-text,
-          length-append BUY ((44 ∷ digits w) ++ (commas (valuesAt s f end) ++ (10 ∷ []))),
-          length-append (44 ∷ digits w) (commas (valuesAt s f end) ++ (10 ∷ [])),
-          length-append (commas (valuesAt s f end)) (10 ∷ []),
-        );
-        below = x .below;
-      }
+  pub lead-numbers : isEdge weighted (slice at end s) ≡ true → all (words (slice f end s)) isNumber ≡ true
+  lead-numbers form = numbers-are (slice f end s) 1 (omega arith) (sym (lead .form (lead-well form)) ∙ form) .0
 
-pub edge-heavy : (weighted : Bool) (l : List ℕ) (w n j : ℕ) (stamps : List ℕ) → length stamps ≡ 1024 → w ≡ weightIn weighted (words l) → within 1 1000 w ≡ false → EdgeChecked (edgeOf weighted l) n j 0 0 stamps
-unfolding isCarried
-edge-heavy weighted l w n j stamps len e q = record {
-  len = len;
-  small = omega arith;
-  few = omega arith;
-  refused = λ z. ap (isCarried n) (edge-parts weighted l) ∙ ap (λ (b : Bool). b && named n [] (map value (pinWords weighted (words l)))) (ap (within 1 1000) (sym e) ∙ q);
-  carried = λ z. absurd (omega arith);
-  count-is = λ z. absurd (omega arith);
-  size-is = λ z. absurd (omega arith);
-  below = λ z. absurd (omega arith);
-}
+  module _ (yes : well ≡ true) where
+    edge-is : edgeOf weighted (slice at end s) ≡ record { weight = w; pins = valuesAt s f end }
+    edge-is = edge-parts weighted (slice at end s) ∙ ap₂ (λ (x : ℕ) (ws : Fields). record { weight = x; pins = map value ws }) (sym (lead .weight-is yes)) (sym (lead .pins-are yes))
+
+    pub edge-text : edgeRow (edgeOf weighted (slice at end s)) ≡ BUY ++ ((44 ∷ digits w) ++ (commas (valuesAt s f end) ++ (10 ∷ [])))
+    edge-text = ap edgeRow edge-is ∙ edge-row w (valuesAt s f end)
+
+    pub edge-good : (n j count : ℕ) (good : Bool) (size : ℕ) (stamps : List ℕ) (x : PinsChecked s f end n j count good size stamps) (b : Bool) → b ≡ within 1 1000 w → (g : Bool) → g ≡ (b && good)
+        → (d : ℕ) → d ≡ length (digits w) → d ≤ 10 → EdgeChecked s at end weighted n j count g (size + 5 + d) stamps
+    unfolding isCarried
+    edge-good n j count good size stamps x b range g both d wide narrow = record {
+      len = x .len;
+      below = x .below;
+      few = omega (arith, x .few, lead .low);
+      small = omega (arith, x .small);
+      bad = λ z. lead .form yes ∙ ap (leb 1) (sym (x .count-is) ∙ z);
+      form = λ z. lead .form yes ∙ ap (leb 1) (sym (x .count-is)) ∙ le-leb 1 count z;
+      says = λ z. both ∙ ap₂ (λ (y t : Bool). y && t) range (x .says z) ∙ sym (ap (isCarried n) edge-is);
+      count-is = λ z. x .count-is ∙ numbers-length (slice f end s) (omega (arith, x .count-is)) ∙ sym (length-map (words (slice f end s)) value) ∙ sym (ap (λ (y : Edge). length (y .pins)) edge-is);
+      size-is = λ z. omega (
+        arith,
+        x .size-is z,
+        ap length edge-text,
+        length-append BUY ((44 ∷ digits w) ++ (commas (valuesAt s f end) ++ (10 ∷ []))),
+        length-append (44 ∷ digits w) (commas (valuesAt s f end) ++ (10 ∷ [])),
+        length-append (commas (valuesAt s f end)) (10 ∷ []),
+      );
+    }
 
 -- the line of an edge written part by part
 module _ (out text : List ℕ) (p w : ℕ) (vs : List ℕ) (room : p + length text ≤ length out) (is : text ≡ BUY ++ ((44 ∷ digits w) ++ (commas vs ++ (10 ∷ [])))) where

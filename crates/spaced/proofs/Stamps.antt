@@ -26,8 +26,8 @@ any-nil : (v : ℕ) → any [] (λ x. eqb x v) ≡ false
 unfolding any
 any-nil v = refl
 
-pub stamped-none : (j : ℕ) (stamps : List ℕ) → Fresh j stamps → Stamped [] j stamps
-stamped-none j stamps f = record {
+pub stamped-none : (n j : ℕ) (stamps : List ℕ) → Fresh j stamps → Stamped n [] j stamps
+stamped-none n j stamps f = record {
   below = λ x. omega (arith, f .below x);
   told = λ v l u. any-nil v ∙ sym (ne-eqb (getD stamps (v - 1) 0) j (λ e. omega (arith, f .below (v - 1))));
 }
@@ -36,24 +36,41 @@ module _ (v n j : ℕ) (stamps : List ℕ) (n-le : n ≤ 1024) (s-len : length s
   abbrev new : List ℕ → Bool
   new seen = not (any seen (λ x. eqb x v))
 
-  refused : ((seen : List ℕ) → Stamped seen j stamps → false ≡ (within 1 n v && new seen)) → StampOne v n j false stamps stamps
-  refused f = record { len = refl; says = f; next = λ seen e st. absurd (true≢false (sym e)) }
+  -- no stamp is set, since v is no vertex, or has its stamp
+  kept : (seen : List ℕ) → ((w : ℕ) → 1 ≤ w → w ≤ n → v ≡ w → any seen (λ x. eqb x w) ≡ true) → Stamped n seen j stamps → Stamped n (seen ++ (v ∷ [])) j stamps
+  kept seen old st = record { below = st .below; told = λ w l k. any-more seen v w ∙ go w l k (ℕ-discrete v w) ∙ st .told w l k }
+    where
+      go : (w : ℕ) → 1 ≤ w → w ≤ n → Dec (v ≡ w) → (any seen (λ x. eqb x w) || eqb v w) ≡ any seen (λ x. eqb x w)
+      go w l k (yes q) = ap (λ (b : Bool). b || eqb v w) (old w l k q) ∙ sym (old w l k q)
+      go w l k (no m) = ap (λ (b : Bool). any seen (λ x. eqb x w) || b) (ne-eqb v w m) ∙ or-false (any seen (λ x. eqb x w))
 
   pub stamp-low : v < 1 → StampOne v n j false stamps stamps
-  stamp-low u = refused (λ seen st. sym (ap (λ (b : Bool). b && leb v n && new seen) (lt-leb 1 v u)))
+  stamp-low u = record {
+    len = refl;
+    says = λ seen st. sym (ap (λ (b : Bool). b && leb v n && new seen) (lt-leb 1 v u));
+    next = λ seen st. kept seen (λ w l k q. absurd (omega arith)) st;
+  }
 
   pub stamp-high : n < v → StampOne v n j false stamps stamps
-  stamp-high u = refused (λ seen st. sym (ap (λ (b : Bool). leb 1 v && b && new seen) (lt-leb v n u) ∙ ap (λ (b : Bool). b && new seen) (and-false (leb 1 v))))
+  stamp-high u = record {
+    len = refl;
+    says = λ seen st. sym (ap (λ (b : Bool). leb 1 v && b && new seen) (lt-leb v n u) ∙ ap (λ (b : Bool). b && new seen) (and-false (leb 1 v)));
+    next = λ seen st. kept seen (λ w l k q. absurd (omega arith)) st;
+  }
 
   module _ (low : 1 ≤ v) (high : v ≤ n) where
     pub stamp-twice : getD stamps (v - 1) 0 ≡ j → StampOne v n j false stamps stamps
-    stamp-twice u = refused (λ seen st. sym (ap (λ (b : Bool). within 1 n v && not b) (st .told v low (omega arith) ∙ eq-eqb _ _ u) ∙ and-false (within 1 n v)))
+    stamp-twice u = record {
+      len = refl;
+      says = λ seen st. sym (ap (λ (b : Bool). within 1 n v && not b) (st .told v low high ∙ eq-eqb _ _ u) ∙ and-false (within 1 n v));
+      next = λ seen st. kept seen (λ w l k q. ap (λ (y : ℕ). any seen (λ x. eqb x y)) (sym q) ∙ st .told v low high ∙ eq-eqb _ _ u) st;
+    }
 
     pub stamp-new : (getD stamps (v - 1) 0 ≡ j → ⊥) → StampOne v n j true stamps (set stamps (v - 1) j)
     stamp-new u = record {
       len = simp length-set;
-      says = λ seen st. sym (ap (λ (b : Bool). b && leb v n && new seen) (le-leb 1 v low) ∙ ap (λ (b : Bool). b && new seen) (le-leb v n high) ∙ ap not (st .told v low (omega arith) ∙ ne-eqb _ _ u));
-      next = λ seen e st. record {
+      says = λ seen st. sym (ap (λ (b : Bool). b && leb v n && new seen) (le-leb 1 v low) ∙ ap (λ (b : Bool). b && new seen) (le-leb v n high) ∙ ap not (st .told v low high ∙ ne-eqb _ _ u));
+      next = λ seen st. record {
         below = λ x. stamp-le x (st .below x) (ℕ-discrete x (v - 1));
         told = λ w l k. any-more seen v w ∙ tell w l (any seen (λ x. eqb x w)) (st .told w l k) (ℕ-discrete w v);
       };

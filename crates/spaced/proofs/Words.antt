@@ -3,7 +3,7 @@ use Prim.Native.Nat.{ℕ, zero, suc, _+_, _≤_, _<_}
 use native.Mathlib.Nat.{zero-add}
 use native.Mathlib.Omega.{arith}
 use mathlib.Core.Path.{_≡_, refl, ap, sym, _∙_}
-use mathlib.Core.Bool.{Bool, true, false, cond}
+use mathlib.Core.Bool.{Bool, true, false, cond, true≢false}
 use mathlib.Core.List.{List, [], _∷_}
 use borrow.Author.Tests.{ne-eqb}
 use lib.Dec.{eqb}
@@ -11,12 +11,12 @@ use lib.ListN.{length, getD}
 use lib.Seq.{slice, slice-empty}
 use Rattle.laws.specs.Fold.{all}
 use Rattle.laws.specs.Choice.{cond-no, and-left, and-right}
-use Rattle.model.specs.Grammar.{Fields, onto, parts, isNumber}
-use Rattle.text.specs.Field.{FirstAt, counted}
-use Rattle.text.proofs.Walk.{slice-at, first-here, parts-some}
+use Rattle.model.specs.Grammar.{Fields, onto, parts, isNumber, value}
+use Rattle.text.specs.Field.{first, FirstAt, counted}
+use Rattle.text.proofs.Walk.{slice-at, first-here, first-within, parts-some}
 use Rattle.text.proofs.Lines.{parts-on, parts-last, parts-first, counted-on, counted-end, counted-no}
 use Rattle.model.specs.Hmetis.{later, spread, words, numbersIn}
-use Rattle.spaced.specs.Row.{Skipped}
+use Rattle.spaced.specs.Row.{Skipped, WordRead}
 
 -- ---- spaces passed over
 later-empty : (ps : Fields) → (ps ≡ [] → ⊥) → later ([] ∷ ps) ≡ later ps
@@ -104,3 +104,40 @@ module _ (s : List ℕ) (i end e : ℕ) (le : i ≤ end) (within : end ≤ lengt
 
   pub words-rest : (j : ℕ) → e < end → Skipped s (e + 1) end j → all (words (slice j end s)) isNumber ≡ true
   words-rest j lt skipped = all-rest (slice i e s) (words (slice j end s)) (ap (λ (ws : Fields). all ws isNumber) (sym (words-on s i end e le within found j lt skipped)) ∙ are)
+
+-- ---- where a word ends
+abbrev pub word-end : List ℕ → ℕ → ℕ → ℕ
+word-end s i end = i + first 32 (slice i end s)
+
+pub word-found : (s : List ℕ) (i end : ℕ) → i ≤ end → end ≤ length s → FirstAt s i end 32 (word-end s i end)
+word-found s i end le within = record { is = refl; low = omega arith; high = first-within s i end 32 le within }
+
+module _ (s : List ℕ) (i end e : ℕ) where
+  pub word-none : FirstAt s i end 32 e → isNumber (slice i e s) ≡ false → WordRead s i end false 0 e
+  word-none found n = record {
+    low = found .low;
+    high = found .high;
+    ends = λ z. absurd (true≢false (sym z));
+    is = λ z. absurd (true≢false (sym z));
+    value-is = λ z. absurd (true≢false (sym z));
+    none = λ _ d other. let q : e ≡ d = omega (arith, found .is, other .is) in ap (λ (k : ℕ). isNumber (slice i k s)) (sym q) ∙ n;
+  }
+
+  pub word-here : (v : ℕ) → FirstAt s i end 32 e → isNumber (slice i e s) ≡ true → v ≡ value (slice i e s) → WordRead s i end true v e
+  word-here v found is valued = record { low = found .low; high = found .high; ends = λ _. found; is = λ _. is; value-is = λ _. valued; none = λ z. absurd (true≢false z) }
+
+module _ (s : List ℕ) (i end : ℕ) (le : i ≤ end) (within : end ≤ length s) (well : Bool) (v e : ℕ) (word : WordRead s i end well v e) where
+  -- the word is no number
+  pub word-bad : well ≡ false → isNumber (slice i (word-end s i end) s) ≡ false
+  word-bad q = word .none q (word-end s i end) (word-found s i end le within)
+
+  pub word-count : well ≡ false → (k : ℕ) → counted k (words (slice i end s)) ≡ 0
+  word-count q k = count-bad s i end (word-end s i end) k le within (word-found s i end le within) (word-bad q)
+
+  -- one of a line of numbers is one
+  pub word-well : all (words (slice i end s)) isNumber ≡ true → well ≡ true
+  word-well are = go well refl
+    where
+      go : (b : Bool) → well ≡ b → b ≡ true
+      go true q = refl
+      go false q = absurd (true≢false (sym (word-number s i end (word-end s i end) le within (word-found s i end le within) are) ∙ word-bad q))

@@ -2,7 +2,7 @@
 // Each function is proved against a definition of an hMETIS file.
 use lines::between;
 ghost use mathlib.Core.Path.{_≡_};
-ghost use mathlib.Core.Bool.{true};
+ghost use mathlib.Core.Bool.{true, _&&_};
 ghost use mathlib.Core.List.{map};
 ghost use Prim.Native.Nat.{_+_, _≤_, _<_};
 ghost use lib.ListN.{length};
@@ -12,13 +12,35 @@ ghost use Rattle.model.specs.Grammar.{isNumber, value, at as fieldAt};
 ghost use Rattle.model.specs.Report.{digits};
 ghost use Rattle.fields.specs.Wrote.{Wrote};
 ghost use Rattle.model.specs.Hmetis.{words, numbersIn, isEdge, edgeOf};
-ghost use Rattle.spaced.specs.Row.{Skipped, Numbers, weightIn, FirstPin};
+ghost use Rattle.spaced.specs.Row.{Skipped, Numbers, WordRead, LeadRead};
 ghost use Rattle.spaced.specs.Pins.{Fresh, StampOne, commas, PinsChecked, EdgeChecked, edgeRow};
 
-// The vertices of an edge: how many, or 0 where they can't be carried over; and how many bytes their text has.
+// A word: whether it is a number, and then its value and where it ends.
+pub struct Word {
+    pub well: bool,
+    pub value: u32,
+    pub end: usize,
+}
+
+// The lead of an edge's line: whether it is well written, the edge's weight, and where its first vertex stands.
+pub struct Lead {
+    pub well: bool,
+    pub weight: u32,
+    pub first: usize,
+}
+
+// The vertices of an edge: how many, or 0 where they are badly written; whether they can be carried over; how many bytes their text has.
 pub struct Pins {
     pub count: usize,
+    pub carried: bool,
     pub size: usize,
+}
+
+// Whether both hold, with no branch.
+pub fn both(a: bool, b: bool) -> bool
+    ensures { λ r. ⌜ r ≡ (a && b) ⌝ }
+{
+    a & b
 }
 
 // The first byte at or after `at` and before `end` that is no space, or `end`.
@@ -53,6 +75,27 @@ pub fn read(s: &[u8], at: usize, end: usize) -> u32
     ensures { λ r. ⌜ r ≡ value (slice at end (now (s .entry))) ⌝ }
 {
     text::read_field(s, at, end).value
+}
+
+// The word from `at` on.
+pub fn number(s: &[u8], at: usize, end: usize) -> Word
+    requires { ⌜ (at ≤ end) × (end ≤ length (now s)) ⌝ }
+    ensures { λ r. ⌜ WordRead (now (s .entry)) at end (r .well) (r .value) (r .end) ⌝ }
+{
+    let e = text::find(s, at, end, 32);
+    if !is_number(s, at, e) {
+        return Word {
+            well: false,
+            value: 0,
+            end: e,
+        };
+    }
+    let v = read(s, at, e);
+    Word {
+        well: true,
+        value: v,
+        end: e,
+    }
 }
 
 // How many numbers the line from `at` to `end` has; 0 where it has anything else.
@@ -107,30 +150,40 @@ pub fn width(x: u32) -> usize
     n
 }
 
-// The weight of an edge's line.
-pub fn edge_weight(s: &[u8], at: usize, end: usize, weighted: bool) -> u32
-    requires { ⌜ (at ≤ end) × (end ≤ length (now s)) × (isEdge weighted (slice at end (now s)) ≡ true) ⌝ }
-    ensures { λ r. ⌜ r ≡ weightIn weighted (words (slice at end (now (s .entry)))) ⌝ }
-{
-    if weighted {
-        return get(s, at, end, 0);
-    }
-    1
-}
-
-// Where the first vertex of an edge's line stands.
-pub fn first_pin(s: &[u8], at: usize, end: usize, weighted: bool) -> usize
-    requires { ⌜ (at ≤ end) × (end ≤ length (now s)) × (isEdge weighted (slice at end (now s)) ≡ true) ⌝ }
-    ensures { λ r. ⌜ FirstPin (now (s .entry)) at end weighted r ⌝ }
+// The lead of an edge's line: its weight, where edges have one.
+pub fn read_lead(s: &[u8], at: usize, end: usize, weighted: bool) -> Lead
+    requires { ⌜ (at ≤ end) × (end ≤ length (now s)) ⌝ }
+    ensures { λ r. ⌜ LeadRead (now (s .entry)) at end weighted (r .well) (r .weight) (r .first) ⌝ }
 {
     if !weighted {
-        return at;
+        return Lead {
+            well: true,
+            weight: 1,
+            first: at,
+        };
     }
-    let e = text::find(s, at, end, 32);
+    let x = number(s, at, end);
+    let e = x.end;
+    if !x.well {
+        return Lead {
+            well: false,
+            weight: 0,
+            first: end,
+        };
+    }
     if e == end {
-        return end;
+        return Lead {
+            well: false,
+            weight: 0,
+            first: end,
+        };
     }
-    skip(s, e + 1, end)
+    let f = skip(s, e + 1, end);
+    Lead {
+        well: true,
+        weight: x.value,
+        first: f,
+    }
 }
 
 // One vertex more of edge j: whether it is one of the vertices, and was not named before.
@@ -161,23 +214,31 @@ pub fn check_pins(
     j: u16,
     stamps: &mut [u16; 1024],
 ) -> Pins
-    requires { ⌜ (at ≤ end) × (end ≤ length (now s)) × (end ≤ 60000) × (all (words (slice at end (now s))) isNumber ≡ true) × (vertices ≤ 1024) × (length (now stamps) ≡ 1024) × Fresh j (now stamps) ⌝ }
-    ensures { λ r. ⌜ PinsChecked (map value (words (slice at end (now (s .entry))))) vertices j (r .count) (r .size) (now (stamps .exit)) ⌝ }
+    requires { ⌜ (at ≤ end) × (end ≤ length (now s)) × (end ≤ 60000) × (vertices ≤ 1024) × (length (now stamps) ≡ 1024) × Fresh j (now stamps) ⌝ }
+    ensures { λ r. ⌜ PinsChecked (now (s .entry)) at end vertices j (r .count) (r .carried) (r .size) (now (stamps .exit)) ⌝ }
 {
     let mut i = at;
     let mut n: usize = 0;
+    let mut good = true;
     let mut size: usize = 0;
     loop {
-        let e = text::find(s, i, end, 32);
-        let v = read(s, i, e);
-        if !stamp(v, vertices, j, stamps) {
-            return Pins { count: 0, size: 0 };
+        let x = number(s, i, end);
+        let v = x.value;
+        let e = x.end;
+        if !x.well {
+            return Pins {
+                count: 0,
+                carried: false,
+                size: 0,
+            };
         }
+        good = both(good, stamp(v, vertices, j, stamps));
         n += 1;
         size += 1 + width(v);
         if e == end {
             return Pins {
                 count: n,
+                carried: good,
                 size: size,
             };
         }
@@ -185,7 +246,7 @@ pub fn check_pins(
     }
 }
 
-// Edge j, in the line from `at` to `end`: whether it can be carried over, and how long its line of the catalogue is.
+// Edge j, in the line from `at` to `end`: whether it is well written, whether it can be carried over, and how long its line of the catalogue is.
 pub fn check_edge(
     s: &[u8],
     at: usize,
@@ -195,19 +256,26 @@ pub fn check_edge(
     j: u16,
     stamps: &mut [u16; 1024],
 ) -> Pins
-    requires { ⌜ (at ≤ end) × (end ≤ length (now s)) × (end ≤ 60000) × (isEdge weighted (slice at end (now s)) ≡ true) × (vertices ≤ 1024) × (length (now stamps) ≡ 1024) × Fresh j (now stamps) ⌝ }
-    ensures { λ r. ⌜ EdgeChecked (edgeOf weighted (slice at end (now (s .entry)))) vertices j (r .count) (r .size) (now (stamps .exit)) ⌝ }
+    requires { ⌜ (at ≤ end) × (end ≤ length (now s)) × (end ≤ 60000) × (vertices ≤ 1024) × (length (now stamps) ≡ 1024) × Fresh j (now stamps) ⌝ }
+    ensures { λ r. ⌜ EdgeChecked (now (s .entry)) at end weighted vertices j (r .count) (r .carried) (r .size) (now (stamps .exit)) ⌝ }
 {
-    let w = edge_weight(s, at, end, weighted);
-    if !between(1, 1000, w) {
-        return Pins { count: 0, size: 0 };
+    let x = read_lead(s, at, end, weighted);
+    let w = x.weight;
+    let f = x.first;
+    if !x.well {
+        return Pins {
+            count: 0,
+            carried: false,
+            size: 0,
+        };
     }
-    let p = first_pin(s, at, end, weighted);
-    let r = check_pins(s, p, end, vertices, j, stamps);
+    let r = check_pins(s, f, end, vertices, j, stamps);
     let n = r.count;
+    let good = both(between(1, 1000, w), r.carried);
     let size = r.size + 5 + width(w);
     Pins {
         count: n,
+        carried: good,
         size: size,
     }
 }
@@ -220,8 +288,9 @@ pub fn put_pins(s: &[u8], at: usize, end: usize, out: &mut [u8], p: usize) -> us
     let mut i = at;
     let mut q = p;
     loop {
-        let e = text::find(s, i, end, 32);
-        let v = read(s, i, e);
+        let x = number(s, i, end);
+        let v = x.value;
+        let e = x.end;
         q = fields::put_field(out, q, v);
         if e == end {
             return q;
@@ -235,8 +304,9 @@ pub fn put_edge(s: &[u8], at: usize, end: usize, weighted: bool, out: &mut [u8],
     requires { ⌜ (at ≤ end) × (end ≤ length (now s)) × (isEdge weighted (slice at end (now s)) ≡ true) × (p + length (edgeRow (edgeOf weighted (slice at end (now s)))) ≤ length (now out)) ⌝ }
     ensures { λ r. ⌜ Wrote (now (out .entry)) (now (out .exit)) p (edgeRow (edgeOf weighted (slice at end (now (s .entry))))) r ⌝ }
 {
-    let w = edge_weight(s, at, end, weighted);
-    let f = first_pin(s, at, end, weighted);
+    let x = read_lead(s, at, end, weighted);
+    let w = x.weight;
+    let f = x.first;
     let a = fields::put_word(out, p, b"BUY");
     let b = fields::put_field(out, a, w);
     let c = put_pins(s, f, end, out, b);

@@ -13,7 +13,9 @@ returns-2 : tie.Need-returns-2
 returns-2 c = known-ten (c .before .before .args .c) (c .if2 .taken)
 
 returns-3 : tie.Need-returns-3
-returns-3 c = known-eleven (c .before .before .before .args .c) (c .if3 .taken)
+returns-3 c =
+    let start = c .before .before .before in
+    known-eleven (start .args .c) (c .if3 .taken)
 
 returns-4 : tie.Need-returns-4
 returns-4 c =

@@ -17,7 +17,9 @@ number-end-requires : tie.Need-number-end-requires
 number-end-requires c κs = search needs
 
 returns-2 : tie.Need-returns-2
-returns-2 c = let a = c .before .before .before .args in number-is (now (a .s)) (a .at) (a .end) (omega arith) (omega arith) (c .number-end .result) (omega arith) (c .number-end .ensures)
+returns-2 c =
+    let start = c .before .before .before in
+    let a = start .args in number-is (now (a .s)) (a .at) (a .end) (omega arith) (omega arith) (c .number-end .result) (omega arith) (c .number-end .ensures)
 
 pub is-number-spec : {M : Type 1} → statement M
 is-number-spec = tie.close (tie.spec returns number-end-requires returns-2)

@@ -5,7 +5,7 @@ use native.Mathlib.Omega.{arith}
 use denote.Ref.{now}
 use borrow.Author.Needs.{needs}
 use Rattle.fields.proofs.Laws.{remains-all, wrote-length}
-use Rattle.spaced.proofs.Words.{word-number}
+use Rattle.spaced.proofs.Words.{word-well}
 use Rattle.spaced.proofs.Edges.{OnPut, put-room, put-last, put-on}
 use Rattle.spaced.proofs.put_pins.Statement.{statement}
 use Rattle.spaced.proofs.put_pins.Tie as tie
@@ -17,63 +17,60 @@ abbrev μ-loop : tie.MeasureT-loop
 μ-loop s at end out₀ p i₀ q₀ out i q = end - i
 
 loop-holds : tie.Need-loop-holds Inv-loop μ-loop
-loop-holds c =
-    let start = c .before .before in
-    let a = start .args in record { high = omega arith; are = start .pre .2; left = remains-all (now (a .out)) (a .p) _ }
+loop-holds c = let a = c .before .before .args in record { high = omega arith; are = c .before .before .pre .2; left = remains-all (now (a .out)) (a .p) _ }
 
-find-requires : tie.Need-find-requires Inv-loop μ-loop
-find-requires c κs = search needs
-
-read-requires : tie.Need-read-requires Inv-loop μ-loop
-read-requires c κs =
-    let start = c .before .before .before .before in
-    let a = start .args in let l = c .before .loop in (omega arith, omega arith, word-number (now (a .s)) (l .i) (a .end) (c .find .result) (omega arith) (omega arith) (c .find .ensures) (l .inv .are))
+number-requires : tie.Need-number-requires Inv-loop μ-loop
+number-requires c κs = search needs
 
 put-field-requires : tie.Need-put-field-requires Inv-loop μ-loop
 put-field-requires c κs =
-    let at-find = c .before .before in
-    let at-loop = at-find .before in
-    let start = at-loop .before .before .before in
-    let a = start .args in
-    let l = at-loop .loop in
-    put-room (now (a .s)) (a .at) (a .end) (now (a .out)) (a .p) (l .out) (l .i) (l .q) (l .inv) (omega arith) (start .pre .3) (at-find .find .result) (c .before .read .result) (at-find .find .ensures) (c .before .read .ensures)
+    let start = c .before .before .before .before .before in
+    let a = c .before .before .before .before .before .args in
+    let l = c .before .before .loop in
+    let x = c .before .number in
+    let yes = word-well (now (a .s)) (l .i) (a .end) (omega arith) (omega arith) (x .result .well) (x .result .value) (x .result .end) (x .ensures) (l .inv .are) in
+    put-room (now (a .s)) (a .at) (a .end) (now (a .out)) (a .p) (l .out) (l .i) (l .q) (l .inv) (omega arith) (start .pre .3) (x .result .end) (x .result .value) (x .ensures .ends yes) (x .ensures .value-is yes)
 
 same-length : tie.Need-same-length Inv-loop μ-loop
 same-length c =
     let at-put-field = c .before .before .before in
-    let at-loop = at-put-field .before .before .before .before in
+    let at-loop = at-put-field .before .before .before in
     at-put-field .put-field .kept .0 ∙ at-loop .loop .inv .left .len
 
 returns : tie.Need-returns Inv-loop μ-loop
 returns c =
     let at-put-field = c .before .before .before in
-    let at-read = at-put-field .before .before in
-    let at-find = at-read .before in
-    let at-loop = at-find .before in
-    let start = at-loop .before .before .before in
-    let a = start .args in
-    let l = at-loop .loop in
-    put-last (now (a .s)) (a .at) (a .end) (now (a .out)) (a .p) (l .out) (l .i) (l .q) (l .inv) (omega arith) (start .pre .3) (at-find .find .result) (at-read .read .result) (at-find .find .ensures) (at-read .read .ensures) _ _ (at-put-field .put-field .ensures) (c .if1 .taken)
+    let start = at-put-field .before .before .before .before .before .before in
+    let a = c .before .before .before .before .before .before .before .before .before .args in
+    let l = c .before .before .before .before .before .before .loop in
+    let x = c .before .before .before .before .before .number in
+    let yes = word-well (now (a .s)) (l .i) (a .end) (omega arith) (omega arith) (x .result .well) (x .result .value) (x .result .end) (x .ensures) (l .inv .are) in
+    put-last (now (a .s)) (a .at) (a .end) (now (a .out)) (a .p) (l .out) (l .i) (l .q) (l .inv) (omega arith) (start .pre .3) (x .result .end) (x .result .value) (x .ensures .ends yes) (x .ensures .value-is yes) _ _ (at-put-field .put-field .ensures) (c .if1 .taken)
 
 add-skip : tie.Need-add-skip Inv-loop μ-loop
-add-skip c = omega arith
+add-skip c =
+    let at-number = c .before .before .before .before .before in
+    omega (arith, at-number .number .ensures .high)
 
 skip-requires : tie.Need-skip-requires Inv-loop μ-loop
-skip-requires c κs = search needs
+skip-requires c κs =
+    let at-number = c .before .before .before .before .before in
+    (omega (arith, at-number .number .ensures .high), omega arith)
 
 loop-less : tie.Need-loop-less Inv-loop μ-loop
-loop-less c = omega arith
+loop-less c =
+    let at-number = c .before .before .before .before .before .before in
+    omega (arith, at-number .number .ensures .low, c .skip .ensures .low, c .skip .ensures .high)
 
 loop-again : tie.Need-loop-again Inv-loop μ-loop
 loop-again c =
     let at-put-field = c .before .before .before .before in
-    let at-read = at-put-field .before .before in
-    let at-find = at-read .before in
-    let at-loop = at-find .before in
-    let start = at-loop .before .before .before in
-    let a = start .args in
-    let l = at-loop .loop in
-    put-on (now (a .s)) (a .at) (a .end) (now (a .out)) (a .p) (l .out) (l .i) (l .q) (l .inv) (omega arith) (start .pre .3) (at-find .find .result) (at-read .read .result) (at-find .find .ensures) (at-read .read .ensures) _ _ (at-put-field .put-field .ensures) (c .skip .result) (omega arith) (c .skip .ensures)
+    let start = at-put-field .before .before .before .before .before .before in
+    let a = c .before .before .before .before .before .before .before .before .before .before .args in
+    let l = c .before .before .before .before .before .before .before .loop in
+    let x = c .before .before .before .before .before .before .number in
+    let yes = word-well (now (a .s)) (l .i) (a .end) (omega arith) (omega arith) (x .result .well) (x .result .value) (x .result .end) (x .ensures) (l .inv .are) in
+    put-on (now (a .s)) (a .at) (a .end) (now (a .out)) (a .p) (l .out) (l .i) (l .q) (l .inv) (omega arith) (start .pre .3) (x .result .end) (x .result .value) (x .ensures .ends yes) (x .ensures .value-is yes) _ _ (at-put-field .put-field .ensures) (c .skip .result) (omega (arith, x .ensures .high)) (c .skip .ensures)
 
 pub put-pins-spec : {M : Type 1} → statement M
-put-pins-spec = tie.close (tie.spec Inv-loop μ-loop loop-holds find-requires read-requires put-field-requires same-length returns add-skip skip-requires loop-less loop-again)
+put-pins-spec = tie.close (tie.spec Inv-loop μ-loop loop-holds number-requires put-field-requires same-length returns add-skip skip-requires loop-less loop-again)
