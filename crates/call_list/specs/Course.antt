@@ -13,8 +13,8 @@ use Rattle.model.specs.Engine.{after, answers}
 use Rattle.model.specs.Lent.{callsOf, Two}
 use Rattle.model.specs.Demand.{Accepted, Course}
 use Rattle.guarantees.specs.Caps.{CeilingIs}
-use Rattle.report.specs.Wrote.{Wrote}
-use Rattle.report.proofs.Laws.{wrote-none, wrote-length, wrote-append}
+use Rattle.fields.specs.Wrote.{Wrote}
+use Rattle.fields.proofs.Laws.{wrote-none, wrote-length, wrote-append}
 use Rattle.operations.specs.Tables.{Tables, Sound, Keeps}
 use Rattle.operations.specs.Keeping.{keeps-none, keeps-more}
 use Rattle.edit_calls.specs.Steps.{Runs, Stepped}

@@ -13,9 +13,9 @@ use Rattle.model.specs.Machine.{State}
 use Rattle.model.specs.Memory.{noNet}
 use Rattle.model.specs.Report.{digits, row, lotRows, buyRows, closing}
 use Rattle.levels.specs.Running.{netAt}
-use Rattle.report.specs.Wrote.{Wrote}
+use Rattle.fields.specs.Wrote.{Wrote}
 use Rattle.report.specs.Closing.{Ended}
-use Rattle.report.proofs.Laws.{wrote-none, wrote-append}
+use Rattle.fields.proofs.Laws.{wrote-none, wrote-append}
 
 -- a text of which the first part is written, at a place that is within the buffer, and then the rest of it
 wrote-then : {l m l′ : List ℕ} {at : ℕ} {d : List ℕ} {e : List ℕ} {p r : ℕ} → p ≤ length l → Wrote l m at d p → Wrote m l′ p e r → Wrote l l′ at (d ++ e) r

@@ -1,10 +1,10 @@
 // What a call answers, and the lines of answers and refusals.
-use crate::fields::put_row;
+use fields::put_row;
 ghost use mathlib.Core.List.{[], _∷_};
 ghost use Prim.Native.Nat.{_+_, _≤_};
 ghost use lib.ListN.{length};
 ghost use Rattle.model.specs.Report.{digits, row, answerRow};
-ghost use Rattle.report.specs.Wrote.{Wrote};
+ghost use Rattle.fields.specs.Wrote.{Wrote};
 ghost use Rattle.report.specs.Meaning.{answerOf};
 
 // The answer to a call, with the numbers that its line prints. A total is the metric after the call; a refusal's number is document 01's.

@@ -1,5 +1,5 @@
 // The closing report: the metric of the draft and at the end, the block of each vertex's representative, the connectivity of each net.
-use crate::fields::put_row;
+use fields::put_row;
 use incidence::numbers::index;
 use incidence::numbers::wide;
 ghost use mathlib.Core.Path.{_≡_};
@@ -13,7 +13,7 @@ ghost use Rattle.model.specs.Measure.{Contraction, climb, representative as sta
 ghost use Rattle.model.specs.Machine.{State};
 ghost use Rattle.model.specs.Report.{digits, row, lotRows, buyRows, closing};
 ghost use Rattle.model.specs.Lent.{stackOf};
-ghost use Rattle.report.specs.Wrote.{Wrote};
+ghost use Rattle.fields.specs.Wrote.{Wrote};
 ghost use Rattle.report.specs.Place.{joinPlace};
 ghost use Rattle.report.specs.Closing.{Aboves, Climbable, Vertices, VertexIn, VerticesFit, Nets, NetsFit, Ended, ClosingFits};
 

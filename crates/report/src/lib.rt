@@ -1,4 +1,3 @@
 // Answers and the closing report, written into a lent buffer as model's Report defines them.
 pub mod answers;
 pub mod closing;
-mod fields;

@@ -18,7 +18,7 @@ use Rattle.loader.specs.declared.Sizes.{Sizes}
 use Rattle.loader.specs.declared.Loaded.{Loaded}
 use Rattle.loader.specs.declared.Loaded.the-variants.{Accepted, Refused}
 use Rattle.loader.specs.Tables.{LongLists, graph, seen, Loads}
-use Rattle.report.specs.Wrote.{Wrote}
+use Rattle.fields.specs.Wrote.{Wrote}
 use Rattle.sale.specs.Sale.{Catalogued, Listed}
 use Rattle.sale.specs.Reported.{written-all, Reported}
 

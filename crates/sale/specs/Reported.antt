@@ -12,9 +12,9 @@ use Rattle.model.specs.Engine.{after, run}
 use Rattle.model.specs.Memory.{Tables as Lent, Holds, Written}
 use Rattle.model.specs.Lent.{Two}
 use Rattle.text.specs.Output.{written}
-use Rattle.report.specs.Wrote.{Wrote}
+use Rattle.fields.specs.Wrote.{Wrote}
 use Rattle.report.specs.Closing.{ClosingFits}
-use Rattle.report.proofs.Laws.{wrote-length, wrote-append}
+use Rattle.fields.proofs.Laws.{wrote-length, wrote-append}
 use Rattle.sale.specs.Sale.{Sold}
 
 -- ---- the output

@@ -21,7 +21,7 @@ use Rattle.loader.specs.declared.Sizes.{Sizes}
 use Rattle.loader.specs.declared.Loaded.the-variants.{Accepted}
 use Rattle.loader.specs.Tables.{LongLists, graph, Loads}
 use Rattle.opening.specs.Opening.{Opens, CanOpen, Opened}
-use Rattle.report.specs.Wrote.{Wrote}
+use Rattle.fields.specs.Wrote.{Wrote}
 use Rattle.report.specs.Closing.{Ended}
 use Rattle.operations.specs.Tables.{Tables, tables}
 use Rattle.edit_calls.specs.Steps.{Whole}

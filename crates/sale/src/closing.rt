@@ -5,7 +5,7 @@ ghost use lib.ListN.{length};
 ghost use Rattle.model.specs.Catalogue.{Limits};
 ghost use Rattle.model.specs.Report.{digits, row};
 ghost use Rattle.model.specs.Lent.{callsOf, Lists, lists, lent};
-ghost use Rattle.report.specs.Wrote.{Wrote};
+ghost use Rattle.fields.specs.Wrote.{Wrote};
 ghost use Rattle.loader.specs.Tables.{graph};
 ghost use Rattle.sale.specs.Sale.{Catalogued, Listed, CanSell};
 ghost use Rattle.sale.specs.Reported.{Reported};

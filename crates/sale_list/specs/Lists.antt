@@ -26,7 +26,7 @@ use Rattle.loader.specs.declared.Sizes.{Sizes}
 use Rattle.loader.specs.declared.Loaded.{Loaded}
 use Rattle.loader.specs.declared.Loaded.the-variants.{Accepted, Refused}
 use Rattle.loader.specs.Tables.{graph, seen, Loads}
-use Rattle.report.specs.Wrote.{Wrote}
+use Rattle.fields.specs.Wrote.{Wrote}
 use Rattle.operations.specs.Pairs.{Zeroed, zeroed-pairs, zero-past, zero-new}
 use Rattle.sale.specs.Sale.{Listed as ListedCalls, Sold}
 use Rattle.sale.specs.Reported.{written-all}

@@ -2,7 +2,7 @@
 use native.Mathlib.Omega.{arith}
 use Rattle.model.specs.Grammar.{bytes}
 use Rattle.model.specs.Report.{row}
-use Rattle.report.proofs.Laws.{wrote-append}
+use Rattle.fields.proofs.Laws.{wrote-append}
 use Rattle.report.proofs.Climb.{ended-vertices, ended-nets}
 use Rattle.report.proofs.Rows.{closing-parts, closing-length}
 use borrow.Author.Needs.{needs}

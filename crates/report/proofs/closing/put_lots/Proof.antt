@@ -6,7 +6,7 @@ use Prim.Native.Nat.{ℕ, _-_, _≤_}
 use lib.ListN.{length}
 use Rattle.model.specs.Catalogue.{Hypergraph, vertices}
 use Rattle.model.specs.Machine.{State}
-use Rattle.report.specs.Wrote.{Wrote}
+use Rattle.fields.specs.Wrote.{Wrote}
 use Rattle.report.specs.Closing.{Vertices}
 use Rattle.report.proofs.Rows.{lotsTo, lots-none, lots-room, lots-more, lots-all}
 use borrow.Author.Needs.{needs}

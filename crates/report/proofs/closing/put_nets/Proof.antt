@@ -8,7 +8,7 @@ use Rattle.laws.specs.Sum.{sum}
 use Rattle.laws.specs.Bit.{bit}
 use Rattle.model.specs.Catalogue.{Hypergraph}
 use Rattle.model.specs.Machine.{State}
-use Rattle.report.specs.Wrote.{Wrote}
+use Rattle.fields.specs.Wrote.{Wrote}
 use Rattle.report.specs.Closing.{Nets}
 use Rattle.report.proofs.Rows.{netsTo, nets-none, nets-room, nets-more, nets-all}
 use borrow.Author.Needs.{needs}
