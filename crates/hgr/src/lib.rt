@@ -1,7 +1,7 @@
 // The converter: an hMETIS file with its partition listing to a catalogue's text, or to the number of its refusal.
-use lines::between;
 use passes::Weights;
 use spaced::both;
+use text::between;
 ghost use mathlib.Core.Path.{_≡_};
 ghost use mathlib.Core.Bool.{true, false, _&&_};
 ghost use mathlib.Core.List.{[], _∷_, _++_};

@@ -1,11 +1,12 @@
 // One line of a sale file: the first line, a lot's, a buyer's, a call's. Each function is proved against a definition of model.
+use text::between;
 ghost use mathlib.Core.Path.{_≡_};
 ghost use mathlib.Core.Bool.{true};
 ghost use Prim.Native.Nat.{_≤_};
 ghost use lib.ListN.{length};
 ghost use lib.Seq.{slice};
 ghost use Rattle.laws.specs.Fold.{all};
-ghost use Rattle.model.specs.Grammar.{parts, fields, within, isNumber};
+ghost use Rattle.model.specs.Grammar.{parts, fields, isNumber};
 ghost use Rattle.lines.specs.Line.{limitsOf, CallRead, SaleRead, LotRead};
 ghost use Rattle.lines.specs.Mark.{Fresh, MarkOne, MarksRead, BuyRead};
 
@@ -78,16 +79,6 @@ pub fn call_line(s: &[u8], at: usize, end: usize) -> Ask
         return Ask::Asks(text::letters::A, 0, 0);
     }
     Ask::Nothing
-}
-
-// x is neither below low nor above high.
-pub fn between(low: u32, high: u32, x: u32) -> bool
-    ensures { λ r. ⌜ r ≡ within low high x ⌝ }
-{
-    if x < low {
-        return false;
-    }
-    x <= high
 }
 
 // The first line.

@@ -1,6 +1,6 @@
 // Passes over an hMETIS file: each reads a run of its rows once, tests their form and what can be carried over, and keeps their numbers;
 // then its edges are written. A row is a line of the file that is no comment.
-use lines::between;
+use text::between;
 ghost use mathlib.Core.Path.{_≡_};
 ghost use mathlib.Core.Bool.{true};
 ghost use mathlib.Core.List.{map};

@@ -1,6 +1,6 @@
 // A line of numbers, one or more spaces apart: the words of a line, the numbers in it, and the vertices of an edge, checked and written.
 // Each function is proved against a definition of an hMETIS file.
-use lines::between;
+use text::between;
 ghost use mathlib.Core.Path.{_≡_};
 ghost use mathlib.Core.Bool.{true, _&&_};
 ghost use mathlib.Core.List.{map};

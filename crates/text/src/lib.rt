@@ -6,7 +6,7 @@ ghost use mathlib.Core.Bool.{false, _||_};
 ghost use Prim.Native.Nat.{_+_, _-_, _≤_, _<_};
 ghost use lib.ListN.{length};
 ghost use lib.Seq.{slice};
-ghost use Rattle.model.specs.Grammar.{same, parts, fields, at as fieldAt};
+ghost use Rattle.model.specs.Grammar.{same, parts, fields, within, at as fieldAt};
 ghost use Rattle.model.specs.Report.{digits};
 ghost use Rattle.text.specs.Field.{FirstAt, Without, DigitsEnd, NumberEnd, FieldRead, counted, formOf, Numbered, Third};
 ghost use Rattle.text.specs.Output.{written, signOf};
@@ -132,6 +132,16 @@ pub fn read_field(s: &[u8], at: usize, end: usize) -> Number
         i += 1;
     }
     Number { value: v, end: i }
+}
+
+// x is neither below low nor above high.
+pub fn between(low: u32, high: u32, x: u32) -> bool
+    ensures { λ r. ⌜ r ≡ within low high x ⌝ }
+{
+    if x < low {
+        return false;
+    }
+    x <= high
 }
 
 // Whether the field from `at` to `end` is `w`.

@@ -1,7 +1,7 @@
--- `lines::between` meets its contract.
+-- `text::between` meets its contract.
 use borrow.Author.Tests.{lt-leb, le-leb}
-use Rattle.lines.proofs.between.Statement.{statement}
-use Rattle.lines.proofs.between.Tie as tie
+use Rattle.text.proofs.between.Statement.{statement}
+use Rattle.text.proofs.between.Tie as tie
 
 returns : tie.Need-returns
 returns c = rw (lt-leb (c .before .args .low) (c .before .args .x) (c .if1 .taken))
