@@ -2,3 +2,4 @@ pub mod Words
 pub mod Single
 pub mod Stamps
 pub mod Edges
+pub mod Digits

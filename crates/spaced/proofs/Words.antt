@@ -112,20 +112,6 @@ word-end s i end = i + first 32 (slice i end s)
 pub word-found : (s : List ℕ) (i end : ℕ) → i ≤ end → end ≤ length s → FirstAt s i end 32 (word-end s i end)
 word-found s i end le within = record { is = refl; low = omega arith; high = first-within s i end 32 le within }
 
-module _ (s : List ℕ) (i end e : ℕ) where
-  pub word-none : FirstAt s i end 32 e → isNumber (slice i e s) ≡ false → WordRead s i end false 0 e
-  word-none found n = record {
-    low = found .low;
-    high = found .high;
-    ends = λ z. absurd (true≢false (sym z));
-    is = λ z. absurd (true≢false (sym z));
-    value-is = λ z. absurd (true≢false (sym z));
-    none = λ _ d other. let q : e ≡ d = omega (arith, found .is, other .is) in ap (λ (k : ℕ). isNumber (slice i k s)) (sym q) ∙ n;
-  }
-
-  pub word-here : (v : ℕ) → FirstAt s i end 32 e → isNumber (slice i e s) ≡ true → v ≡ value (slice i e s) → WordRead s i end true v e
-  word-here v found is valued = record { low = found .low; high = found .high; ends = λ _. found; is = λ _. is; value-is = λ _. valued; none = λ z. absurd (true≢false z) }
-
 module _ (s : List ℕ) (i end : ℕ) (le : i ≤ end) (within : end ≤ length s) (well : Bool) (v e : ℕ) (word : WordRead s i end well v e) where
   -- the word is no number
   pub word-bad : well ≡ false → isNumber (slice i (word-end s i end) s) ≡ false

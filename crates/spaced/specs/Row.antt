@@ -1,5 +1,5 @@
 -- The words of a line from a cursor on, and where an edge's weight and its vertices stand. Rests on Hmetis. Assumes nothing.
-use Prim.Native.Nat.{ℕ, _≤_, _<_}
+use Prim.Native.Nat.{ℕ, _+_, _≤_, _<_}
 use mathlib.Core.Path.{_≡_}
 use mathlib.Core.Bool.{Bool, true, false}
 use mathlib.Core.List.{List, [], _∷_}
@@ -7,7 +7,7 @@ use lib.Dec.{leb}
 use lib.ListN.{length}
 use lib.Seq.{slice}
 use Rattle.laws.specs.Fold.{all}
-use Rattle.model.specs.Grammar.{Fields, parts, isNumber, value}
+use Rattle.model.specs.Grammar.{Fields, parts, isDigit, isNumber, value}
 use Rattle.text.specs.Field.{FirstAt}
 use Rattle.model.specs.Hmetis.{later, words, numbersIn, isEdge}
 
@@ -41,6 +41,13 @@ pub record WordRead (s : List ℕ) (at end : ℕ) (well : Bool) (v e : ℕ) : Ty
   pub is : well ≡ true → isNumber (slice at e s) ≡ true
   pub value-is : well ≡ true → v ≡ value (slice at e s)
   pub none : well ≡ false → (d : ℕ) → FirstAt s at end 32 d → isNumber (slice at d s) ≡ false
+
+-- the word of s from `at` on ends at e and is digits of the value v, nine at most
+pub record DigitsRead (s : List ℕ) (at end e v : ℕ) : Type 0 where
+  pub ends : FirstAt s at end 32 e
+  pub short : e ≤ at + 9
+  pub digits : all (slice at e s) isDigit ≡ true
+  pub is : v ≡ value (slice at e s)
 
 -- the lead of an edge's line: its weight, and where its vertices begin; the line is an edge's if and only if numbers follow, and nothing else
 pub record LeadRead (s : List ℕ) (at end : ℕ) (weighted : Bool) (well : Bool) (weight first : ℕ) : Type 0 where

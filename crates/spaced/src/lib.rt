@@ -2,9 +2,9 @@
 // Each function is proved against a definition of an hMETIS file.
 use text::between;
 ghost use mathlib.Core.Path.{_≡_};
-ghost use mathlib.Core.Bool.{true, _&&_};
+ghost use mathlib.Core.Bool.{true, false, _&&_};
 ghost use mathlib.Core.List.{map};
-ghost use Prim.Native.Nat.{_+_, _≤_, _<_};
+ghost use Prim.Native.Nat.{ℕ, _+_, _≤_, _<_};
 ghost use lib.ListN.{length};
 ghost use lib.Seq.{slice};
 ghost use Rattle.laws.specs.Fold.{all};
@@ -12,7 +12,7 @@ ghost use Rattle.model.specs.Grammar.{isNumber, value, at as fieldAt};
 ghost use Rattle.model.specs.Report.{digits};
 ghost use Rattle.fields.specs.Wrote.{Wrote};
 ghost use Rattle.model.specs.Hmetis.{words, numbersIn, isEdge, edgeOf};
-ghost use Rattle.spaced.specs.Row.{Skipped, Numbers, WordRead, LeadRead};
+ghost use Rattle.spaced.specs.Row.{Skipped, Numbers, DigitsRead, WordRead, LeadRead};
 ghost use Rattle.spaced.specs.Pins.{Fresh, StampOne, commas, PinsChecked, EdgeChecked, edgeRow};
 
 // A word: whether it is a number, and then its value and where it ends.
@@ -77,25 +77,67 @@ pub fn read(s: &[u8], at: usize, end: usize) -> u32
     text::read_field(s, at, end).value
 }
 
-// The word from `at` on.
+// What is answered of a word that is no number.
+fn no_number(at: usize) -> Word
+    ensures { λ r. ⌜ (r .well ≡ false) × (r .end ≡ at) ⌝ }
+{
+    Word {
+        well: false,
+        value: 0,
+        end: at,
+    }
+}
+
+// The word from `at` to `end`, which is digits of the value v, nine at most.
+fn digits_word(s: &[u8], at: usize, end: usize, v: u32) -> Word
+    requires { ⌜ (at ≤ end) × (end ≤ length (now s)) ⌝ }
+    ensures { λ r. ⌜ ((to : ℕ) → DigitsRead (now (s .entry)) at to end v → WordRead (now (s .entry)) at to (r .well) (r .value) (r .end)) ⌝ }
+{
+    if at == end {
+        return no_number(at);
+    }
+    if s[at] != 48 {
+        return Word {
+            well: true,
+            value: v,
+            end: end,
+        };
+    }
+    if 1 < end - at {
+        return no_number(at);
+    }
+    Word {
+        well: true,
+        value: v,
+        end: end,
+    }
+}
+
+// The word from `at` on, each byte read once: a pass over an input has a word for each number in it.
 pub fn number(s: &[u8], at: usize, end: usize) -> Word
     requires { ⌜ (at ≤ end) × (end ≤ length (now s)) ⌝ }
     ensures { λ r. ⌜ WordRead (now (s .entry)) at end (r .well) (r .value) (r .end) ⌝ }
 {
-    let e = text::find(s, at, end, 32);
-    if !is_number(s, at, e) {
-        return Word {
-            well: false,
-            value: 0,
-            end: e,
-        };
+    let mut v: u32 = 0;
+    let mut i = at;
+    while i < end {
+        let b = s[i];
+        if b == 32 {
+            return digits_word(s, at, i, v);
+        }
+        if b < 48 {
+            return no_number(at);
+        }
+        if 57 < b {
+            return no_number(at);
+        }
+        if 9 <= i - at {
+            return no_number(at);
+        }
+        v = v * 10 + (b - 48) as u32;
+        i += 1;
     }
-    let v = read(s, at, e);
-    Word {
-        well: true,
-        value: v,
-        end: e,
-    }
+    digits_word(s, at, i, v)
 }
 
 // How many numbers the line from `at` to `end` has; 0 where it has anything else.

@@ -17,17 +17,17 @@ use Rattle.text.proofs.Walk.{slice-at, slice-head, first-on, field-is}
 use Rattle.text.proofs.Lines.{field-end, field-found, parts-first}
 
 -- ---- digits
-digit-range : (b : ℕ) → isDigit b ≡ true → (48 ≤ b) × (b ≤ 57)
+pub digit-range : (b : ℕ) → isDigit b ≡ true → (48 ≤ b) × (b ≤ 57)
 digit-range b e = (leb-true 48 b (and-left (leb 48 b) (leb b 57) e), leb-true b 57 (and-right (leb 48 b) (leb b 57) e))
 
 no-comma : (b : ℕ) → isDigit b ≡ true → eqb b 44 ≡ false
 no-comma b e = ne-eqb b 44 (λ z. omega (arith, digit-range b e))
 
-all-digits : (b : ℕ) (bs : List ℕ) (t : Bool) → isDigit b ≡ t → all (b ∷ bs) isDigit ≡ (t && all bs isDigit)
+pub all-digits : (b : ℕ) (bs : List ℕ) (t : Bool) → isDigit b ≡ t → all (b ∷ bs) isDigit ≡ (t && all bs isDigit)
 unfolding all
 all-digits b bs t e = ap (λ (x : Bool). x && all bs isDigit) e
 
-all-none : all [] isDigit ≡ true
+pub all-none : all [] isDigit ≡ true
 unfolding all
 all-none = refl
 
@@ -103,16 +103,16 @@ no-digits true true false = refl
 no-digits true false z = refl
 no-digits false b z = refl
 
-empty-bad : (l : List ℕ) → length l ≡ 0 → isNumber l ≡ false
+pub empty-bad : (l : List ℕ) → length l ≡ 0 → isNumber l ≡ false
 empty-bad l e = tests l false _ _ _ (lt-leb 1 (length l) (omega arith)) refl refl refl
 
-long-bad : (l : List ℕ) → 9 < length l → isNumber l ≡ false
+pub long-bad : (l : List ℕ) → 9 < length l → isNumber l ≡ false
 long-bad l h = tests l _ false _ _ refl (lt-leb (length l) 9 h) refl refl ∙ no-length (leb 1 (length l)) (leadingZero l) (all l isDigit)
 
-zero-bad : (l : List ℕ) → 1 < length l → getD l 0 0 ≡ 48 → isNumber l ≡ false
+pub zero-bad : (l : List ℕ) → 1 < length l → getD l 0 0 ≡ 48 → isNumber l ≡ false
 zero-bad l h e = tests l _ _ true _ refl refl (rw (lt-ltb 1 (length l) h, eq-eqb (getD l 0 0) 48 e)) refl ∙ no-head (leb 1 (length l)) (leb (length l) 9) (all l isDigit)
 
-other-bad : (l : List ℕ) → all l isDigit ≡ false → isNumber l ≡ false
+pub other-bad : (l : List ℕ) → all l isDigit ≡ false → isNumber l ≡ false
 other-bad l e = tests l _ _ _ false refl refl refl e ∙ no-digits (leb 1 (length l)) (leb (length l) 9) (leadingZero l)
 
 no-zero : (l : List ℕ) → 0 < length l → (1 < length l → getD l 0 0 ≡ 48 → ⊥) → leadingZero l ≡ false
@@ -120,7 +120,7 @@ no-zero [] h n = absurd (omega arith)
 no-zero (b ∷ []) h n = refl
 no-zero (b ∷ (d ∷ f)) h n = rw (lt-ltb 1 (suc (suc (length f))) (omega arith), ne-eqb b 48 (n (omega arith)))
 
-well : (l : List ℕ) → 0 < length l → length l ≤ 9 → (1 < length l → getD l 0 0 ≡ 48 → ⊥) → all l isDigit ≡ true → isNumber l ≡ true
+pub well : (l : List ℕ) → 0 < length l → length l ≤ 9 → (1 < length l → getD l 0 0 ≡ 48 → ⊥) → all l isDigit ≡ true → isNumber l ≡ true
 well l h k n d = tests l true true false true (le-leb 1 (length l) h) (le-leb (length l) 9 k) (no-zero l h n) d
 
 number-short : (l : List ℕ) → isNumber l ≡ true → length l ≤ 9
@@ -195,23 +195,23 @@ module _ (s : List ℕ) (at end e : ℕ) (le : at ≤ end) (within : end ≤ len
       }
 
 -- ---- the value of a field, digit by digit
-value-from : (l : List ℕ) → value l ≡ onward 0 l
+pub value-from : (l : List ℕ) → value l ≡ onward 0 l
 unfolding value
 value-from l = refl
 
-onward-cons : (v b : ℕ) (bs : List ℕ) → onward v (b ∷ bs) ≡ onward (v * 10 + (b - 48)) bs
+pub onward-cons : (v b : ℕ) (bs : List ℕ) → onward v (b ∷ bs) ≡ onward (v * 10 + (b - 48)) bs
 unfolding onward
 onward-cons v b bs = refl
 
-onward-none : (v : ℕ) → onward v [] ≡ v
+pub onward-none : (v : ℕ) → onward v [] ≡ v
 unfolding onward
 onward-none v = refl
 
 -- a number of fewer than nine digits has room for one more
-ten-room : (v k : ℕ) → v < 10 ^ k → k < 9 → v < 100000000
+pub ten-room : (v k : ℕ) → v < 10 ^ k → k < 9 → v < 100000000
 ten-room v k h l = lt-of-lt-of-le h (pow-le-pow-right {n = 10} (omega arith) (le-pred-of-lt l))
 
-ten-more : (v at i d : ℕ) → at ≤ i → v < 10 ^ (i - at) → d < 10 → v * 10 + d < 10 ^ (i + 1 - at)
+pub ten-more : (v at i d : ℕ) → at ≤ i → v < 10 ^ (i - at) → d < 10 → v * 10 + d < 10 ^ (i + 1 - at)
 ten-more v at i d le h l =
     let e : i + 1 - at ≡ suc (i - at) = omega arith in
     rw (e, pow-suc) (omega arith)
