@@ -272,27 +272,24 @@ fn check_rows(
     let weighted = edges_weighted(h.code);
     let known = nameable(h.vertices);
     let x = passes::pass_edges(s, h.next, h.edges as usize, weighted, known);
-    let second = x.next;
-    if second == 0 {
+    if x.next == 0 {
         return bad_rows();
     }
-    let w = weigh(s, h.code, second, h.vertices, weights);
-    let last = w.next;
-    if last == 0 {
+    let w = weigh(s, h.code, x.next, h.vertices, weights);
+    if w.next == 0 {
         return bad_rows();
     }
-    let third = passes::pass_part(s, last);
+    let third = passes::pass_part(s, w.next);
     if third == 0 {
         return bad_rows();
     }
     let l = passes::pass_blocks(s, third, f.blocks, draft);
-    let lines = l.lines;
-    if lines == 0 {
+    if l.lines == 0 {
         return bad_rows();
     }
     let ranges = in_range(f.blocks, f.imbalance, h.vertices, h.edges);
     let carried = carries(ranges, x.carried, x.pins, w.carried);
-    let listed = lists(lines, h.vertices, l.known);
+    let listed = lists(l.lines, h.vertices, l.known);
     Rows {
         well: true,
         carried: carried,
