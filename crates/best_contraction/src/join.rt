@@ -213,7 +213,9 @@ fn best_partner(
 ) -> Partner
     requires { ⌜ TablesOk (now bits) (now presentpins) (now firsts) (now presentsizes) (now netWeights) (now blocks) m n ⌝ }
     requires { ⌜ Blank (now acc) × (1 ≤ u) × (u ≤ n) × (n ≤ length (now weights)) ⌝ }
-    ensures { λ r. ⌜ PartnerOf (scoreOf (now (bits .entry)) (now (presentpins .entry)) (now (firsts .entry)) (now (presentsizes .entry)) (now (netWeights .entry)) (now (blocks .entry)) (now (weights .entry)) m limit u) n (now (acc .exit)) r ⌝ }
+    ensures { λ r. ⌜ PartnerOf
+        (scoreOf (now (bits .entry)) (now (presentpins .entry)) (now (firsts .entry)) (now (presentsizes .entry)) (now (netWeights .entry)) (now (blocks .entry)) (now (weights .entry)) m limit u)
+        n (now (acc .exit)) r ⌝ }
 {
     accumulate(
         acc,
@@ -249,7 +251,9 @@ fn rate(
 ) -> Rated
     requires { ⌜ TablesOk (now bits) (now presentpins) (now firsts) (now presentsizes) (now netWeights) (now blocks) m n ⌝ }
     requires { ⌜ Blank (now acc) × (length (now bounds) ≡ 1025) × (1 ≤ u) × (u ≤ n) × (n ≤ length (now weights)) ⌝ }
-    ensures { λ r. ⌜ Rates (scoreOf (now (bits .entry)) (now (presentpins .entry)) (now (firsts .entry)) (now (presentsizes .entry)) (now (netWeights .entry)) (now (blocks .entry)) (now (weights .entry)) m limit) n (now (bounds .entry)) (now (bounds .exit)) u (r .rating) (r .into) (r .gone) (r .top) ⌝ }
+    ensures { λ r. ⌜ Rates
+        (scoreOf (now (bits .entry)) (now (presentpins .entry)) (now (firsts .entry)) (now (presentsizes .entry)) (now (netWeights .entry)) (now (blocks .entry)) (now (weights .entry)) m limit)
+        n (now (bounds .entry)) (now (bounds .exit)) u (r .rating) (r .into) (r .gone) (r .top) ⌝ }
     ensures { λ r. ⌜ Blank (now (acc .exit)) ⌝ }
 {
     let p = best_partner(
@@ -295,8 +299,12 @@ fn best_join(
     requires { ⌜ TablesOk (now bits) (now presentpins) (now firsts) (now presentsizes) (now netWeights) (now blocks) m n ⌝ }
     requires { ⌜ Blank (now acc) × (1 ≤ n) × (n ≤ length (now weights)) ⌝ }
     requires { ⌜ Bounded (scoreOf (now bits) (now presentpins) (now firsts) (now presentsizes) (now netWeights) (now blocks) (now weights) m limit) n (now bounds) ⌝ }
-    ensures { λ r. ⌜ BestJoin (scoreOf (now (bits .entry)) (now (presentpins .entry)) (now (firsts .entry)) (now (presentsizes .entry)) (now (netWeights .entry)) (now (blocks .entry)) (now (weights .entry)) m limit) n r ⌝ }
-    ensures { λ r. ⌜ Bounded (scoreOf (now (bits .entry)) (now (presentpins .entry)) (now (firsts .entry)) (now (presentsizes .entry)) (now (netWeights .entry)) (now (blocks .entry)) (now (weights .entry)) m limit) n (now (bounds .exit)) ⌝ }
+    ensures { λ r. ⌜ BestJoin
+        (scoreOf (now (bits .entry)) (now (presentpins .entry)) (now (firsts .entry)) (now (presentsizes .entry)) (now (netWeights .entry)) (now (blocks .entry)) (now (weights .entry)) m limit)
+        n r ⌝ }
+    ensures { λ r. ⌜ Bounded
+        (scoreOf (now (bits .entry)) (now (presentpins .entry)) (now (firsts .entry)) (now (presentsizes .entry)) (now (netWeights .entry)) (now (blocks .entry)) (now (weights .entry)) m limit)
+        n (now (bounds .exit)) ⌝ }
     ensures { λ r. ⌜ Blank (now (acc .exit)) ⌝ }
 {
     let start = highest(bounds, n);
@@ -357,8 +365,12 @@ pub fn plan_join(
     requires { ⌜ TablesOk (now bits) (now presentpins) (now firsts) (now presentsizes) (now netWeights) (now blocks) m n ⌝ }
     requires { ⌜ Blank (now acc) × (1 ≤ n) × (n ≤ length (now weights)) ⌝ }
     requires { ⌜ Bounded (scoreOf (now bits) (now presentpins) (now firsts) (now presentsizes) (now netWeights) (now blocks) (now weights) m limit) n (now bounds) ⌝ }
-    ensures { λ r. ⌜ BestJoin (scoreOf (now (bits .entry)) (now (presentpins .entry)) (now (firsts .entry)) (now (presentsizes .entry)) (now (netWeights .entry)) (now (blocks .entry)) (now (weights .entry)) m limit) n r ⌝ }
-    ensures { λ r. ⌜ Planned (scoreOf (now (bits .entry)) (now (presentpins .entry)) (now (firsts .entry)) (now (presentsizes .entry)) (now (netWeights .entry)) (now (blocks .entry)) (now (weights .entry)) m limit) (riseOf (now (bits .entry)) (now (presentpins .entry)) (now (firsts .entry)) (now (presentsizes .entry)) (now (netWeights .entry)) (now (blocks .entry)) m) n (now (bounds .exit)) r ⌝ }
+    ensures { λ r. ⌜ BestJoin
+        (scoreOf (now (bits .entry)) (now (presentpins .entry)) (now (firsts .entry)) (now (presentsizes .entry)) (now (netWeights .entry)) (now (blocks .entry)) (now (weights .entry)) m limit)
+        n r ⌝ }
+    ensures { λ r. ⌜ Planned
+        (scoreOf (now (bits .entry)) (now (presentpins .entry)) (now (firsts .entry)) (now (presentsizes .entry)) (now (netWeights .entry)) (now (blocks .entry)) (now (weights .entry)) m limit)
+        (riseOf (now (bits .entry)) (now (presentpins .entry)) (now (firsts .entry)) (now (presentsizes .entry)) (now (netWeights .entry)) (now (blocks .entry)) m) n (now (bounds .exit)) r ⌝ }
     ensures { λ r. ⌜ Blank (now (acc .exit)) ⌝ }
 {
     let best = best_join(

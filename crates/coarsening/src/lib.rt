@@ -51,11 +51,20 @@ fn coarsen_once(
     total: u32,
     s: Round,
 ) -> Round
-    requires { ⌜ OnceOk (λ loads loadedsizes. tables (now counts) (now visited) (now gains) (now presentpins) (now presentsizes) (now bits) (now blocks) (now weights) (now aboves) loads (now netweights) (now firsts) loadedsizes (size .n) (size .m) (size .k) total) (locals (s .stack .into) (s .stack .gone) (s .stack .len) (s .left)) (size .average) ⌝ }
-    requires { ⌜ Blank (now acc) × Bounded (scoreOf (now bits) (now presentpins) (now firsts) (now presentsizes) (now netweights) (now blocks) (now weights) (size .m) (size .average)) (size .n) (now bounds) ⌝ }
-    ensures { λ r. ⌜ ((loads loadedsizes : List ℕ) → Once (tables (now (counts .entry)) (now (visited .entry)) (now (gains .entry)) (now (presentpins .entry)) (now (presentsizes .entry)) (now (bits .entry)) (now (blocks .entry)) (now (weights .entry)) (now (aboves .entry)) loads (now (netweights .entry)) (now (firsts .entry)) loadedsizes (size .n) (size .m) (size .k) total) (locals (s .stack .into) (s .stack .gone) (s .stack .len) (s .left)) (size .average)
-        (tables (now (counts .exit)) (now (visited .exit)) (now (gains .exit)) (now (presentpins .exit)) (now (presentsizes .exit)) (now (bits .exit)) (now (blocks .exit)) (now (weights .exit)) (now (aboves .exit)) loads (now (netweights .exit)) (now (firsts .exit)) loadedsizes (size .n) (size .m) (size .k) total) (locals (r .stack .into) (r .stack .gone) (r .stack .len) (r .left))) ⌝ }
-    ensures { λ r. ⌜ Blank (now (acc .exit)) × Bounded (scoreOf (now (bits .exit)) (now (presentpins .exit)) (now (firsts .exit)) (now (presentsizes .exit)) (now (netweights .exit)) (now (blocks .exit)) (now (weights .exit)) (size .m) (size .average)) (size .n) (now (bounds .exit)) ⌝ }
+    requires { ⌜ OnceOk
+        (λ loads loadedsizes. tables (now counts) (now visited) (now gains) (now presentpins) (now presentsizes) (now bits) (now blocks) (now weights) (now aboves) loads (now netweights) (now firsts) loadedsizes (size .n) (size .m) (size .k) total)
+        (locals (s .stack .into) (s .stack .gone) (s .stack .len) (s .left)) (size .average) ⌝ }
+    requires { ⌜ Blank (now acc) × Bounded
+        (scoreOf (now bits) (now presentpins) (now firsts) (now presentsizes) (now netweights) (now blocks) (now weights) (size .m) (size .average))
+        (size .n) (now bounds) ⌝ }
+    ensures { λ r. ⌜ ((loads loadedsizes : List ℕ) → Once
+        (tables (now (counts .entry)) (now (visited .entry)) (now (gains .entry)) (now (presentpins .entry)) (now (presentsizes .entry)) (now (bits .entry)) (now (blocks .entry)) (now (weights .entry)) (now (aboves .entry)) loads (now (netweights .entry)) (now (firsts .entry)) loadedsizes (size .n) (size .m) (size .k) total)
+        (locals (s .stack .into) (s .stack .gone) (s .stack .len) (s .left)) (size .average)
+        (tables (now (counts .exit)) (now (visited .exit)) (now (gains .exit)) (now (presentpins .exit)) (now (presentsizes .exit)) (now (bits .exit)) (now (blocks .exit)) (now (weights .exit)) (now (aboves .exit)) loads (now (netweights .exit)) (now (firsts .exit)) loadedsizes (size .n) (size .m) (size .k) total)
+        (locals (r .stack .into) (r .stack .gone) (r .stack .len) (r .left))) ⌝ }
+    ensures { λ r. ⌜ Blank (now (acc .exit)) × Bounded
+        (scoreOf (now (bits .exit)) (now (presentpins .exit)) (now (firsts .exit)) (now (presentsizes .exit)) (now (netweights .exit)) (now (blocks .exit)) (now (weights .exit)) (size .m) (size .average))
+        (size .n) (now (bounds .exit)) ⌝ }
 {
     let pair = plan_join(
         acc,
@@ -124,9 +133,14 @@ pub fn coarsen(
     total: u32,
     stack: Stack,
 ) -> Stack
-    requires { ⌜ CoarsenOk (λ loads loadedsizes. tables (now counts) (now visited) (now gains) (now presentpins) (now presentsizes) (now bits) (now blocks) (now weights) (now aboves) loads (now netweights) (now firsts) loadedsizes (size .n) (size .m) (size .k) total) (stack .into) (stack .gone) (stack .len) (size .average) ⌝ }
-    ensures { λ r. ⌜ ((loads loadedsizes : List ℕ) → Coarsens (tables (now (counts .entry)) (now (visited .entry)) (now (gains .entry)) (now (presentpins .entry)) (now (presentsizes .entry)) (now (bits .entry)) (now (blocks .entry)) (now (weights .entry)) (now (aboves .entry)) loads (now (netweights .entry)) (now (firsts .entry)) loadedsizes (size .n) (size .m) (size .k) total) (stack .into) (stack .gone) (stack .len) (size .average)
-        (tables (now (counts .exit)) (now (visited .exit)) (now (gains .exit)) (now (presentpins .exit)) (now (presentsizes .exit)) (now (bits .exit)) (now (blocks .exit)) (now (weights .exit)) (now (aboves .exit)) loads (now (netweights .exit)) (now (firsts .exit)) loadedsizes (size .n) (size .m) (size .k) total) (r .into) (r .gone) (r .len)) ⌝ }
+    requires { ⌜ CoarsenOk
+        (λ loads loadedsizes. tables (now counts) (now visited) (now gains) (now presentpins) (now presentsizes) (now bits) (now blocks) (now weights) (now aboves) loads (now netweights) (now firsts) loadedsizes (size .n) (size .m) (size .k) total)
+        (stack .into) (stack .gone) (stack .len) (size .average) ⌝ }
+    ensures { λ r. ⌜ ((loads loadedsizes : List ℕ) → Coarsens
+        (tables (now (counts .entry)) (now (visited .entry)) (now (gains .entry)) (now (presentpins .entry)) (now (presentsizes .entry)) (now (bits .entry)) (now (blocks .entry)) (now (weights .entry)) (now (aboves .entry)) loads (now (netweights .entry)) (now (firsts .entry)) loadedsizes (size .n) (size .m) (size .k) total)
+        (stack .into) (stack .gone) (stack .len) (size .average)
+        (tables (now (counts .exit)) (now (visited .exit)) (now (gains .exit)) (now (presentpins .exit)) (now (presentsizes .exit)) (now (bits .exit)) (now (blocks .exit)) (now (weights .exit)) (now (aboves .exit)) loads (now (netweights .exit)) (now (firsts .exit)) loadedsizes (size .n) (size .m) (size .k) total)
+        (r .into) (r .gone) (r .len)) ⌝ }
 {
     let mut acc = [0u64; 1025];
     let mut bounds = [0u64; 1025];

@@ -56,9 +56,13 @@ pub fn call_move(
     u: usize,
     t: usize,
 ) -> MoveTurn
-    requires { ⌜ ReadyM (λ aboves loadedsizes. tables (now counts) (now visited) (now gains) (now presentpins) (now presentsizes) (now bits) (now blocks) (now weights) aboves (now loads) (now netweights) (now firsts) loadedsizes n m k total) (two (journal .vertices) (journal .blocks) (journal .len)) ⌝ }
-    ensures { λ r. ⌜ ((aboves loadedsizes : List ℕ) (S : Two) (h : Hypergraph) (ceiling : ℕ → ℕ) → CeilingIs (now (ceilings .entry)) h ceiling → Called h ceiling (tables (now (counts .entry)) (now (visited .entry)) (now (gains .entry)) (now (presentpins .entry)) (now (presentsizes .entry)) (now (bits .entry)) (now (blocks .entry)) (now (weights .entry)) aboves (now (loads .entry)) (now (netweights .entry)) (now (firsts .entry)) loadedsizes n m k total)
-        (tables (now (counts .exit)) (now (visited .exit)) (now (gains .exit)) (now (presentpins .exit)) (now (presentsizes .exit)) (now (bits .exit)) (now (blocks .exit)) (now (weights .exit)) aboves (now (loads .exit)) (now (netweights .exit)) (now (firsts .exit)) loadedsizes n m k (r .total)) S S (two (journal .vertices) (journal .blocks) (journal .len)) (two (r .journal .vertices) (r .journal .blocks) (r .journal .len)) (callM u t) (told (r .no) (saysM (r .halves .freed) (r .halves .drawn) (r .total)))) ⌝ }
+    requires { ⌜ ReadyM
+        (λ aboves loadedsizes. tables (now counts) (now visited) (now gains) (now presentpins) (now presentsizes) (now bits) (now blocks) (now weights) aboves (now loads) (now netweights) (now firsts) loadedsizes n m k total)
+        (two (journal .vertices) (journal .blocks) (journal .len)) ⌝ }
+    ensures { λ r. ⌜ ((aboves loadedsizes : List ℕ) (S : Two) (h : Hypergraph) (ceiling : ℕ → ℕ) → CeilingIs (now (ceilings .entry)) h ceiling → Called h ceiling
+        (tables (now (counts .entry)) (now (visited .entry)) (now (gains .entry)) (now (presentpins .entry)) (now (presentsizes .entry)) (now (bits .entry)) (now (blocks .entry)) (now (weights .entry)) aboves (now (loads .entry)) (now (netweights .entry)) (now (firsts .entry)) loadedsizes n m k total)
+        (tables (now (counts .exit)) (now (visited .exit)) (now (gains .exit)) (now (presentpins .exit)) (now (presentsizes .exit)) (now (bits .exit)) (now (blocks .exit)) (now (weights .exit)) aboves (now (loads .exit)) (now (netweights .exit)) (now (firsts .exit)) loadedsizes n m k (r .total))
+        S S (two (journal .vertices) (journal .blocks) (journal .len)) (two (r .journal .vertices) (r .journal .blocks) (r .journal .len)) (callM u t) (told (r .no) (saysM (r .halves .freed) (r .halves .drawn) (r .total)))) ⌝ }
 {
     let no = refuses_move(blocks, loads, ceilings, weights, n, k, u, t);
     if no != 0 {
@@ -117,9 +121,13 @@ pub fn call_back(
     total: u32,
     journal: Journal,
 ) -> BackTurn
-    requires { ⌜ ReadyM (λ aboves loadedsizes. tables (now counts) (now visited) (now gains) (now presentpins) (now presentsizes) (now bits) (now blocks) (now weights) aboves (now loads) (now netweights) (now firsts) loadedsizes n m k total) (two (journal .vertices) (journal .blocks) (journal .len)) ⌝ }
-    ensures { λ r. ⌜ ((aboves loadedsizes : List ℕ) (S : Two) (h : Hypergraph) (ceiling : ℕ → ℕ) → Called h ceiling (tables (now (counts .entry)) (now (visited .entry)) (now (gains .entry)) (now (presentpins .entry)) (now (presentsizes .entry)) (now (bits .entry)) (now (blocks .entry)) (now (weights .entry)) aboves (now (loads .entry)) (now (netweights .entry)) (now (firsts .entry)) loadedsizes n m k total)
-        (tables (now (counts .exit)) (now (visited .exit)) (now (gains .exit)) (now (presentpins .exit)) (now (presentsizes .exit)) (now (bits .exit)) (now (blocks .exit)) (now (weights .exit)) aboves (now (loads .exit)) (now (netweights .exit)) (now (firsts .exit)) loadedsizes n m k (r .total)) S S (two (journal .vertices) (journal .blocks) (journal .len)) (two (r .journal .vertices) (r .journal .blocks) (r .journal .len)) callB (told (r .no) (saysB (r .vertex) (r .block) (r .total)))) ⌝ }
+    requires { ⌜ ReadyM
+        (λ aboves loadedsizes. tables (now counts) (now visited) (now gains) (now presentpins) (now presentsizes) (now bits) (now blocks) (now weights) aboves (now loads) (now netweights) (now firsts) loadedsizes n m k total)
+        (two (journal .vertices) (journal .blocks) (journal .len)) ⌝ }
+    ensures { λ r. ⌜ ((aboves loadedsizes : List ℕ) (S : Two) (h : Hypergraph) (ceiling : ℕ → ℕ) → Called h ceiling
+        (tables (now (counts .entry)) (now (visited .entry)) (now (gains .entry)) (now (presentpins .entry)) (now (presentsizes .entry)) (now (bits .entry)) (now (blocks .entry)) (now (weights .entry)) aboves (now (loads .entry)) (now (netweights .entry)) (now (firsts .entry)) loadedsizes n m k total)
+        (tables (now (counts .exit)) (now (visited .exit)) (now (gains .exit)) (now (presentpins .exit)) (now (presentsizes .exit)) (now (bits .exit)) (now (blocks .exit)) (now (weights .exit)) aboves (now (loads .exit)) (now (netweights .exit)) (now (firsts .exit)) loadedsizes n m k (r .total))
+        S S (two (journal .vertices) (journal .blocks) (journal .len)) (two (r .journal .vertices) (r .journal .blocks) (r .journal .len)) callB (told (r .no) (saysB (r .vertex) (r .block) (r .total)))) ⌝ }
 {
     let at = journal.len;
     if at == 0 {

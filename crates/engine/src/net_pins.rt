@@ -18,7 +18,9 @@ pub fn pins_of<'a>(
     present: bool,
     e: u32,
 ) -> &'a [u16]
-    ensures { λ r. ⌜ now r ≡ partOf (cond present (now (presentpins .entry)) (now (loadedpins .entry))) (handedOut (netTables (now (loadedpins .entry)) (now (presentpins .entry)) (now (firsts .entry)) (now (loadedsizes .entry)) (now (presentsizes .entry))) present e) ⌝ }
+    ensures { λ r. ⌜ now r ≡ partOf (cond present (now (presentpins .entry)) (now (loadedpins .entry))) (handedOut
+        (netTables (now (loadedpins .entry)) (now (presentpins .entry)) (now (firsts .entry)) (now (loadedsizes .entry)) (now (presentsizes .entry)))
+        present e) ⌝ }
 {
     let stretch = stretch_of(
         loadedpins,
@@ -46,7 +48,11 @@ pub extern "C" fn kapokdrill_pins(
     present: bool,
     e: u32,
 ) -> Stretch
-    ensures { λ r. ⌜ (r .first ≡ handedOut (netTables (now (loadedpins .entry)) (now (presentpins .entry)) (now (firsts .entry)) (now (loadedsizes .entry)) (now (presentsizes .entry))) present e .from) × (r .size ≡ handedOut (netTables (now (loadedpins .entry)) (now (presentpins .entry)) (now (firsts .entry)) (now (loadedsizes .entry)) (now (presentsizes .entry))) present e .size) ⌝ }
+    ensures { λ r. ⌜ (r .first ≡ handedOut
+        (netTables (now (loadedpins .entry)) (now (presentpins .entry)) (now (firsts .entry)) (now (loadedsizes .entry)) (now (presentsizes .entry)))
+        present e .from) × (r .size ≡ handedOut
+        (netTables (now (loadedpins .entry)) (now (presentpins .entry)) (now (firsts .entry)) (now (loadedsizes .entry)) (now (presentsizes .entry)))
+        present e .size) ⌝ }
 {
     stretch_of(
         loadedpins,

@@ -266,7 +266,8 @@ fn check_rows(
     weights: &mut [u32; 1024],
     draft: &mut [u16; 1024],
 ) -> Rows
-    requires { ⌜ (length (now s) ≤ 60000) × Begun (now s) (h .next) (h .code) (h .edges) (h .vertices) (f .blocks) (f .imbalance) × (now weights ≡ replicate 1024 1) × (length (now draft) ≡ 1024) ⌝ }
+    requires { ⌜ (length (now s) ≤ 60000) × Begun (now s) (h .next) (h .code) (h .edges) (h .vertices) (f .blocks) (f .imbalance) × (now weights ≡ replicate 1024 1)
+        × (length (now draft) ≡ 1024) ⌝ }
     ensures { λ r. ⌜ Checked (now (s .entry)) (r .well) (r .carried) (r .listed) (r .size) (now (weights .exit)) (now (draft .exit)) ⌝ }
 {
     let weighted = edges_weighted(h.code);

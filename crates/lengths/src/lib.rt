@@ -20,7 +20,8 @@ pub fn is_long(
     gains: &[i32],
     visited: &[u16],
 ) -> bool
-    ensures { λ r. ⌜ ((limits : Limits) → limits .vertexLimit ≡ vmax → r ≡ longMemory limits (memory (now (output .entry)) (lent (lists (now (weights .entry)) (now (blocks .entry)) (now (aboves .entry)) (now (loadedpins .entry)) (now (presentpins .entry)) (now (firsts .entry)) (now (loadedsizes .entry)) (now (presentsizes .entry))) (now (counts .entry)) (now (gains .entry)) (now (visited .entry))))) ⌝ }
+    ensures { λ r. ⌜ ((limits : Limits) → limits .vertexLimit ≡ vmax → r ≡ longMemory limits
+        (memory (now (output .entry)) (lent (lists (now (weights .entry)) (now (blocks .entry)) (now (aboves .entry)) (now (loadedpins .entry)) (now (presentpins .entry)) (now (firsts .entry)) (now (loadedsizes .entry)) (now (presentsizes .entry))) (now (counts .entry)) (now (gains .entry)) (now (visited .entry))))) ⌝ }
 {
     let lots = vmax as usize;
     if output.len() < 60000 {

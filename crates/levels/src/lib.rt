@@ -33,7 +33,10 @@ pub fn move_vertex(
     t: u16,
 )
     requires { ⌜ MoveNeeds (running (now counts) (now visited) (now gains) (now presentpins) (now presentsizes) (now bits) (now blocks) (now netweights) (now firsts)) n m k u t ⌝ }
-    ensures { λ _. ⌜ MoveDoes (running (now (counts .entry)) (now (visited .entry)) (now (gains .entry)) (now (presentpins .entry)) (now (presentsizes .entry)) (now (bits .entry)) (now (blocks .entry)) (now (netweights .entry)) (now (firsts .entry))) (running (now (counts .exit)) (now (visited .exit)) (now (gains .exit)) (now (presentpins .entry)) (now (presentsizes .entry)) (now (bits .entry)) (now (blocks .exit)) (now (netweights .entry)) (now (firsts .entry))) n m k u t ⌝ }
+    ensures { λ _. ⌜ MoveDoes
+        (running (now (counts .entry)) (now (visited .entry)) (now (gains .entry)) (now (presentpins .entry)) (now (presentsizes .entry)) (now (bits .entry)) (now (blocks .entry)) (now (netweights .entry)) (now (firsts .entry)))
+        (running (now (counts .exit)) (now (visited .exit)) (now (gains .exit)) (now (presentpins .entry)) (now (presentsizes .entry)) (now (bits .entry)) (now (blocks .exit)) (now (netweights .entry)) (now (firsts .entry)))
+        n m k u t ⌝ }
 {
     let s = index(blocks[u]);
     let b = index(t);
@@ -127,8 +130,13 @@ pub fn contract(
     u: usize,
     v: usize,
 )
-    requires { ⌜ ContractNeeds (running (now counts) (now visited) (now gains) (now presentpins) (now presentsizes) (now bits) (now blocks) (now netweights) (now firsts)) n m k u v ⌝ }
-    ensures { λ _. ⌜ ContractDoes (running (now (counts .entry)) (now (visited .entry)) (now (gains .entry)) (now (presentpins .entry)) (now (presentsizes .entry)) (now (bits .entry)) (now (blocks .entry)) (now (netweights .entry)) (now (firsts .entry))) (running (now (counts .exit)) (now (visited .exit)) (now (gains .exit)) (now (presentpins .exit)) (now (presentsizes .exit)) (now (bits .exit)) (now (blocks .exit)) (now (netweights .entry)) (now (firsts .entry))) n m k u v ⌝ }
+    requires { ⌜ ContractNeeds
+        (running (now counts) (now visited) (now gains) (now presentpins) (now presentsizes) (now bits) (now blocks) (now netweights) (now firsts))
+        n m k u v ⌝ }
+    ensures { λ _. ⌜ ContractDoes
+        (running (now (counts .entry)) (now (visited .entry)) (now (gains .entry)) (now (presentpins .entry)) (now (presentsizes .entry)) (now (bits .entry)) (now (blocks .entry)) (now (netweights .entry)) (now (firsts .entry)))
+        (running (now (counts .exit)) (now (visited .exit)) (now (gains .exit)) (now (presentpins .exit)) (now (presentsizes .exit)) (now (bits .exit)) (now (blocks .exit)) (now (netweights .entry)) (now (firsts .entry)))
+        n m k u v ⌝ }
 {
     contract_nets(
         counts,
@@ -216,8 +224,13 @@ pub fn uncontract(
     u: usize,
     v: usize,
 )
-    requires { ⌜ UncontractNeeds (now loadedsizes) (running (now counts) (now visited) (now gains) (now presentpins) (now presentsizes) (now bits) (now blocks) (now netweights) (now firsts)) n m k u v ⌝ }
-    ensures { λ _. ⌜ UncontractDoes (now (loadedsizes .entry)) (running (now (counts .entry)) (now (visited .entry)) (now (gains .entry)) (now (presentpins .entry)) (now (presentsizes .entry)) (now (bits .entry)) (now (blocks .entry)) (now (netweights .entry)) (now (firsts .entry))) (running (now (counts .exit)) (now (visited .exit)) (now (gains .exit)) (now (presentpins .exit)) (now (presentsizes .exit)) (now (bits .exit)) (now (blocks .exit)) (now (netweights .entry)) (now (firsts .entry))) n m k u v ⌝ }
+    requires { ⌜ UncontractNeeds (now loadedsizes)
+        (running (now counts) (now visited) (now gains) (now presentpins) (now presentsizes) (now bits) (now blocks) (now netweights) (now firsts))
+        n m k u v ⌝ }
+    ensures { λ _. ⌜ UncontractDoes (now (loadedsizes .entry))
+        (running (now (counts .entry)) (now (visited .entry)) (now (gains .entry)) (now (presentpins .entry)) (now (presentsizes .entry)) (now (bits .entry)) (now (blocks .entry)) (now (netweights .entry)) (now (firsts .entry)))
+        (running (now (counts .exit)) (now (visited .exit)) (now (gains .exit)) (now (presentpins .exit)) (now (presentsizes .exit)) (now (bits .exit)) (now (blocks .exit)) (now (netweights .entry)) (now (firsts .entry)))
+        n m k u v ⌝ }
 {
     blocks[v] = blocks[u];
     uncontract_nets(

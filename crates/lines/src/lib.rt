@@ -168,7 +168,8 @@ fn read_pins(
     loadedpins: &mut [u16],
     stamps: &mut [u16; 1024],
 ) -> Pinned
-    requires { ⌜ (at ≤ end) × (end ≤ length (now s)) × (all (parts 44 (slice at end (now s))) isNumber ≡ true) × (vertices ≤ 1024) × (first ≤ 8192) × (8192 ≤ length (now loadedpins)) × (length (now stamps) ≡ 1024) × Fresh j (now stamps) ⌝ }
+    requires { ⌜ (at ≤ end) × (end ≤ length (now s)) × (all (parts 44 (slice at end (now s))) isNumber ≡ true) × (vertices ≤ 1024) × (first ≤ 8192)
+        × (8192 ≤ length (now loadedpins)) × (length (now stamps) ≡ 1024) × Fresh j (now stamps) ⌝ }
     ensures { λ r. ⌜ MarksRead (parts 44 (slice at end (now (s .entry)))) vertices j first r (now (loadedpins .entry)) (now (loadedpins .exit)) (now (stamps .exit)) ⌝ }
 {
     let mut i = at;

@@ -64,8 +64,11 @@ fn start(
     presentpins: &mut [u16],
     presentsizes: &mut [u16],
 )
-    requires { ⌜ (vertices ≤ length (now aboves)) × (m ≤ length (now loadedpins)) × (m ≤ length (now presentpins)) × (nets ≤ length (now loadedsizes)) × (nets ≤ length (now presentsizes)) ⌝ }
-    ensures { λ _. ⌜ Filled 0 (λ i. ltb i vertices) (λ i. 0) (now (aboves .entry)) (now (aboves .exit)) × Filled 0 (λ i. ltb i m) (λ i. getD (now (loadedpins .entry)) i 0) (now (presentpins .entry)) (now (presentpins .exit)) × Filled 0 (λ i. ltb i nets) (λ i. getD (now (loadedsizes .entry)) i 0) (now (presentsizes .entry)) (now (presentsizes .exit)) ⌝ }
+    requires { ⌜ (vertices ≤ length (now aboves)) × (m ≤ length (now loadedpins)) × (m ≤ length (now presentpins)) × (nets ≤ length (now loadedsizes))
+        × (nets ≤ length (now presentsizes)) ⌝ }
+    ensures { λ _. ⌜ Filled 0 (λ i. ltb i vertices) (λ i. 0) (now (aboves .entry)) (now (aboves .exit))
+        × Filled 0 (λ i. ltb i m) (λ i. getD (now (loadedpins .entry)) i 0) (now (presentpins .entry)) (now (presentpins .exit))
+        × Filled 0 (λ i. ltb i nets) (λ i. getD (now (loadedsizes .entry)) i 0) (now (presentsizes .entry)) (now (presentsizes .exit)) ⌝ }
 {
     clear(aboves, vertices);
     copy(loadedpins, presentpins, m);
@@ -82,7 +85,8 @@ fn measure(
     pins: usize,
     calls: usize,
 ) -> Sizes
-    requires { ⌜ (vertices ≤ 1024) × (vertices ≤ length (now weights)) × (1 ≤ blocks) × (blocks ≤ 16) × (imbalance ≤ 1000) × (averageOf blocks (take vertices (now weights)) ≤ 67107871) ⌝ }
+    requires { ⌜ (vertices ≤ 1024) × (vertices ≤ length (now weights)) × (1 ≤ blocks) × (blocks ≤ 16) × (imbalance ≤ 1000)
+        × (averageOf blocks (take vertices (now weights)) ≤ 67107871) ⌝ }
     ensures { λ r. ⌜ r ≡ sizesOf vertices nets blocks imbalance pins calls (averageOf blocks (take vertices (now (weights .entry)))) (nearest ((1000 + imbalance) * averageOf blocks (take vertices (now (weights .entry))))) ⌝ }
 {
     let average = reader::average_weight(weights, vertices as usize, blocks);
@@ -115,8 +119,12 @@ pub fn load(
     netweights: &mut [u16; 1024],
     calls: &mut [u32],
 ) -> Loaded
-    requires { ⌜ (vmax ≤ 1024) × (bmax ≤ 16) × (length (now netweights) ≡ 1024) × (1536 ≤ length (now calls)) × LongLists vmax (lists (now weights) (now blocks) (now aboves) (now loadedpins) (now presentpins) (now firsts) (now loadedsizes) (now presentsizes)) ⌝ }
-    ensures { λ r. ⌜ Loads (limitsOf vmax bmax) (now (s .entry)) r (lists (now (weights .entry)) (now (blocks .entry)) (now (aboves .entry)) (now (loadedpins .entry)) (now (presentpins .entry)) (now (firsts .entry)) (now (loadedsizes .entry)) (now (presentsizes .entry))) (lists (now (weights .exit)) (now (blocks .exit)) (now (aboves .exit)) (now (loadedpins .exit)) (now (presentpins .exit)) (now (firsts .exit)) (now (loadedsizes .exit)) (now (presentsizes .exit))) (now (netweights .exit)) (now (calls .exit)) ⌝ }
+    requires { ⌜ (vmax ≤ 1024) × (bmax ≤ 16) × (length (now netweights) ≡ 1024) × (1536 ≤ length (now calls)) × LongLists vmax
+        (lists (now weights) (now blocks) (now aboves) (now loadedpins) (now presentpins) (now firsts) (now loadedsizes) (now presentsizes)) ⌝ }
+    ensures { λ r. ⌜ Loads (limitsOf vmax bmax) (now (s .entry)) r
+        (lists (now (weights .entry)) (now (blocks .entry)) (now (aboves .entry)) (now (loadedpins .entry)) (now (presentpins .entry)) (now (firsts .entry)) (now (loadedsizes .entry)) (now (presentsizes .entry)))
+        (lists (now (weights .exit)) (now (blocks .exit)) (now (aboves .exit)) (now (loadedpins .exit)) (now (presentpins .exit)) (now (firsts .exit)) (now (loadedsizes .exit)) (now (presentsizes .exit)))
+        (now (netweights .exit)) (now (calls .exit)) ⌝ }
 {
     match reader::read(
         s,

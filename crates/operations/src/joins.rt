@@ -54,9 +54,13 @@ pub fn join(
     u: usize,
     v: usize,
 )
-    requires { ⌜ CanJoin (λ loads loadedsizes. tables (now counts) (now visited) (now gains) (now presentpins) (now presentsizes) (now bits) (now blocks) (now weights) (now aboves) loads (now netweights) (now firsts) loadedsizes n m k total) u v ⌝ }
-    ensures { λ _. ⌜ ((loads loadedsizes : List ℕ) → Joined (tables (now (counts .entry)) (now (visited .entry)) (now (gains .entry)) (now (presentpins .entry)) (now (presentsizes .entry)) (now (bits .entry)) (now (blocks .entry)) (now (weights .entry)) (now (aboves .entry)) loads (now (netweights .entry)) (now (firsts .entry)) loadedsizes n m k total)
-        (tables (now (counts .exit)) (now (visited .exit)) (now (gains .exit)) (now (presentpins .exit)) (now (presentsizes .exit)) (now (bits .exit)) (now (blocks .exit)) (now (weights .exit)) (now (aboves .exit)) loads (now (netweights .exit)) (now (firsts .exit)) loadedsizes n m k total) u v) ⌝ }
+    requires { ⌜ CanJoin
+        (λ loads loadedsizes. tables (now counts) (now visited) (now gains) (now presentpins) (now presentsizes) (now bits) (now blocks) (now weights) (now aboves) loads (now netweights) (now firsts) loadedsizes n m k total)
+        u v ⌝ }
+    ensures { λ _. ⌜ ((loads loadedsizes : List ℕ) → Joined
+        (tables (now (counts .entry)) (now (visited .entry)) (now (gains .entry)) (now (presentpins .entry)) (now (presentsizes .entry)) (now (bits .entry)) (now (blocks .entry)) (now (weights .entry)) (now (aboves .entry)) loads (now (netweights .entry)) (now (firsts .entry)) loadedsizes n m k total)
+        (tables (now (counts .exit)) (now (visited .exit)) (now (gains .exit)) (now (presentpins .exit)) (now (presentsizes .exit)) (now (bits .exit)) (now (blocks .exit)) (now (weights .exit)) (now (aboves .exit)) loads (now (netweights .exit)) (now (firsts .exit)) loadedsizes n m k total)
+        u v) ⌝ }
 {
     set_above(weights, aboves, u, v);
     contract(
@@ -98,9 +102,13 @@ pub fn split(
     u: usize,
     v: usize,
 )
-    requires { ⌜ CanSplit (λ loads. tables (now counts) (now visited) (now gains) (now presentpins) (now presentsizes) (now bits) (now blocks) (now weights) (now aboves) loads (now netweights) (now firsts) (now loadedsizes) n m k total) u v ⌝ }
-    ensures { λ _. ⌜ ((loads : List ℕ) → Split (tables (now (counts .entry)) (now (visited .entry)) (now (gains .entry)) (now (presentpins .entry)) (now (presentsizes .entry)) (now (bits .entry)) (now (blocks .entry)) (now (weights .entry)) (now (aboves .entry)) loads (now (netweights .entry)) (now (firsts .entry)) (now (loadedsizes .entry)) n m k total)
-        (tables (now (counts .exit)) (now (visited .exit)) (now (gains .exit)) (now (presentpins .exit)) (now (presentsizes .exit)) (now (bits .exit)) (now (blocks .exit)) (now (weights .exit)) (now (aboves .exit)) loads (now (netweights .exit)) (now (firsts .exit)) (now (loadedsizes .exit)) n m k total) u v) ⌝ }
+    requires { ⌜ CanSplit
+        (λ loads. tables (now counts) (now visited) (now gains) (now presentpins) (now presentsizes) (now bits) (now blocks) (now weights) (now aboves) loads (now netweights) (now firsts) (now loadedsizes) n m k total)
+        u v ⌝ }
+    ensures { λ _. ⌜ ((loads : List ℕ) → Split
+        (tables (now (counts .entry)) (now (visited .entry)) (now (gains .entry)) (now (presentpins .entry)) (now (presentsizes .entry)) (now (bits .entry)) (now (blocks .entry)) (now (weights .entry)) (now (aboves .entry)) loads (now (netweights .entry)) (now (firsts .entry)) (now (loadedsizes .entry)) n m k total)
+        (tables (now (counts .exit)) (now (visited .exit)) (now (gains .exit)) (now (presentpins .exit)) (now (presentsizes .exit)) (now (bits .exit)) (now (blocks .exit)) (now (weights .exit)) (now (aboves .exit)) loads (now (netweights .exit)) (now (firsts .exit)) (now (loadedsizes .exit)) n m k total)
+        u v) ⌝ }
 {
     clear_above(weights, aboves, u, v);
     uncontract(

@@ -71,8 +71,13 @@ fn carry(
     u: usize,
     t: u16,
 )
-    requires { ⌜ Carries (running (now counts) (now visited) (now gains) (now presentpins) (now presentsizes) (now bits) (now blocks) (now netweights) (now firsts)) (now loads) (now weights) n m k u t ⌝ }
-    ensures { λ _. ⌜ MoveDoes (running (now (counts .entry)) (now (visited .entry)) (now (gains .entry)) (now (presentpins .entry)) (now (presentsizes .entry)) (now (bits .entry)) (now (blocks .entry)) (now (netweights .entry)) (now (firsts .entry))) (running (now (counts .exit)) (now (visited .exit)) (now (gains .exit)) (now (presentpins .entry)) (now (presentsizes .entry)) (now (bits .entry)) (now (blocks .exit)) (now (netweights .entry)) (now (firsts .entry))) n m k u t ⌝ }
+    requires { ⌜ Carries
+        (running (now counts) (now visited) (now gains) (now presentpins) (now presentsizes) (now bits) (now blocks) (now netweights) (now firsts))
+        (now loads) (now weights) n m k u t ⌝ }
+    ensures { λ _. ⌜ MoveDoes
+        (running (now (counts .entry)) (now (visited .entry)) (now (gains .entry)) (now (presentpins .entry)) (now (presentsizes .entry)) (now (bits .entry)) (now (blocks .entry)) (now (netweights .entry)) (now (firsts .entry)))
+        (running (now (counts .exit)) (now (visited .exit)) (now (gains .exit)) (now (presentpins .entry)) (now (presentsizes .entry)) (now (bits .entry)) (now (blocks .exit)) (now (netweights .entry)) (now (firsts .entry)))
+        n m k u t ⌝ }
     ensures { λ _. ⌜ now (loads .exit) ≡ shifted (now (loads .entry)) (getD (now (blocks .entry)) u 0) t (getD (now (weights .entry)) u 0) ⌝ }
 {
     shift_load(loads, index(blocks[u]), index(t), long(weights[u]));
@@ -114,9 +119,13 @@ pub fn go(
     u: usize,
     t: u16,
 ) -> u32
-    requires { ⌜ CanGo (λ aboves loadedsizes. tables (now counts) (now visited) (now gains) (now presentpins) (now presentsizes) (now bits) (now blocks) (now weights) aboves (now loads) (now netweights) (now firsts) loadedsizes n m k total) u t ⌝ }
-    ensures { λ r. ⌜ ((aboves loadedsizes : List ℕ) → Went (tables (now (counts .entry)) (now (visited .entry)) (now (gains .entry)) (now (presentpins .entry)) (now (presentsizes .entry)) (now (bits .entry)) (now (blocks .entry)) (now (weights .entry)) aboves (now (loads .entry)) (now (netweights .entry)) (now (firsts .entry)) loadedsizes n m k total)
-        (tables (now (counts .exit)) (now (visited .exit)) (now (gains .exit)) (now (presentpins .exit)) (now (presentsizes .exit)) (now (bits .exit)) (now (blocks .exit)) (now (weights .exit)) aboves (now (loads .exit)) (now (netweights .exit)) (now (firsts .exit)) loadedsizes n m k r) u t) ⌝ }
+    requires { ⌜ CanGo
+        (λ aboves loadedsizes. tables (now counts) (now visited) (now gains) (now presentpins) (now presentsizes) (now bits) (now blocks) (now weights) aboves (now loads) (now netweights) (now firsts) loadedsizes n m k total)
+        u t ⌝ }
+    ensures { λ r. ⌜ ((aboves loadedsizes : List ℕ) → Went
+        (tables (now (counts .entry)) (now (visited .entry)) (now (gains .entry)) (now (presentpins .entry)) (now (presentsizes .entry)) (now (bits .entry)) (now (blocks .entry)) (now (weights .entry)) aboves (now (loads .entry)) (now (netweights .entry)) (now (firsts .entry)) loadedsizes n m k total)
+        (tables (now (counts .exit)) (now (visited .exit)) (now (gains .exit)) (now (presentpins .exit)) (now (presentsizes .exit)) (now (bits .exit)) (now (blocks .exit)) (now (weights .exit)) aboves (now (loads .exit)) (now (netweights .exit)) (now (firsts .exit)) loadedsizes n m k r)
+        u t) ⌝ }
 {
     let after = lower_total(total, gains[16 * u + (index(t) - 1)]);
     carry(
@@ -161,9 +170,13 @@ pub fn back(
     u: usize,
     t: u16,
 ) -> u32
-    requires { ⌜ CanGo (λ aboves loadedsizes. tables (now counts) (now visited) (now gains) (now presentpins) (now presentsizes) (now bits) (now blocks) (now weights) aboves (now loads) (now netweights) (now firsts) loadedsizes n m k total) u t ⌝ }
-    ensures { λ r. ⌜ ((aboves loadedsizes : List ℕ) → Went (tables (now (counts .entry)) (now (visited .entry)) (now (gains .entry)) (now (presentpins .entry)) (now (presentsizes .entry)) (now (bits .entry)) (now (blocks .entry)) (now (weights .entry)) aboves (now (loads .entry)) (now (netweights .entry)) (now (firsts .entry)) loadedsizes n m k total)
-        (tables (now (counts .exit)) (now (visited .exit)) (now (gains .exit)) (now (presentpins .exit)) (now (presentsizes .exit)) (now (bits .exit)) (now (blocks .exit)) (now (weights .exit)) aboves (now (loads .exit)) (now (netweights .exit)) (now (firsts .exit)) loadedsizes n m k r) u t) ⌝ }
+    requires { ⌜ CanGo
+        (λ aboves loadedsizes. tables (now counts) (now visited) (now gains) (now presentpins) (now presentsizes) (now bits) (now blocks) (now weights) aboves (now loads) (now netweights) (now firsts) loadedsizes n m k total)
+        u t ⌝ }
+    ensures { λ r. ⌜ ((aboves loadedsizes : List ℕ) → Went
+        (tables (now (counts .entry)) (now (visited .entry)) (now (gains .entry)) (now (presentpins .entry)) (now (presentsizes .entry)) (now (bits .entry)) (now (blocks .entry)) (now (weights .entry)) aboves (now (loads .entry)) (now (netweights .entry)) (now (firsts .entry)) loadedsizes n m k total)
+        (tables (now (counts .exit)) (now (visited .exit)) (now (gains .exit)) (now (presentpins .exit)) (now (presentsizes .exit)) (now (bits .exit)) (now (blocks .exit)) (now (weights .exit)) aboves (now (loads .exit)) (now (netweights .exit)) (now (firsts .exit)) loadedsizes n m k r)
+        u t) ⌝ }
 {
     let after = raise_total(total, negated(gains[16 * u + (index(t) - 1)]));
     carry(

@@ -242,7 +242,8 @@ pub fn pass_blocks(s: &[u8], at: usize, blocks: u32, draft: &mut [u16; 1024]) ->
 
 // Writes the lines of n edges, from p on.
 pub fn put_nets(s: &[u8], at: usize, n: usize, weighted: bool, out: &mut [u8], p: usize) -> usize
-    requires { ⌜ (at ≤ length (now s)) × (wellRows (isEdge weighted) n (rowsAt (now s) at) ≡ true) × (p + length (buyText (map netOf (edgesAt weighted (now s) at n))) ≤ length (now out)) ⌝ }
+    requires { ⌜ (at ≤ length (now s)) × (wellRows (isEdge weighted) n (rowsAt (now s) at) ≡ true)
+        × (p + length (buyText (map netOf (edgesAt weighted (now s) at n))) ≤ length (now out)) ⌝ }
     ensures { λ r. ⌜ Wrote (now (out .entry)) (now (out .exit)) p (buyText (map netOf (edgesAt weighted (now (s .entry)) at n))) r ⌝ }
 {
     let mut i = at;

@@ -120,10 +120,15 @@ fn pass(
     k: usize,
     p: Passes,
 ) -> Passes
-    requires { ⌜ PassOk (lent (now counts) (now visited) (now gains) (now blocks) (now loads) (now presentpins) (now presentsizes) (now bits) (now weights) (now netweights) (now firsts) n m k (p .total)) (now marks) (p .left) (p .moves) ⌝ }
+    requires { ⌜ PassOk
+        (lent (now counts) (now visited) (now gains) (now blocks) (now loads) (now presentpins) (now presentsizes) (now bits) (now weights) (now netweights) (now firsts) n m k (p .total))
+        (now marks) (p .left) (p .moves) ⌝ }
     requires { ⌜ Peaked (now gains) (now peaks) n k ⌝ }
-    ensures { λ r. ⌜ ((aboves loadedsizes : List ℕ) → Passed (lent (now (counts .entry)) (now (visited .entry)) (now (gains .entry)) (now (blocks .entry)) (now (loads .entry)) (now (presentpins .entry)) (now (presentsizes .entry)) (now (bits .entry)) (now (weights .entry)) (now (netweights .entry)) (now (firsts .entry)) n m k (p .total) aboves loadedsizes) (now (marks .entry)) (now (ceilings .entry)) (p .left) (p .moves)
-        (lent (now (counts .exit)) (now (visited .exit)) (now (gains .exit)) (now (blocks .exit)) (now (loads .exit)) (now (presentpins .exit)) (now (presentsizes .exit)) (now (bits .exit)) (now (weights .exit)) (now (netweights .exit)) (now (firsts .exit)) n m k (r .total) aboves loadedsizes) (r .left) (r .moves)) ⌝ }
+    ensures { λ r. ⌜ ((aboves loadedsizes : List ℕ) → Passed
+        (lent (now (counts .entry)) (now (visited .entry)) (now (gains .entry)) (now (blocks .entry)) (now (loads .entry)) (now (presentpins .entry)) (now (presentsizes .entry)) (now (bits .entry)) (now (weights .entry)) (now (netweights .entry)) (now (firsts .entry)) n m k (p .total) aboves loadedsizes)
+        (now (marks .entry)) (now (ceilings .entry)) (p .left) (p .moves)
+        (lent (now (counts .exit)) (now (visited .exit)) (now (gains .exit)) (now (blocks .exit)) (now (loads .exit)) (now (presentpins .exit)) (now (presentsizes .exit)) (now (bits .exit)) (now (weights .exit)) (now (netweights .exit)) (now (firsts .exit)) n m k (r .total) aboves loadedsizes)
+        (r .left) (r .moves)) ⌝ }
     ensures { λ _. ⌜ Peaked (now (gains .exit)) (now (peaks .exit)) n k ⌝ }
 {
     match next_rise(gains, blocks, weights, loads, ceilings, marks, peaks, n, k) {
@@ -182,9 +187,13 @@ pub fn polish(
     k: usize,
     total: u32,
 ) -> Polished
-    requires { ⌜ PolishOk (lent (now counts) (now visited) (now gains) (now blocks) (now loads) (now presentpins) (now presentsizes) (now bits) (now weights) (now netweights) (now firsts) n m k total) ⌝ }
-    ensures { λ r. ⌜ ((aboves loadedsizes : List ℕ) → Polishes (lent (now (counts .entry)) (now (visited .entry)) (now (gains .entry)) (now (blocks .entry)) (now (loads .entry)) (now (presentpins .entry)) (now (presentsizes .entry)) (now (bits .entry)) (now (weights .entry)) (now (netweights .entry)) (now (firsts .entry)) n m k total aboves loadedsizes) (now (ceilings .entry))
-        (lent (now (counts .exit)) (now (visited .exit)) (now (gains .exit)) (now (blocks .exit)) (now (loads .exit)) (now (presentpins .exit)) (now (presentsizes .exit)) (now (bits .exit)) (now (weights .exit)) (now (netweights .exit)) (now (firsts .exit)) n m k (r .total) aboves loadedsizes) (r .moves)) ⌝ }
+    requires { ⌜ PolishOk
+        (lent (now counts) (now visited) (now gains) (now blocks) (now loads) (now presentpins) (now presentsizes) (now bits) (now weights) (now netweights) (now firsts) n m k total) ⌝ }
+    ensures { λ r. ⌜ ((aboves loadedsizes : List ℕ) → Polishes
+        (lent (now (counts .entry)) (now (visited .entry)) (now (gains .entry)) (now (blocks .entry)) (now (loads .entry)) (now (presentpins .entry)) (now (presentsizes .entry)) (now (bits .entry)) (now (weights .entry)) (now (netweights .entry)) (now (firsts .entry)) n m k total aboves loadedsizes)
+        (now (ceilings .entry))
+        (lent (now (counts .exit)) (now (visited .exit)) (now (gains .exit)) (now (blocks .exit)) (now (loads .exit)) (now (presentpins .exit)) (now (presentsizes .exit)) (now (bits .exit)) (now (weights .exit)) (now (netweights .exit)) (now (firsts .exit)) n m k (r .total) aboves loadedsizes)
+        (r .moves)) ⌝ }
 {
     let mut marks = [0u64; 48];
     mark_board(&mut marks, blocks, n);

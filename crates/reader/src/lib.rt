@@ -248,7 +248,8 @@ fn finish(
     draft: &[u16],
     calls: &mut [u32],
 ) -> Ended
-    requires { ⌜ (at ≤ length (now s)) × (vertices ≤ 1024) × (nets ≤ 1024) × (2 ≤ blocks) × (blocks ≤ 16) × (imbalance ≤ 1000) × (vertices ≤ length (now weights)) × (vertices ≤ length (now draft)) × (1536 ≤ length (now calls)) ⌝ }
+    requires { ⌜ (at ≤ length (now s)) × (vertices ≤ 1024) × (nets ≤ 1024) × (2 ≤ blocks) × (blocks ≤ 16) × (imbalance ≤ 1000) × (vertices ≤ length (now weights))
+        × (vertices ≤ length (now draft)) × (1536 ≤ length (now calls)) ⌝ }
     ensures { λ r. ⌜ LastRead (now (s .entry)) at vertices nets blocks imbalance m r (now (weights .entry)) (now (draft .entry)) (now (calls .exit)) ⌝ }
 {
     let n = vertices as usize + 1 + nets as usize;
@@ -324,7 +325,8 @@ fn after_head(
     loadedpins: &mut [u16],
     calls: &mut [u32],
 ) -> Rest
-    requires { ⌜ (at ≤ length (now s)) × InRange mainLimits vertices nets blocks imbalance × Long vertices (now weights) (now draft) (now netweights) (now firsts) (now loadedsizes) (now loadedpins) (now calls) ⌝ }
+    requires { ⌜ (at ≤ length (now s)) × InRange mainLimits vertices nets blocks imbalance
+        × Long vertices (now weights) (now draft) (now netweights) (now firsts) (now loadedsizes) (now loadedpins) (now calls) ⌝ }
     ensures { λ r. ⌜ CatalogueRead (now (s .entry)) at vertices nets blocks imbalance r (now (weights .entry)) (now (draft .entry)) (now (firsts .entry)) (now (loadedsizes .entry)) (now (loadedpins .entry)) (now (weights .exit)) (now (draft .exit)) (now (netweights .exit)) (now (firsts .exit)) (now (loadedsizes .exit)) (now (loadedpins .exit)) (now (calls .exit)) ⌝ }
 {
     let mut stamps = [0u16; 1024];

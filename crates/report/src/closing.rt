@@ -59,7 +59,8 @@ fn representative(aboves: &[u16], v: usize, steps: usize) -> usize
 // The block of the vertex that stands for `v`. Each vertex above another was joined later, so the place of its join bounds the climb.
 fn block_of(blocks: &[u16], aboves: &[u16], gone: &[u16; 1024], v: usize, depth: usize) -> u32
     requires { ⌜ VertexIn (now blocks) (now aboves) (now gone) v depth ⌝ }
-    ensures { λ r. ⌜ ((h : Hypergraph) (s : State) (n : ℕ) → Vertices h s (now (blocks .entry)) (now (aboves .entry)) (now (gone .entry)) n depth → v ≤ n → r ≡ s .block (standsFor (s .stack) v)) ⌝ }
+    ensures { λ r. ⌜ ((h : Hypergraph) (s : State) (n : ℕ) → Vertices h s (now (blocks .entry)) (now (aboves .entry)) (now (gone .entry)) n depth → v ≤ n
+        → r ≡ s .block (standsFor (s .stack) v)) ⌝ }
 {
     let place = join_place(gone, depth, v);
     let r = representative(aboves, v, place);
@@ -86,7 +87,8 @@ fn put_lots(
     depth: usize,
 ) -> usize
     requires { ⌜ VerticesFit (length (now out)) at (now blocks) (now aboves) (now gone) n depth ⌝ }
-    ensures { λ r. ⌜ ((h : Hypergraph) (s : State) → Vertices h s (now (blocks .entry)) (now (aboves .entry)) (now (gone .entry)) n depth → Wrote (now (out .entry)) (now (out .exit)) at (lotRows h s) r) ⌝ }
+    ensures { λ r. ⌜ ((h : Hypergraph) (s : State) → Vertices h s (now (blocks .entry)) (now (aboves .entry)) (now (gone .entry)) n depth
+        → Wrote (now (out .entry)) (now (out .exit)) at (lotRows h s) r) ⌝ }
 {
     let mut p = at;
     let mut i = 0;

@@ -34,8 +34,13 @@ pub fn work_file(
     gains: &mut [i32],
     visited: &mut [u16],
 ) -> Served
-    requires { ⌜ Long (limitsOf vmax bmax) (now output) (lists (now weights) (now blocks) (now aboves) (now loadedpins) (now presentpins) (now firsts) (now loadedsizes) (now presentsizes)) (now counts) (now gains) (now visited) ⌝ }
-    ensures { λ r. ⌜ Worked (parse (limitsOf vmax bmax) (now (file .entry))) (memory (now (output .entry)) (lent (lists (now (weights .entry)) (now (blocks .entry)) (now (aboves .entry)) (now (loadedpins .entry)) (now (presentpins .entry)) (now (firsts .entry)) (now (loadedsizes .entry)) (now (presentsizes .entry))) (now (counts .entry)) (now (gains .entry)) (now (visited .entry)))) (memory (now (output .exit)) (lent (lists (now (weights .exit)) (now (blocks .exit)) (now (aboves .exit)) (now (loadedpins .exit)) (now (presentpins .exit)) (now (firsts .exit)) (now (loadedsizes .exit)) (now (presentsizes .exit))) (now (counts .exit)) (now (gains .exit)) (now (visited .exit)))) (r .code) (r .written) × (r .lots ≡ lotsIn (parse (limitsOf vmax bmax) (now (file .entry)))) ⌝ }
+    requires { ⌜ Long (limitsOf vmax bmax) (now output)
+        (lists (now weights) (now blocks) (now aboves) (now loadedpins) (now presentpins) (now firsts) (now loadedsizes) (now presentsizes))
+        (now counts) (now gains) (now visited) ⌝ }
+    ensures { λ r. ⌜ Worked (parse (limitsOf vmax bmax) (now (file .entry)))
+        (memory (now (output .entry)) (lent (lists (now (weights .entry)) (now (blocks .entry)) (now (aboves .entry)) (now (loadedpins .entry)) (now (presentpins .entry)) (now (firsts .entry)) (now (loadedsizes .entry)) (now (presentsizes .entry))) (now (counts .entry)) (now (gains .entry)) (now (visited .entry))))
+        (memory (now (output .exit)) (lent (lists (now (weights .exit)) (now (blocks .exit)) (now (aboves .exit)) (now (loadedpins .exit)) (now (presentpins .exit)) (now (firsts .exit)) (now (loadedsizes .exit)) (now (presentsizes .exit))) (now (counts .exit)) (now (gains .exit)) (now (visited .exit))))
+        (r .code) (r .written) × (r .lots ≡ lotsIn (parse (limitsOf vmax bmax) (now (file .entry)))) ⌝ }
 {
     let mut netweights = [0u16; 1024];
     let mut calls = [0u32; 1536];

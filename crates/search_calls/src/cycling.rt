@@ -46,9 +46,13 @@ pub fn call_all(
     stack: Stack,
     journal: Journal,
 ) -> AllTurn
-    requires { ⌜ ReadyA (tables (now counts) (now visited) (now gains) (now presentpins) (now presentsizes) (now bits) (now blocks) (now weights) (now aboves) (now loads) (now netweights) (now firsts) (now loadedsizes) (size .n) (size .m) (size .k) total) (two (stack .into) (stack .gone) (stack .len)) (two (journal .vertices) (journal .blocks) (journal .len)) (size .average) ⌝ }
-    ensures { λ r. ⌜ ((h : Hypergraph) (ceiling : ℕ → ℕ) → AverageIs (size .average) h → CeilingIs (now (ceilings .entry)) h ceiling → Called h ceiling (tables (now (counts .entry)) (now (visited .entry)) (now (gains .entry)) (now (presentpins .entry)) (now (presentsizes .entry)) (now (bits .entry)) (now (blocks .entry)) (now (weights .entry)) (now (aboves .entry)) (now (loads .entry)) (now (netweights .entry)) (now (firsts .entry)) (now (loadedsizes .entry)) (size .n) (size .m) (size .k) total)
-        (tables (now (counts .exit)) (now (visited .exit)) (now (gains .exit)) (now (presentpins .exit)) (now (presentsizes .exit)) (now (bits .exit)) (now (blocks .exit)) (now (weights .exit)) (now (aboves .exit)) (now (loads .exit)) (now (netweights .exit)) (now (firsts .exit)) (now (loadedsizes .exit)) (size .n) (size .m) (size .k) (r .total)) (two (stack .into) (stack .gone) (stack .len)) (two (r .stack .into) (r .stack .gone) (r .stack .len)) (two (journal .vertices) (journal .blocks) (journal .len)) (two (r .journal .vertices) (r .journal .blocks) (r .journal .len)) callA (told (r .no) (saysA (r .joins) (r .tried) (r .kept) (r .moves) (r .total)))) ⌝ }
+    requires { ⌜ ReadyA
+        (tables (now counts) (now visited) (now gains) (now presentpins) (now presentsizes) (now bits) (now blocks) (now weights) (now aboves) (now loads) (now netweights) (now firsts) (now loadedsizes) (size .n) (size .m) (size .k) total)
+        (two (stack .into) (stack .gone) (stack .len)) (two (journal .vertices) (journal .blocks) (journal .len)) (size .average) ⌝ }
+    ensures { λ r. ⌜ ((h : Hypergraph) (ceiling : ℕ → ℕ) → AverageIs (size .average) h → CeilingIs (now (ceilings .entry)) h ceiling → Called h ceiling
+        (tables (now (counts .entry)) (now (visited .entry)) (now (gains .entry)) (now (presentpins .entry)) (now (presentsizes .entry)) (now (bits .entry)) (now (blocks .entry)) (now (weights .entry)) (now (aboves .entry)) (now (loads .entry)) (now (netweights .entry)) (now (firsts .entry)) (now (loadedsizes .entry)) (size .n) (size .m) (size .k) total)
+        (tables (now (counts .exit)) (now (visited .exit)) (now (gains .exit)) (now (presentpins .exit)) (now (presentsizes .exit)) (now (bits .exit)) (now (blocks .exit)) (now (weights .exit)) (now (aboves .exit)) (now (loads .exit)) (now (netweights .exit)) (now (firsts .exit)) (now (loadedsizes .exit)) (size .n) (size .m) (size .k) (r .total))
+        (two (stack .into) (stack .gone) (stack .len)) (two (r .stack .into) (r .stack .gone) (r .stack .len)) (two (journal .vertices) (journal .blocks) (journal .len)) (two (r .journal .vertices) (r .journal .blocks) (r .journal .len)) callA (told (r .no) (saysA (r .joins) (r .tried) (r .kept) (r .moves) (r .total)))) ⌝ }
 {
     let at = stack.len;
     if at != 0 {

@@ -44,7 +44,8 @@ fn mark_net(
     presentsizes: &[u16],
     e: usize,
 )
-    requires { ⌜ (length (now marks) ≡ 48) × (e < 1024) × (e < length (now firsts)) × (e < length (now presentsizes)) × PinsOk (now presentpins) (getD (now firsts) e 0) (getD (now presentsizes) e 0) × Covered (now marks) (now presentpins) (now firsts) (now presentsizes) ⌝ }
+    requires { ⌜ (length (now marks) ≡ 48) × (e < 1024) × (e < length (now firsts)) × (e < length (now presentsizes))
+        × PinsOk (now presentpins) (getD (now firsts) e 0) (getD (now presentsizes) e 0) × Covered (now marks) (now presentpins) (now firsts) (now presentsizes) ⌝ }
     ensures { λ _. ⌜ Marked (now (marks .entry)) (now (marks .exit)) (has (now (presentpins .entry)) (getD (now (firsts .entry)) e 0) (getD (now (presentsizes .entry)) e 0)) × Covered (now (marks .exit)) (now (presentpins .entry)) (now (firsts .entry)) (now (presentsizes .entry)) ⌝ }
 {
     if is_pin(marks, 2, e) {
@@ -64,7 +65,8 @@ fn mark_nets(
     m: usize,
     u: usize,
 )
-    requires { ⌜ (length (now marks) ≡ 48) × NetsOk (now bits) (now presentpins) (now firsts) (now presentsizes) m u × Covered (now marks) (now presentpins) (now firsts) (now presentsizes) ⌝ }
+    requires { ⌜ (length (now marks) ≡ 48) × NetsOk (now bits) (now presentpins) (now firsts) (now presentsizes) m u
+        × Covered (now marks) (now presentpins) (now firsts) (now presentsizes) ⌝ }
     ensures { λ _. ⌜ Marked (now (marks .entry)) (now (marks .exit)) (near (now (bits .entry)) (now (presentpins .entry)) (now (firsts .entry)) (now (presentsizes .entry)) u m) × Covered (now (marks .exit)) (now (presentpins .entry)) (now (firsts .entry)) (now (presentsizes .entry)) ⌝ }
 {
     let mut e = next_net(bits, u, 0, m);
@@ -84,7 +86,8 @@ pub fn spread(
     m: usize,
     u: usize,
 )
-    requires { ⌜ (length (now marks) ≡ 48) × (u < 1024) × NetsOk (now bits) (now presentpins) (now firsts) (now presentsizes) m u × Covered (now marks) (now presentpins) (now firsts) (now presentsizes) ⌝ }
+    requires { ⌜ (length (now marks) ≡ 48) × (u < 1024) × NetsOk (now bits) (now presentpins) (now firsts) (now presentsizes) m u
+        × Covered (now marks) (now presentpins) (now firsts) (now presentsizes) ⌝ }
     ensures { λ _. ⌜ Spread (now (marks .entry)) (now (marks .exit)) u (near (now (bits .entry)) (now (presentpins .entry)) (now (firsts .entry)) (now (presentsizes .entry)) u m) × Covered (now (marks .exit)) (now (presentpins .entry)) (now (firsts .entry)) (now (presentsizes .entry)) ⌝ }
 {
     take(marks, 0, u);

@@ -40,7 +40,8 @@ fn raise_last(
     k: usize,
 )
     requires { ⌜ (length (now peaks) ≡ 16) × (k ≤ 16) × PinsIn (length (now gains)) (length (now blocks)) (now presentpins) first size ⌝ }
-    ensures { λ _. ⌜ Higher (now (peaks .entry)) (now (peaks .exit)) × LastUnder (now (gains .entry)) (now (peaks .exit)) (now (blocks .entry)) (now (presentpins .entry)) first size s k ⌝ }
+    ensures { λ _. ⌜ Higher (now (peaks .entry)) (now (peaks .exit))
+        × LastUnder (now (gains .entry)) (now (peaks .exit)) (now (blocks .entry)) (now (presentpins .entry)) first size s k ⌝ }
 {
     let mut j: usize = 0;
     while j < size {
@@ -83,7 +84,8 @@ fn lift_last(
     k: usize,
 )
     requires { ⌜ (length (now peaks) ≡ 16) × NetIn (length (now counts)) e s × (k ≤ 16) × PinsIn (length (now gains)) (length (now blocks)) (now presentpins) first size ⌝ }
-    ensures { λ _. ⌜ Higher (now (peaks .entry)) (now (peaks .exit)) × (getD (now (counts .entry)) (16 * e + (s - 1)) 0 ≡ 1 → LastUnder (now (gains .entry)) (now (peaks .exit)) (now (blocks .entry)) (now (presentpins .entry)) first size s k) ⌝ }
+    ensures { λ _. ⌜ Higher (now (peaks .entry)) (now (peaks .exit)) × (getD (now (counts .entry)) (16 * e + (s - 1)) 0 ≡ 1
+        → LastUnder (now (gains .entry)) (now (peaks .exit)) (now (blocks .entry)) (now (presentpins .entry)) first size s k) ⌝ }
 {
     if counts[16 * e + (index(s) - 1)] != 1 {
         return;
@@ -103,7 +105,8 @@ fn lift_first(
     t: u16,
 )
     requires { ⌜ (length (now peaks) ≡ 16) × NetIn (length (now counts)) e t × PinsIn (length (now gains)) 1024 (now presentpins) first size ⌝ }
-    ensures { λ _. ⌜ Higher (now (peaks .entry)) (now (peaks .exit)) × (getD (now (counts .entry)) (16 * e + (t - 1)) 0 ≡ 1 → FirstUnder (now (gains .entry)) (now (peaks .exit)) (now (presentpins .entry)) first size t) ⌝ }
+    ensures { λ _. ⌜ Higher (now (peaks .entry)) (now (peaks .exit)) × (getD (now (counts .entry)) (16 * e + (t - 1)) 0 ≡ 1
+        → FirstUnder (now (gains .entry)) (now (peaks .exit)) (now (presentpins .entry)) first size t) ⌝ }
 {
     let b = index(t);
     if counts[16 * e + (b - 1)] != 1 {
@@ -126,8 +129,10 @@ fn lift_net(
     t: u16,
     k: usize,
 )
-    requires { ⌜ (length (now peaks) ≡ 16) × NetIn (length (now counts)) e s × NetIn (length (now counts)) e t × (k ≤ 16) × PinsIn (length (now gains)) (length (now blocks)) (now presentpins) first size ⌝ }
-    ensures { λ _. ⌜ Higher (now (peaks .entry)) (now (peaks .exit)) × NetUnder (now (gains .entry)) (now (peaks .exit)) (now (counts .entry)) (now (blocks .entry)) (now (presentpins .entry)) first size e s t k ⌝ }
+    requires { ⌜ (length (now peaks) ≡ 16) × NetIn (length (now counts)) e s × NetIn (length (now counts)) e t × (k ≤ 16)
+        × PinsIn (length (now gains)) (length (now blocks)) (now presentpins) first size ⌝ }
+    ensures { λ _. ⌜ Higher (now (peaks .entry)) (now (peaks .exit))
+        × NetUnder (now (gains .entry)) (now (peaks .exit)) (now (counts .entry)) (now (blocks .entry)) (now (presentpins .entry)) first size e s t k ⌝ }
 {
     lift_last(
         peaks,
@@ -204,10 +209,14 @@ pub fn shift(
     u: usize,
     t: u16,
 ) -> u32
-    requires { ⌜ CanGo (lent (now counts) (now visited) (now gains) (now blocks) (now loads) (now presentpins) (now presentsizes) (now bits) (now weights) (now netweights) (now firsts) n m k total) u t ⌝ }
+    requires { ⌜ CanGo
+        (lent (now counts) (now visited) (now gains) (now blocks) (now loads) (now presentpins) (now presentsizes) (now bits) (now weights) (now netweights) (now firsts) n m k total)
+        u t ⌝ }
     requires { ⌜ Peaked (now gains) (now peaks) n k ⌝ }
-    ensures { λ r. ⌜ ((aboves loadedsizes : List ℕ) → Went (lent (now (counts .entry)) (now (visited .entry)) (now (gains .entry)) (now (blocks .entry)) (now (loads .entry)) (now (presentpins .entry)) (now (presentsizes .entry)) (now (bits .entry)) (now (weights .entry)) (now (netweights .entry)) (now (firsts .entry)) n m k total aboves loadedsizes)
-        (lent (now (counts .exit)) (now (visited .exit)) (now (gains .exit)) (now (blocks .exit)) (now (loads .exit)) (now (presentpins .exit)) (now (presentsizes .exit)) (now (bits .exit)) (now (weights .exit)) (now (netweights .exit)) (now (firsts .exit)) n m k r aboves loadedsizes) u t) ⌝ }
+    ensures { λ r. ⌜ ((aboves loadedsizes : List ℕ) → Went
+        (lent (now (counts .entry)) (now (visited .entry)) (now (gains .entry)) (now (blocks .entry)) (now (loads .entry)) (now (presentpins .entry)) (now (presentsizes .entry)) (now (bits .entry)) (now (weights .entry)) (now (netweights .entry)) (now (firsts .entry)) n m k total aboves loadedsizes)
+        (lent (now (counts .exit)) (now (visited .exit)) (now (gains .exit)) (now (blocks .exit)) (now (loads .exit)) (now (presentpins .exit)) (now (presentsizes .exit)) (now (bits .exit)) (now (weights .exit)) (now (netweights .exit)) (now (firsts .exit)) n m k r aboves loadedsizes)
+        u t) ⌝ }
     ensures { λ _. ⌜ Peaked (now (gains .exit)) (now (peaks .exit)) n k ⌝ }
 {
     let s = blocks[u];

@@ -324,7 +324,8 @@ pub fn check_edge(
 
 // Writes the numbers in the words from `at` on, each behind a comma, from p on.
 pub fn put_pins(s: &[u8], at: usize, end: usize, out: &mut [u8], p: usize) -> usize
-    requires { ⌜ (at ≤ end) × (end ≤ length (now s)) × (all (words (slice at end (now s))) isNumber ≡ true) × (p + length (commas (map value (words (slice at end (now s))))) ≤ length (now out)) ⌝ }
+    requires { ⌜ (at ≤ end) × (end ≤ length (now s)) × (all (words (slice at end (now s))) isNumber ≡ true)
+        × (p + length (commas (map value (words (slice at end (now s))))) ≤ length (now out)) ⌝ }
     ensures { λ r. ⌜ Wrote (now (out .entry)) (now (out .exit)) p (commas (map value (words (slice at end (now (s .entry)))))) r ⌝ }
 {
     let mut i = at;
@@ -343,7 +344,8 @@ pub fn put_pins(s: &[u8], at: usize, end: usize, out: &mut [u8], p: usize) -> us
 
 // Writes the line of the edge in the line from `at` to `end`, from p on.
 pub fn put_edge(s: &[u8], at: usize, end: usize, weighted: bool, out: &mut [u8], p: usize) -> usize
-    requires { ⌜ (at ≤ end) × (end ≤ length (now s)) × (isEdge weighted (slice at end (now s)) ≡ true) × (p + length (edgeRow (edgeOf weighted (slice at end (now s)))) ≤ length (now out)) ⌝ }
+    requires { ⌜ (at ≤ end) × (end ≤ length (now s)) × (isEdge weighted (slice at end (now s)) ≡ true)
+        × (p + length (edgeRow (edgeOf weighted (slice at end (now s)))) ≤ length (now out)) ⌝ }
     ensures { λ r. ⌜ Wrote (now (out .entry)) (now (out .exit)) p (edgeRow (edgeOf weighted (slice at end (now (s .entry))))) r ⌝ }
 {
     let x = read_lead(s, at, end, weighted);

@@ -41,7 +41,8 @@ pub fn are_long(
 // The stretch of one pin table that holds the pins of net e, or the empty one at its start; `long` says whether the tables are long enough.
 fn stretch_in(table: &[u16], firsts: &[u16], sizes: &[u16], long: bool, e: u32) -> Stretch
     requires { ⌜ Backed long (now firsts) (now sizes) ⌝ }
-    ensures { λ r. ⌜ (r .first ≡ partIn (now (table .entry)) (now (firsts .entry)) (now (sizes .entry)) long e .from) × (r .size ≡ partIn (now (table .entry)) (now (firsts .entry)) (now (sizes .entry)) long e .size) ⌝ }
+    ensures { λ r. ⌜ (r .first ≡ partIn (now (table .entry)) (now (firsts .entry)) (now (sizes .entry)) long e .from)
+        × (r .size ≡ partIn (now (table .entry)) (now (firsts .entry)) (now (sizes .entry)) long e .size) ⌝ }
 {
     if !long {
         return Stretch { first: 0, size: 0 };
@@ -75,7 +76,11 @@ pub fn stretch_of(
     present: bool,
     e: u32,
 ) -> Stretch
-    ensures { λ r. ⌜ (r .first ≡ handedOut (netTables (now (loadedpins .entry)) (now (presentpins .entry)) (now (firsts .entry)) (now (loadedsizes .entry)) (now (presentsizes .entry))) present e .from) × (r .size ≡ handedOut (netTables (now (loadedpins .entry)) (now (presentpins .entry)) (now (firsts .entry)) (now (loadedsizes .entry)) (now (presentsizes .entry))) present e .size) ⌝ }
+    ensures { λ r. ⌜ (r .first ≡ handedOut
+        (netTables (now (loadedpins .entry)) (now (presentpins .entry)) (now (firsts .entry)) (now (loadedsizes .entry)) (now (presentsizes .entry)))
+        present e .from) × (r .size ≡ handedOut
+        (netTables (now (loadedpins .entry)) (now (presentpins .entry)) (now (firsts .entry)) (now (loadedsizes .entry)) (now (presentsizes .entry)))
+        present e .size) ⌝ }
 {
     let long = are_long(loadedpins, presentpins, firsts, loadedsizes, presentsizes);
     if present {

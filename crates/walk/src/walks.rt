@@ -85,10 +85,15 @@ fn make_move(
     b: u16,
     s: Steps,
 ) -> Steps
-    requires { ⌜ TakeOk (lent (now counts) (now visited) (now gains) (now blocks) (now loads) (now presentpins) (now presentsizes) (now bits) (now weights) (now netweights) (now firsts) n m k (s .total)) (locals (now marks) (now movers) (now origins) (s .tried) (s .kept) (s .low) (s .heaviest)) (s .spent) v b ⌝ }
+    requires { ⌜ TakeOk
+        (lent (now counts) (now visited) (now gains) (now blocks) (now loads) (now presentpins) (now presentsizes) (now bits) (now weights) (now netweights) (now firsts) n m k (s .total))
+        (locals (now marks) (now movers) (now origins) (s .tried) (s .kept) (s .low) (s .heaviest)) (s .spent) v b ⌝ }
     requires { ⌜ Peaked (now gains) (now peaks) n k ⌝ }
-    ensures { λ r. ⌜ ((aboves loadedsizes : List ℕ) → Took (lent (now (counts .entry)) (now (visited .entry)) (now (gains .entry)) (now (blocks .entry)) (now (loads .entry)) (now (presentpins .entry)) (now (presentsizes .entry)) (now (bits .entry)) (now (weights .entry)) (now (netweights .entry)) (now (firsts .entry)) n m k (s .total) aboves loadedsizes) (locals (now (marks .entry)) (now (movers .entry)) (now (origins .entry)) (s .tried) (s .kept) (s .low) (s .heaviest)) (s .spent) v b
-        (lent (now (counts .exit)) (now (visited .exit)) (now (gains .exit)) (now (blocks .exit)) (now (loads .exit)) (now (presentpins .exit)) (now (presentsizes .exit)) (now (bits .exit)) (now (weights .exit)) (now (netweights .exit)) (now (firsts .exit)) n m k (r .total) aboves loadedsizes) (locals (now (marks .exit)) (now (movers .exit)) (now (origins .exit)) (r .tried) (r .kept) (r .low) (r .heaviest)) (r .spent)) ⌝ }
+    ensures { λ r. ⌜ ((aboves loadedsizes : List ℕ) → Took
+        (lent (now (counts .entry)) (now (visited .entry)) (now (gains .entry)) (now (blocks .entry)) (now (loads .entry)) (now (presentpins .entry)) (now (presentsizes .entry)) (now (bits .entry)) (now (weights .entry)) (now (netweights .entry)) (now (firsts .entry)) n m k (s .total) aboves loadedsizes)
+        (locals (now (marks .entry)) (now (movers .entry)) (now (origins .entry)) (s .tried) (s .kept) (s .low) (s .heaviest)) (s .spent) v b
+        (lent (now (counts .exit)) (now (visited .exit)) (now (gains .exit)) (now (blocks .exit)) (now (loads .exit)) (now (presentpins .exit)) (now (presentsizes .exit)) (now (bits .exit)) (now (weights .exit)) (now (netweights .exit)) (now (firsts .exit)) n m k (r .total) aboves loadedsizes)
+        (locals (now (marks .exit)) (now (movers .exit)) (now (origins .exit)) (r .tried) (r .kept) (r .low) (r .heaviest)) (r .spent)) ⌝ }
     ensures { λ _. ⌜ Peaked (now (gains .exit)) (now (peaks .exit)) n k ⌝ }
 {
     let x = index(v) - 1;
@@ -152,10 +157,15 @@ fn advance(
     k: usize,
     s: Steps,
 ) -> Steps
-    requires { ⌜ TurnOk (lent (now counts) (now visited) (now gains) (now blocks) (now loads) (now presentpins) (now presentsizes) (now bits) (now weights) (now netweights) (now firsts) n m k (s .total)) (locals (now marks) (now movers) (now origins) (s .tried) (s .kept) (s .low) (s .heaviest)) (s .spent) ⌝ }
+    requires { ⌜ TurnOk
+        (lent (now counts) (now visited) (now gains) (now blocks) (now loads) (now presentpins) (now presentsizes) (now bits) (now weights) (now netweights) (now firsts) n m k (s .total))
+        (locals (now marks) (now movers) (now origins) (s .tried) (s .kept) (s .low) (s .heaviest)) (s .spent) ⌝ }
     requires { ⌜ Peaked (now gains) (now peaks) n k ⌝ }
-    ensures { λ r. ⌜ ((aboves loadedsizes : List ℕ) → Turned (lent (now (counts .entry)) (now (visited .entry)) (now (gains .entry)) (now (blocks .entry)) (now (loads .entry)) (now (presentpins .entry)) (now (presentsizes .entry)) (now (bits .entry)) (now (weights .entry)) (now (netweights .entry)) (now (firsts .entry)) n m k (s .total) aboves loadedsizes) (locals (now (marks .entry)) (now (movers .entry)) (now (origins .entry)) (s .tried) (s .kept) (s .low) (s .heaviest)) (now (ceilings .entry)) (s .spent)
-        (lent (now (counts .exit)) (now (visited .exit)) (now (gains .exit)) (now (blocks .exit)) (now (loads .exit)) (now (presentpins .exit)) (now (presentsizes .exit)) (now (bits .exit)) (now (weights .exit)) (now (netweights .exit)) (now (firsts .exit)) n m k (r .total) aboves loadedsizes) (locals (now (marks .exit)) (now (movers .exit)) (now (origins .exit)) (r .tried) (r .kept) (r .low) (r .heaviest)) (r .spent)) ⌝ }
+    ensures { λ r. ⌜ ((aboves loadedsizes : List ℕ) → Turned
+        (lent (now (counts .entry)) (now (visited .entry)) (now (gains .entry)) (now (blocks .entry)) (now (loads .entry)) (now (presentpins .entry)) (now (presentsizes .entry)) (now (bits .entry)) (now (weights .entry)) (now (netweights .entry)) (now (firsts .entry)) n m k (s .total) aboves loadedsizes)
+        (locals (now (marks .entry)) (now (movers .entry)) (now (origins .entry)) (s .tried) (s .kept) (s .low) (s .heaviest)) (now (ceilings .entry)) (s .spent)
+        (lent (now (counts .exit)) (now (visited .exit)) (now (gains .exit)) (now (blocks .exit)) (now (loads .exit)) (now (presentpins .exit)) (now (presentsizes .exit)) (now (bits .exit)) (now (weights .exit)) (now (netweights .exit)) (now (firsts .exit)) n m k (r .total) aboves loadedsizes)
+        (locals (now (marks .exit)) (now (movers .exit)) (now (origins .exit)) (r .tried) (r .kept) (r .low) (r .heaviest)) (r .spent)) ⌝ }
     ensures { λ _. ⌜ Peaked (now (gains .exit)) (now (peaks .exit)) n k ⌝ }
 {
     match next_move(
@@ -227,8 +237,12 @@ fn rewind(
     tried: usize,
     kept: usize,
 ) -> u32
-    requires { ⌜ RewindOk (lent (now counts) (now visited) (now gains) (now blocks) (now loads) (now presentpins) (now presentsizes) (now bits) (now weights) (now netweights) (now firsts) n m k total) (now movers) (now origins) tried kept ⌝ }
-    ensures { λ r. ⌜ ((aboves loadedsizes : List ℕ) → Rewinds (lent (now (counts .entry)) (now (visited .entry)) (now (gains .entry)) (now (blocks .entry)) (now (loads .entry)) (now (presentpins .entry)) (now (presentsizes .entry)) (now (bits .entry)) (now (weights .entry)) (now (netweights .entry)) (now (firsts .entry)) n m k total aboves loadedsizes) (now (movers .entry)) (now (origins .entry)) tried kept
+    requires { ⌜ RewindOk
+        (lent (now counts) (now visited) (now gains) (now blocks) (now loads) (now presentpins) (now presentsizes) (now bits) (now weights) (now netweights) (now firsts) n m k total)
+        (now movers) (now origins) tried kept ⌝ }
+    ensures { λ r. ⌜ ((aboves loadedsizes : List ℕ) → Rewinds
+        (lent (now (counts .entry)) (now (visited .entry)) (now (gains .entry)) (now (blocks .entry)) (now (loads .entry)) (now (presentpins .entry)) (now (presentsizes .entry)) (now (bits .entry)) (now (weights .entry)) (now (netweights .entry)) (now (firsts .entry)) n m k total aboves loadedsizes)
+        (now (movers .entry)) (now (origins .entry)) tried kept
         (lent (now (counts .exit)) (now (visited .exit)) (now (gains .exit)) (now (blocks .exit)) (now (loads .exit)) (now (presentpins .exit)) (now (presentsizes .exit)) (now (bits .exit)) (now (weights .exit)) (now (netweights .exit)) (now (firsts .exit)) n m k r aboves loadedsizes)) ⌝ }
 {
     let mut t = total;
@@ -280,9 +294,14 @@ pub fn walk(
     u: usize,
     v: usize,
 ) -> Walked
-    requires { ⌜ WalkOk (lent (now counts) (now visited) (now gains) (now blocks) (now loads) (now presentpins) (now presentsizes) (now bits) (now weights) (now netweights) (now firsts) n m k total) u v ⌝ }
-    ensures { λ r. ⌜ ((aboves loadedsizes : List ℕ) → Walks (lent (now (counts .entry)) (now (visited .entry)) (now (gains .entry)) (now (blocks .entry)) (now (loads .entry)) (now (presentpins .entry)) (now (presentsizes .entry)) (now (bits .entry)) (now (weights .entry)) (now (netweights .entry)) (now (firsts .entry)) n m k total aboves loadedsizes) (now (ceilings .entry)) u v
-        (lent (now (counts .exit)) (now (visited .exit)) (now (gains .exit)) (now (blocks .exit)) (now (loads .exit)) (now (presentpins .exit)) (now (presentsizes .exit)) (now (bits .exit)) (now (weights .exit)) (now (netweights .exit)) (now (firsts .exit)) n m k (r .total) aboves loadedsizes) (r .tried) (r .kept)) ⌝ }
+    requires { ⌜ WalkOk
+        (lent (now counts) (now visited) (now gains) (now blocks) (now loads) (now presentpins) (now presentsizes) (now bits) (now weights) (now netweights) (now firsts) n m k total)
+        u v ⌝ }
+    ensures { λ r. ⌜ ((aboves loadedsizes : List ℕ) → Walks
+        (lent (now (counts .entry)) (now (visited .entry)) (now (gains .entry)) (now (blocks .entry)) (now (loads .entry)) (now (presentpins .entry)) (now (presentsizes .entry)) (now (bits .entry)) (now (weights .entry)) (now (netweights .entry)) (now (firsts .entry)) n m k total aboves loadedsizes)
+        (now (ceilings .entry)) u v
+        (lent (now (counts .exit)) (now (visited .exit)) (now (gains .exit)) (now (blocks .exit)) (now (loads .exit)) (now (presentpins .exit)) (now (presentsizes .exit)) (now (bits .exit)) (now (weights .exit)) (now (netweights .exit)) (now (firsts .exit)) n m k (r .total) aboves loadedsizes)
+        (r .tried) (r .kept)) ⌝ }
 {
     let mut marks = [0u64; 48];
     mark_vertex(&mut marks, u);
