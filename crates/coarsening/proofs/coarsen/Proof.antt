@@ -41,8 +41,11 @@ loop-holds c =
 
 coarsen-once-requires : tie.Need-coarsen-once-requires Inv-loop μ-loop
 coarsen-once-requires c κs =
-    let v = c .before .before .before .before .before .before .before .before .before .before .before .before .before .loop .inv in
-    (once-asks (c .before .before .before .before .before .before .before .before .before .before .before .before .before .before .before .before .before .before .before .before .before .before .before .before .before .before .before .before .before .before .before .pre) (v .0) (omega (arith, c .before .before .before .before .before .before .before .before .before .before .before .if1 .taken)), (v .1, v .2))
+    let at-if1 = c .before .before .before .before .before .before .before .before .before .before .before in
+    let at-loop = at-if1 .before .before in
+    let start = at-loop .before .before .before .before .before .before .before .before .before .before .before .before .before .before .before .before .before .before in
+    let v = at-loop .loop .inv in
+    (once-asks (start .pre) (v .0) (omega (arith, at-if1 .if1 .taken)), (v .1, v .2))
 
 loop-less : tie.Need-loop-less Inv-loop μ-loop
 loop-less c =
@@ -52,39 +55,61 @@ loop-less c =
 
 loop-again : tie.Need-loop-again Inv-loop μ-loop
 loop-again c =
-    let v = c .before .before .before .before .before .before .before .before .before .before .before .before .before .before .before .before .before .before .before .before .before .before .before .before .before .before .before .before .before .before .before .loop .inv in
-    let o = c .before .before .before .before .before .before .before .before .before .before .before .before .before .before .before .before .before .coarsen-once in
+    let at-coarsen-once = c .before .before .before .before .before .before .before .before .before .before .before .before .before .before .before .before .before in
+    let at-loop = at-coarsen-once .before .before .before .before .before .before .before .before .before .before .before .before .before .before in
+    let v = at-loop .loop .inv in
+    let o = at-coarsen-once .coarsen-once in
     (λ loads loaded. going-more refl refl refl refl refl (v .0 loads loaded) (o .ensures .0 loads loaded), o .ensures .1 .0, o .ensures .1 .1, omega (arith, v, o .kept), omega (arith, v, o .kept), omega (arith, v, o .kept), omega (arith, v, o .kept), omega (arith, v, o .kept), omega (arith, v, o .kept), omega (arith, v, o .kept), omega (arith, v, o .kept), omega (arith, v, o .kept))
 
 same-length : tie.Need-same-length Inv-loop μ-loop
-same-length c = omega (arith, c .before .before .before .loop .inv)
+same-length c =
+    let at-loop = c .before .before .before in
+    omega (arith, at-loop .loop .inv)
 
 same-length-2 : tie.Need-same-length-2 Inv-loop μ-loop
-same-length-2 c = omega (arith, c .before .before .before .loop .inv)
+same-length-2 c =
+    let at-loop = c .before .before .before in
+    omega (arith, at-loop .loop .inv)
 
 same-length-3 : tie.Need-same-length-3 Inv-loop μ-loop
-same-length-3 c = omega (arith, c .before .before .before .loop .inv)
+same-length-3 c =
+    let at-loop = c .before .before .before in
+    omega (arith, at-loop .loop .inv)
 
 same-length-4 : tie.Need-same-length-4 Inv-loop μ-loop
-same-length-4 c = omega (arith, c .before .before .before .loop .inv)
+same-length-4 c =
+    let at-loop = c .before .before .before in
+    omega (arith, at-loop .loop .inv)
 
 same-length-5 : tie.Need-same-length-5 Inv-loop μ-loop
-same-length-5 c = omega (arith, c .before .before .before .loop .inv)
+same-length-5 c =
+    let at-loop = c .before .before .before in
+    omega (arith, at-loop .loop .inv)
 
 same-length-6 : tie.Need-same-length-6 Inv-loop μ-loop
-same-length-6 c = omega (arith, c .before .before .before .loop .inv)
+same-length-6 c =
+    let at-loop = c .before .before .before in
+    omega (arith, at-loop .loop .inv)
 
 same-length-7 : tie.Need-same-length-7 Inv-loop μ-loop
-same-length-7 c = omega (arith, c .before .before .before .loop .inv)
+same-length-7 c =
+    let at-loop = c .before .before .before in
+    omega (arith, at-loop .loop .inv)
 
 same-length-8 : tie.Need-same-length-8 Inv-loop μ-loop
-same-length-8 c = omega (arith, c .before .before .before .loop .inv)
+same-length-8 c =
+    let at-loop = c .before .before .before in
+    omega (arith, at-loop .loop .inv)
 
 same-length-9 : tie.Need-same-length-9 Inv-loop μ-loop
-same-length-9 c = omega (arith, c .before .before .before .loop .inv)
+same-length-9 c =
+    let at-loop = c .before .before .before in
+    omega (arith, at-loop .loop .inv)
 
 returns : tie.Need-returns Inv-loop μ-loop
-returns c = λ loads loaded. going-done (c .before .before .before .loop .inv .0 loads loaded) (omega (arith, c .before .if1 .left))
+returns c =
+    let at-loop = c .before .before .before in
+    λ loads loaded. going-done (at-loop .loop .inv .0 loads loaded) (omega (arith, c .before .if1 .left))
 
 pub coarsen-spec : {M : Type 1} → statement M
 coarsen-spec =

@@ -36,35 +36,59 @@ returns c =
     (λ loads loaded. once-none _ _ _ (j .result) (start .pre .0 .some) (j .ensures .0) (c .if1 .taken), (j .ensures .1 .1, j .ensures .1 .0 .none (c .if1 .taken)))
 
 sub-join : tie.Need-sub-join
-sub-join c = omega (arith, c .before .before .before .before .before .before .before .before .before .before .before .plan-join .ensures .0 .within (omega (arith, c .before .before .before .before .before .before .before .before .before .if1 .left)))
+sub-join c =
+    let at-if1 = c .before .before .before .before .before .before .before .before .before in
+    let at-plan-join = at-if1 .before .before in
+    omega (arith, at-plan-join .plan-join .ensures .0 .within (omega (arith, at-if1 .if1 .left)))
 
 sub-join-2 : tie.Need-sub-join-2
-sub-join-2 c = omega (arith, c .before .before .before .before .before .before .before .before .before .before .before .plan-join .ensures .0 .within (omega (arith, c .before .before .before .before .before .before .before .before .before .if1 .left)))
+sub-join-2 c =
+    let at-if1 = c .before .before .before .before .before .before .before .before .before in
+    let at-plan-join = at-if1 .before .before in
+    omega (arith, at-plan-join .plan-join .ensures .0 .within (omega (arith, at-if1 .if1 .left)))
 
 join-requires : tie.Need-join-requires
 join-requires c κs =
-    let p = c .before .before .before .before .before .before .before .before .before .before .before .before .before .before .before .before .before .before .before .before .before .before .before .before .before .before .before .before .before .pre .0 in
-    record { loads = p .loads; loaded = p .loaded; h = p .h; cs = p .c .stack; block = p .c .block; sound = p .here .stands .sound; pair = pair-ok _ _ (p .average-is) (p .here .stands .sound) (c .before .before .before .before .before .before .before .before .before .before .before .plan-join .ensures .0) (omega (arith, c .before .before .before .before .before .before .before .before .before .if1 .left)) }
+    let at-if1 = c .before .before .before .before .before .before .before .before .before in
+    let at-plan-join = at-if1 .before .before in
+    let start = at-plan-join .before .before .before .before .before .before .before .before .before .before .before .before .before .before .before .before .before .before in
+    let p = start .pre .0 in
+    record { loads = p .loads; loaded = p .loaded; h = p .h; cs = p .c .stack; block = p .c .block; sound = p .here .stands .sound; pair = pair-ok _ _ (p .average-is) (p .here .stands .sound) (at-plan-join .plan-join .ensures .0) (omega (arith, at-if1 .if1 .left)) }
 
 narrow-requires : tie.Need-narrow-requires
-narrow-requires c κs = omega (arith, c .before .before .before .before .before .before .before .before .before .before .before .before .before .before .before .before .before .before .before .before .before .before .before .before .before .before .before .before .before .plan-join .ensures .0 .within (omega (arith, c .before .before .before .before .before .before .before .before .before .before .before .before .before .before .before .before .before .before .before .before .before .before .before .before .before .before .before .if1 .left)), once-room (c .before .before .before .before .before .before .before .before .before .before .before .before .before .before .before .before .before .before .before .before .before .before .before .before .before .before .before .before .before .before .before .before .before .before .before .before .before .before .before .before .before .before .before .before .before .before .before .pre .0))
+narrow-requires c κs =
+    let at-if1 = c .before .before .before .before .before .before .before .before .before .before .before .before .before .before .before .before .before .before .before .before .before .before .before .before .before .before .before in
+    let at-plan-join = at-if1 .before .before in
+    let start = at-plan-join .before .before .before .before .before .before .before .before .before .before .before .before .before .before .before .before .before .before in
+    omega (arith, at-plan-join .plan-join .ensures .0 .within (omega (arith, at-if1 .if1 .left)), once-room (start .pre .0))
 
 narrow-requires-2 : tie.Need-narrow-requires-2
-narrow-requires-2 c κs = omega (arith, c .before .before .before .before .before .before .before .before .before .before .before .before .before .before .before .before .before .before .before .before .before .before .before .before .before .before .before .before .before .before .plan-join .ensures .0 .within (omega (arith, c .before .before .before .before .before .before .before .before .before .before .before .before .before .before .before .before .before .before .before .before .before .before .before .before .before .before .before .before .if1 .left)), once-room (c .before .before .before .before .before .before .before .before .before .before .before .before .before .before .before .before .before .before .before .before .before .before .before .before .before .before .before .before .before .before .before .before .before .before .before .before .before .before .before .before .before .before .before .before .before .before .before .before .pre .0))
+narrow-requires-2 c κs =
+    let at-if1 = c .before .before .before .before .before .before .before .before .before .before .before .before .before .before .before .before .before .before .before .before .before .before .before .before .before .before .before .before in
+    let at-plan-join = at-if1 .before .before in
+    let start = at-plan-join .before .before .before .before .before .before .before .before .before .before .before .before .before .before .before .before .before .before in
+    omega (arith, at-plan-join .plan-join .ensures .0 .within (omega (arith, at-if1 .if1 .left)), once-room (start .pre .0))
 
 push-requires : tie.Need-push-requires
 push-requires c κs =
-    let p = c .before .before .before .before .before .before .before .before .before .before .before .before .before .before .before .before .before .before .before .before .before .before .before .before .before .before .before .before .before .before .before .before .before .before .before .before .before .before .before .before .before .before .before .before .before .before .before .before .before .pre .0 in
+    let start = c .before .before .before .before .before .before .before .before .before .before .before .before .before .before .before .before .before .before .before .before .before .before .before .before .before .before .before .before .before .before .before .before .before .before .before .before .before .before .before .before .before .before .before .before .before .before .before .before .before in
+    let p = start .pre .0 in
     (omega (arith, once-room p), p .here .stands .into-fit, p .here .stands .gone-fit)
 
 sub-t55 : tie.Need-sub-t55
-sub-t55 c = omega (arith, c .before .before .before .before .before .before .before .before .before .before .before .before .before .before .before .before .before .before .before .before .before .before .before .before .before .before .before .before .before .before .before .before .before .before .before .before .before .before .before .before .before .before .before .before .before .before .before .before .before .before .before .pre .0 .some)
+sub-t55 c =
+    let start = c .before .before .before .before .before .before .before .before .before .before .before .before .before .before .before .before .before .before .before .before .before .before .before .before .before .before .before .before .before .before .before .before .before .before .before .before .before .before .before .before .before .before .before .before .before .before .before .before .before .before .before in
+    omega (arith, start .pre .0 .some)
 
 same-length-6 : tie.Need-same-length-6
-same-length-6 c = omega (arith, c .before .before .before .before .before .before .before .before .before .before .before .before .before .before .before .before .before .before .before .before .before .join .kept)
+same-length-6 c =
+    let at-join = c .before .before .before .before .before .before .before .before .before .before .before .before .before .before .before .before .before .before .before .before .before in
+    omega (arith, at-join .join .kept)
 
 same-length-7 : tie.Need-same-length-7
-same-length-7 c = omega (arith, c .before .before .before .before .before .before .before .before .before .before .before .before .before .before .before .before .before .before .before .before .before .join .kept)
+same-length-7 c =
+    let at-join = c .before .before .before .before .before .before .before .before .before .before .before .before .before .before .before .before .before .before .before .before .before in
+    omega (arith, at-join .join .kept)
 
 same-length-8 : tie.Need-same-length-8
 same-length-8 c = search needs
@@ -89,11 +113,16 @@ same-length-14 c = search needs
 
 returns-2 : tie.Need-returns-2
 returns-2 c =
-    let p = c .before .before .before .before .before .before .before .before .before .before .before .before .before .before .before .before .before .before .before .before .before .before .before .before .before .before .before .before .before .before .before .before .before .before .before .before .before .before .before .before .before .before .before .before .before .before .before .before .before .before .before .pre .0 in
-    let j = c .before .before .before .before .before .before .before .before .before .before .before .before .before .before .before .before .before .before .before .before .before .before .before .before .before .before .before .before .before .before .before .before .before .plan-join in
-    let l = c .before .before .before .before .before .before .before .before .before .before .before .before .before .before .before .before .before .before .before .before .before .before .before .before .before .before .before .before .before .before .before .if1 .left in
-    let t = c .before .before .before .before .before .before .before .before .before .before .before .before .before .before .before .before .before .before .before .before .before .join .ensures in
-    (λ loads loaded. once-join _ _ _ _ (j .result) _ _ _ _ _ (p .some) (omega (arith, once-room p)) (j .ensures .0) (omega (arith, l)) refl (t loads loaded) (c .before .before .before .narrow .ensures) (c .before .before .narrow2 .ensures) (c .before .push .ensures), (j .ensures .1 .1, once-bounds p _ (j .result) _ refl refl (j .ensures .0) (omega (arith, l)) (t (p .loads) (p .loaded)) (j .ensures .1 .0)))
+    let at-narrow = c .before .before .before in
+    let at-join = at-narrow .before .before .before .before .before .before .before .before .before .before .before .before .before .before .before .before .before .before in
+    let at-if1 = at-join .before .before .before .before .before .before .before .before .before .before in
+    let at-plan-join = at-if1 .before .before in
+    let start = at-plan-join .before .before .before .before .before .before .before .before .before .before .before .before .before .before .before .before .before .before in
+    let p = start .pre .0 in
+    let j = at-plan-join .plan-join in
+    let l = at-if1 .if1 .left in
+    let t = at-join .join .ensures in
+    (λ loads loaded. once-join _ _ _ _ (j .result) _ _ _ _ _ (p .some) (omega (arith, once-room p)) (j .ensures .0) (omega (arith, l)) refl (t loads loaded) (at-narrow .narrow .ensures) (c .before .before .narrow2 .ensures) (c .before .push .ensures), (j .ensures .1 .1, once-bounds p _ (j .result) _ refl refl (j .ensures .0) (omega (arith, l)) (t (p .loads) (p .loaded)) (j .ensures .1 .0)))
 
 pub coarsen-once-spec : {M : Type 1} → statement M
 coarsen-once-spec =

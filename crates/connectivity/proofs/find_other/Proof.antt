@@ -18,13 +18,17 @@ loop-holds : tie.Need-loop-holds Inv-loop μ-loop
 loop-holds c = let a = c .before .before .args in (omega arith, passed-none (now (a .pins)) (now (a .blocks)) (a .first) (a .p) (a .x) (a .s))
 
 add-index : tie.Need-add-index Inv-loop μ-loop
-add-index c = let S = c .before .before .before .before in omega (arith, S .pre .0 .pins-fit)
+add-index c =
+    let start = c .before .before .before .before in
+    let S = start in omega (arith, S .pre .0 .pins-fit)
 
 mul-index : tie.Need-mul-index Inv-loop μ-loop
 mul-index c = omega arith
 
 shared-slice-read-index : tie.Need-shared-slice-read-index Inv-loop μ-loop
-shared-slice-read-index c = let S = c .before .before .before .before .before in omega (arith, S .pre .0 .pins-fit)
+shared-slice-read-index c =
+    let start = c .before .before .before .before .before in
+    let S = start in omega (arith, S .pre .0 .pins-fit)
 
 index-requires : tie.Need-index-requires Inv-loop μ-loop
 index-requires c κs = search needs

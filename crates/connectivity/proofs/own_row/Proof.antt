@@ -10,7 +10,9 @@ returns : tie.Need-returns
 returns c = let S = c .before .before in own-none (S .args .take) (S .pre) (lone-none (S .args .a) (S .args .b) (c .if1 .taken))
 
 returns-2 : tie.Need-returns-2
-returns-2 c = let S = c .before .before .before in own-none (S .args .take) (S .pre) (lone-both (S .args .a) (S .args .b) (c .if2 .taken))
+returns-2 c =
+    let start = c .before .before .before in
+    let S = start in own-none (S .args .take) (S .pre) (lone-both (S .args .a) (S .args .b) (c .if2 .taken))
 
 sub-share-row : tie.Need-sub-share-row
 sub-share-row c = search needs

@@ -6,10 +6,13 @@ use Rattle.connectivity.proofs.touch_others.Tie as tie
 
 returns : tie.Need-returns
 returns c =
-    let S = c .before .before .before .before in others-idle (S .pre) (c .before .if1 .taken) (c .if2 .taken)
+    let start = c .before .before .before .before in
+    let S = start in others-idle (S .pre) (c .before .if1 .taken) (c .if2 .taken)
 
 last-if-requires : tie.Need-last-if-requires
-last-if-requires c κs = let S = c .before .before .before .before in (rows-0 (S .pre), S .pre .a-sole)
+last-if-requires c κs =
+    let start = c .before .before .before .before in
+    let S = start in (rows-0 (S .pre), S .pre .a-sole)
 
 last-if-requires-2 : tie.Need-last-if-requires-2
 last-if-requires-2 c κs =

@@ -29,25 +29,40 @@ returns c =
     let a = start .args in let x = slice (a .at) (a .end) (now (a .s)) in buy-bad (now (a .s)) (a .at) (a .end) (a .vertices) (a .j) (a .first) (now (a .loadedpins)) (now (a .stamps)) (start .pre .5) (c .before .form .result) word-BUY (c .before .form .ensures) (c .if1 .taken)
 
 get-requires : tie.Need-get-requires
-get-requires c κs = let a = c .before .before .before .before .before .args in let x = slice (a .at) (a .end) (now (a .s)) in (omega arith, omega arith, numbered (66 ∷ 85 ∷ 89 ∷ []) (fields x) (c .before .form .result - 1) 1 (sym (c .before .form .ensures) ∙ omega arith) (omega arith) (omega arith))
+get-requires c κs =
+    let start = c .before .before .before .before .before in
+    let a = start .args in let x = slice (a .at) (a .end) (now (a .s)) in (omega arith, omega arith, numbered (66 ∷ 85 ∷ 89 ∷ []) (fields x) (c .before .form .result - 1) 1 (sym (c .before .form .ensures) ∙ omega arith) (omega arith) (omega arith))
 
 between-requires : tie.Need-between-requires
 between-requires c κs = search needs
 
 returns-2 : tie.Need-returns-2
-returns-2 c = let a = c .before .before .before .before .before .before .before .before .args in let x = slice (a .at) (a .end) (now (a .s)) in buy-range (now (a .s)) (a .at) (a .end) (a .vertices) (a .j) (a .first) (now (a .loadedpins)) (now (a .stamps)) (c .before .before .before .before .before .before .before .before .pre .5) (c .before .before .before .before .form .result) word-BUY (c .before .before .before .before .form .ensures) (omega arith) (c .before .before .get .result) (c .before .before .get .ensures) (sym (c .before .between .ensures) ∙ not-true _ (c .if2 .taken))
+returns-2 c =
+    let at-form = c .before .before .before .before in
+    let start = at-form .before .before .before .before in
+    let a = start .args in let x = slice (a .at) (a .end) (now (a .s)) in buy-range (now (a .s)) (a .at) (a .end) (a .vertices) (a .j) (a .first) (now (a .loadedpins)) (now (a .stamps)) (start .pre .5) (at-form .form .result) word-BUY (at-form .form .ensures) (omega arith) (c .before .before .get .result) (c .before .before .get .ensures) (sym (c .before .between .ensures) ∙ not-true _ (c .if2 .taken))
 
 third-requires : tie.Need-third-requires
-third-requires c κs = let a = c .before .before .before .before .before .before .before .before .args in let x = slice (a .at) (a .end) (now (a .s)) in (omega arith, omega arith, buy-long x (c .before .before .before .before .form .result) word-BUY (c .before .before .before .before .form .ensures) (omega arith))
+third-requires c κs =
+    let at-form = c .before .before .before .before in
+    let start = at-form .before .before .before .before in
+    let a = start .args in let x = slice (a .at) (a .end) (now (a .s)) in (omega arith, omega arith, buy-long x (at-form .form .result) word-BUY (at-form .form .ensures) (omega arith))
 
 read-pins-requires : tie.Need-read-pins-requires
-read-pins-requires c κs = let a = c .before .before .before .before .before .before .before .before .before .before .before .args in let x = slice (a .at) (a .end) (now (a .s)) in (omega arith, omega arith, ap (λ (fs : List (List _)). all fs isNumber) (c .before .before .third .ensures .is) ∙ buy-rest x (c .before .before .before .before .before .before .before .form .result) word-BUY (c .before .before .before .before .before .before .before .form .ensures) (omega arith), c .before .before .before .before .before .before .before .before .before .before .before .pre .2, c .before .before .before .before .before .before .before .before .before .before .before .pre .3, c .before .before .before .before .before .before .before .before .before .before .before .pre .4, c .before .before .before .before .before .before .before .before .before .before .before .pre .5, c .before .before .before .before .before .before .before .before .before .before .before .pre .6)
+read-pins-requires c κs =
+    let at-form = c .before .before .before .before .before .before .before in
+    let start = at-form .before .before .before .before in
+    let a = start .args in let x = slice (a .at) (a .end) (now (a .s)) in (omega arith, omega arith, ap (λ (fs : List (List _)). all fs isNumber) (c .before .before .third .ensures .is) ∙ buy-rest x (at-form .form .result) word-BUY (at-form .form .ensures) (omega arith), start .pre .2, start .pre .3, start .pre .4, start .pre .5, start .pre .6)
 
 enum-known-m : tie.Need-enum-known-m
 enum-known-m c = search needs
 
 cast-t24 : tie.Need-cast-t24
-cast-t24 c = omega (arith, leb-true (c .before .before .before .before .before .before .before .before .before .before .before .get .result) 1000 (and-right (leb 1 (c .before .before .before .before .before .before .before .before .before .before .before .get .result)) _ (sym (c .before .before .before .before .before .before .before .before .before .before .between .ensures) ∙ not-false _ (c .before .before .before .before .before .before .before .before .before .if2 .left))))
+cast-t24 c =
+    let at-if2 = c .before .before .before .before .before .before .before .before .before in
+    let at-between = at-if2 .before in
+    let at-get = at-between .before in
+    omega (arith, leb-true (at-get .get .result) 1000 (and-right (leb 1 (at-get .get .result)) _ (sym (at-between .between .ensures) ∙ not-false _ (at-if2 .if2 .left))))
 
 enum-known-q : tie.Need-enum-known-q
 enum-known-q c = search needs
@@ -56,13 +71,29 @@ same-length : tie.Need-same-length
 same-length c = search needs
 
 returns-3 : tie.Need-returns-3
-returns-3 c = let a = c .before .before .before .before .before .before .before .before .before .before .before .before .before .before .before .before .before .args in let x = slice (a .at) (a .end) (now (a .s)) in buy-read (now (a .s)) (a .at) (a .end) (a .vertices) (a .j) (a .first) (now (a .loadedpins)) (now (a .stamps)) (c .before .before .before .before .before .before .before .before .before .before .before .before .before .before .before .before .before .pre .5) (c .before .before .before .before .before .before .before .before .before .before .before .before .before .form .result) word-BUY (c .before .before .before .before .before .before .before .before .before .before .before .before .before .form .ensures) (omega arith) (c .before .before .before .before .before .before .before .before .before .before .before .get .result) (c .before .before .before .before .before .before .before .before .before .before .before .get .ensures) (sym (c .before .before .before .before .before .before .before .before .before .before .between .ensures) ∙ not-false _ (c .before .before .before .before .before .before .before .before .before .if2 .left)) (c .before .before .before .before .before .before .before .before .third .result) (c .before .before .before .before .before .before .before .before .third .ensures) (c .before .before .before .before .before .read-pins .result) (c .before .before .before .before .before .read-pins .last .1 .1 .1 .1 .1 .1 .0) (c .before .before .before .before .before .read-pins .last .1 .1 .1 .1 .1 .1 .1 .0) (c .before .before .before .before .before .read-pins .ensures) (c .before .m .given .0 .0) (c .before .m .given .1)
+returns-3 c =
+    let at-read-pins = c .before .before .before .before .before in
+    let at-third = at-read-pins .before .before .before in
+    let at-if2 = at-third .before in
+    let at-between = at-if2 .before in
+    let at-get = at-between .before in
+    let at-form = at-get .before .before in
+    let start = at-form .before .before .before .before in
+    let a = start .args in let x = slice (a .at) (a .end) (now (a .s)) in buy-read (now (a .s)) (a .at) (a .end) (a .vertices) (a .j) (a .first) (now (a .loadedpins)) (now (a .stamps)) (start .pre .5) (at-form .form .result) word-BUY (at-form .form .ensures) (omega arith) (at-get .get .result) (at-get .get .ensures) (sym (at-between .between .ensures) ∙ not-false _ (at-if2 .if2 .left)) (at-third .third .result) (at-third .third .ensures) (at-read-pins .read-pins .result) (at-read-pins .read-pins .last .1 .1 .1 .1 .1 .1 .0) (at-read-pins .read-pins .last .1 .1 .1 .1 .1 .1 .1 .0) (at-read-pins .read-pins .ensures) (c .before .m .given .0 .0) (c .before .m .given .1)
 
 same-length-2 : tie.Need-same-length-2
 same-length-2 c = search needs
 
 returns-4 : tie.Need-returns-4
-returns-4 c = let a = c .before .before .before .before .before .before .before .before .before .before .before .before .before .before .before .before .before .args in let x = slice (a .at) (a .end) (now (a .s)) in buy-wrong (now (a .s)) (a .at) (a .end) (a .vertices) (a .j) (a .first) (now (a .loadedpins)) (now (a .stamps)) (c .before .before .before .before .before .before .before .before .before .before .before .before .before .before .before .before .before .pre .5) (c .before .before .before .before .before .before .before .before .before .before .before .before .before .form .result) word-BUY (c .before .before .before .before .before .before .before .before .before .before .before .before .before .form .ensures) (omega arith) (c .before .before .before .before .before .before .before .before .before .before .before .get .result) (c .before .before .before .before .before .before .before .before .before .before .before .get .ensures) (sym (c .before .before .before .before .before .before .before .before .before .before .between .ensures) ∙ not-false _ (c .before .before .before .before .before .before .before .before .before .if2 .left)) (c .before .before .before .before .before .before .before .before .third .result) (c .before .before .before .before .before .before .before .before .third .ensures) (c .before .before .before .before .before .read-pins .result) (c .before .before .before .before .before .read-pins .last .1 .1 .1 .1 .1 .1 .0) (c .before .before .before .before .before .read-pins .last .1 .1 .1 .1 .1 .1 .1 .0) (c .before .before .before .before .before .read-pins .ensures) (c .before .q .given .0 .0) (c .before .q .given .1)
+returns-4 c =
+    let at-read-pins = c .before .before .before .before .before in
+    let at-third = at-read-pins .before .before .before in
+    let at-if2 = at-third .before in
+    let at-between = at-if2 .before in
+    let at-get = at-between .before in
+    let at-form = at-get .before .before in
+    let start = at-form .before .before .before .before in
+    let a = start .args in let x = slice (a .at) (a .end) (now (a .s)) in buy-wrong (now (a .s)) (a .at) (a .end) (a .vertices) (a .j) (a .first) (now (a .loadedpins)) (now (a .stamps)) (start .pre .5) (at-form .form .result) word-BUY (at-form .form .ensures) (omega arith) (at-get .get .result) (at-get .get .ensures) (sym (at-between .between .ensures) ∙ not-false _ (at-if2 .if2 .left)) (at-third .third .result) (at-third .third .ensures) (at-read-pins .read-pins .result) (at-read-pins .read-pins .last .1 .1 .1 .1 .1 .1 .0) (at-read-pins .read-pins .last .1 .1 .1 .1 .1 .1 .1 .0) (at-read-pins .read-pins .ensures) (c .before .q .given .0 .0) (c .before .q .given .1)
 
 pub buy-line-spec : {M : Type 1} → statement M
 buy-line-spec =

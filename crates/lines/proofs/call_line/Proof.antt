@@ -18,10 +18,14 @@ form-requires : tie.Need-form-requires
 form-requires c κs = search needs
 
 get-requires : tie.Need-get-requires
-get-requires c κs = let a = c .before .before .before .before .args in let x = slice (a .at) (a .end) (now (a .s)) in (omega arith, omega arith, numbered (74 ∷ []) (fields x) 2 1 (sym (c .before .form .ensures) ∙ c .if1 .taken) (omega arith) (omega arith))
+get-requires c κs =
+    let start = c .before .before .before .before in
+    let a = start .args in let x = slice (a .at) (a .end) (now (a .s)) in (omega arith, omega arith, numbered (74 ∷ []) (fields x) 2 1 (sym (c .before .form .ensures) ∙ c .if1 .taken) (omega arith) (omega arith))
 
 get-requires-2 : tie.Need-get-requires-2
-get-requires-2 c κs = let a = c .before .before .before .before .before .args in let x = slice (a .at) (a .end) (now (a .s)) in (omega arith, omega arith, numbered (74 ∷ []) (fields x) 2 2 (sym (c .before .before .form .ensures) ∙ c .before .if1 .taken) (omega arith) (omega arith))
+get-requires-2 c κs =
+    let start = c .before .before .before .before .before in
+    let a = start .args in let x = slice (a .at) (a .end) (now (a .s)) in (omega arith, omega arith, numbered (74 ∷ []) (fields x) 2 2 (sym (c .before .before .form .ensures) ∙ c .before .if1 .taken) (omega arith) (omega arith))
 
 returns : tie.Need-returns
 returns c =
@@ -49,10 +53,14 @@ form-requires-3 : tie.Need-form-requires-3
 form-requires-3 c κs = search needs
 
 get-requires-3 : tie.Need-get-requires-3
-get-requires-3 c κs = let a = c .before .before .before .before .before .before .before .before .before .before .args in let x = slice (a .at) (a .end) (now (a .s)) in (omega arith, omega arith, numbered (77 ∷ []) (fields x) 2 1 (sym (c .before .form3 .ensures) ∙ c .if3 .taken) (omega arith) (omega arith))
+get-requires-3 c κs =
+    let start = c .before .before .before .before .before .before .before .before .before .before in
+    let a = start .args in let x = slice (a .at) (a .end) (now (a .s)) in (omega arith, omega arith, numbered (77 ∷ []) (fields x) 2 1 (sym (c .before .form3 .ensures) ∙ c .if3 .taken) (omega arith) (omega arith))
 
 get-requires-4 : tie.Need-get-requires-4
-get-requires-4 c κs = let a = c .before .before .before .before .before .before .before .before .before .before .before .args in let x = slice (a .at) (a .end) (now (a .s)) in (omega arith, omega arith, numbered (77 ∷ []) (fields x) 2 2 (sym (c .before .before .form3 .ensures) ∙ c .before .if3 .taken) (omega arith) (omega arith))
+get-requires-4 c κs =
+    let start = c .before .before .before .before .before .before .before .before .before .before .before in
+    let a = start .args in let x = slice (a .at) (a .end) (now (a .s)) in (omega arith, omega arith, numbered (77 ∷ []) (fields x) 2 2 (sym (c .before .before .form3 .ensures) ∙ c .before .if3 .taken) (omega arith) (omega arith))
 
 returns-3 : tie.Need-returns-3
 returns-3 c =
@@ -88,10 +96,14 @@ form-requires-5 : tie.Need-form-requires-5
 form-requires-5 c κs = search needs
 
 get-requires-5 : tie.Need-get-requires-5
-get-requires-5 c κs = let a = c .before .before .before .before .before .before .before .before .before .before .before .before .before .before .before .before .args in let x = slice (a .at) (a .end) (now (a .s)) in (omega arith, omega arith, numbered (87 ∷ []) (fields x) 2 1 (sym (c .before .form5 .ensures) ∙ c .if5 .taken) (omega arith) (omega arith))
+get-requires-5 c κs =
+    let start = c .before .before .before .before .before .before .before .before .before .before .before .before .before .before .before .before in
+    let a = start .args in let x = slice (a .at) (a .end) (now (a .s)) in (omega arith, omega arith, numbered (87 ∷ []) (fields x) 2 1 (sym (c .before .form5 .ensures) ∙ c .if5 .taken) (omega arith) (omega arith))
 
 get-requires-6 : tie.Need-get-requires-6
-get-requires-6 c κs = let a = c .before .before .before .before .before .before .before .before .before .before .before .before .before .before .before .before .before .args in let x = slice (a .at) (a .end) (now (a .s)) in (omega arith, omega arith, numbered (87 ∷ []) (fields x) 2 2 (sym (c .before .before .form5 .ensures) ∙ c .before .if5 .taken) (omega arith) (omega arith))
+get-requires-6 c κs =
+    let start = c .before .before .before .before .before .before .before .before .before .before .before .before .before .before .before .before .before in
+    let a = start .args in let x = slice (a .at) (a .end) (now (a .s)) in (omega arith, omega arith, numbered (87 ∷ []) (fields x) 2 2 (sym (c .before .before .form5 .ensures) ∙ c .before .if5 .taken) (omega arith) (omega arith))
 
 returns-5 : tie.Need-returns-5
 returns-5 c =

@@ -26,10 +26,14 @@ returns c =
     let a = start .args in let x = slice (a .at) (a .end) (now (a .s)) in λ n k eb. lot-form n k (fields x) (line-no "LOT" (76 ∷ 79 ∷ 84 ∷ []) 2 (c .before .form .result) x word-LOT (c .before .form .ensures) (c .if1 .taken))
 
 get-requires : tie.Need-get-requires
-get-requires c κs = let a = c .before .before .before .before .args in let x = slice (a .at) (a .end) (now (a .s)) in (omega arith, omega arith, numbered (76 ∷ 79 ∷ 84 ∷ []) (fields x) 2 1 (sym (c .before .form .ensures) ∙ c .if1 .left) (omega arith) (omega arith))
+get-requires c κs =
+    let start = c .before .before .before .before in
+    let a = start .args in let x = slice (a .at) (a .end) (now (a .s)) in (omega arith, omega arith, numbered (76 ∷ 79 ∷ 84 ∷ []) (fields x) 2 1 (sym (c .before .form .ensures) ∙ c .if1 .left) (omega arith) (omega arith))
 
 get-requires-2 : tie.Need-get-requires-2
-get-requires-2 c κs = let a = c .before .before .before .before .before .args in let x = slice (a .at) (a .end) (now (a .s)) in (omega arith, omega arith, numbered (76 ∷ 79 ∷ 84 ∷ []) (fields x) 2 2 (sym (c .before .before .form .ensures) ∙ c .before .if1 .left) (omega arith) (omega arith))
+get-requires-2 c κs =
+    let start = c .before .before .before .before .before in
+    let a = start .args in let x = slice (a .at) (a .end) (now (a .s)) in (omega arith, omega arith, numbered (76 ∷ 79 ∷ 84 ∷ []) (fields x) 2 2 (sym (c .before .before .form .ensures) ∙ c .before .if1 .left) (omega arith) (omega arith))
 
 between-requires : tie.Need-between-requires
 between-requires c κs = search needs
@@ -56,7 +60,10 @@ returns-3 c =
     let a = start .args in let x = slice (a .at) (a .end) (now (a .s)) in λ n k eb. lot-2 n k (fields x) (line-yes "LOT" (76 ∷ 79 ∷ 84 ∷ []) 2 (at-form .form .result) x word-LOT (at-form .form .ensures) (at-if1 .if1 .left)) (at-get .get .result) (at-get2 .get2 .result) (a .blocks) (at-get .get .ensures) (at-get2 .get2 .ensures) eb (sym (at-between .between .ensures) ∙ not-false _ (c .before .before .if2 .left)) (sym (c .before .between2 .ensures) ∙ not-true _ (c .if3 .taken))
 
 cast-t14 : tie.Need-cast-t14
-cast-t14 c = omega (arith, leb-true (c .before .before .before .before .get2 .result) (c .before .before .before .before .before .before .before .before .before .before .args .blocks) (and-right (leb 1 (c .before .before .before .before .get2 .result)) _ (sym (c .before .between2 .ensures) ∙ not-false _ (c .if3 .left))))
+cast-t14 c =
+    let at-get2 = c .before .before .before .before in
+    let start = at-get2 .before .before .before .before .before .before in
+    omega (arith, leb-true (at-get2 .get2 .result) (start .args .blocks) (and-right (leb 1 (at-get2 .get2 .result)) _ (sym (c .before .between2 .ensures) ∙ not-false _ (c .if3 .left))))
 
 returns-4 : tie.Need-returns-4
 returns-4 c =

@@ -22,10 +22,14 @@ element-copy-out-if3 : tie.Need-element-copy-out-if3
 element-copy-out-if3 c = search needs
 
 returns-3 : tie.Need-returns-3
-returns-3 c = let a = c .before .before .before .before .args in mark-twice (a .v) (a .vertices) (a .j) (a .m) (now (a .loadedpins)) (now (a .stamps)) (omega arith) (omega arith) (c .before .before .before .before .pre .2) (omega arith) (omega arith) (c .if3 .taken)
+returns-3 c =
+    let start = c .before .before .before .before in
+    let a = start .args in mark-twice (a .v) (a .vertices) (a .j) (a .m) (now (a .loadedpins)) (now (a .stamps)) (omega arith) (omega arith) (start .pre .2) (omega arith) (omega arith) (c .if3 .taken)
 
 returns-4 : tie.Need-returns-4
-returns-4 c = let a = c .before .before .before .before .before .args in mark-full (a .v) (a .vertices) (a .j) (a .m) (now (a .loadedpins)) (now (a .stamps)) (omega arith) (omega arith) (c .before .before .before .before .before .pre .2) (omega arith) (omega arith) (c .before .if3 .left) (omega arith)
+returns-4 c =
+    let start = c .before .before .before .before .before in
+    let a = start .args in mark-full (a .v) (a .vertices) (a .j) (a .m) (now (a .loadedpins)) (now (a .stamps)) (omega arith) (omega arith) (start .pre .2) (omega arith) (omega arith) (c .before .if3 .left) (omega arith)
 
 cast-loadedpins : tie.Need-cast-loadedpins
 cast-loadedpins c = search needs
@@ -46,7 +50,9 @@ same-length : tie.Need-same-length
 same-length c = search needs
 
 returns-5 : tie.Need-returns-5
-returns-5 c = let a = c .before .before .before .before .before .args in mark-new (a .v) (a .vertices) (a .j) (a .m) (now (a .loadedpins)) (now (a .stamps)) (omega arith) (omega arith) (c .before .before .before .before .before .pre .2) (omega arith) (omega arith) (c .before .if3 .left) (omega arith)
+returns-5 c =
+    let start = c .before .before .before .before .before in
+    let a = start .args in mark-new (a .v) (a .vertices) (a .j) (a .m) (now (a .loadedpins)) (now (a .stamps)) (omega arith) (omega arith) (start .pre .2) (omega arith) (omega arith) (c .before .if3 .left) (omega arith)
 
 pub put-pin-spec : {M : Type 1} → statement M
 put-pin-spec =

@@ -49,7 +49,9 @@ returns c =
     (f .result .end) (f .result .value) (f .ensures) (q .result) (q .last .1 .1 .1 .1 .0) (q .last .1 .1 .1 .1 .1 .0) (q .ensures) (c .if1 .taken)
 
 add-m : tie.Need-add-m Inv-loop μ-loop
-add-m c = omega (arith, c .before .before .before .put-pin .ensures .room (omega arith))
+add-m c =
+    let at-put-pin = c .before .before .before in
+    omega (arith, at-put-pin .put-pin .ensures .room (omega arith))
 
 same-length-2 : tie.Need-same-length-2 Inv-loop μ-loop
 same-length-2 c =

@@ -26,16 +26,27 @@ returns c =
     let a = start .args in let x = slice (a .at) (a .end) (now (a .s)) in record { says = λ n. sale-form (limitsOf (a .vmax) (a .bmax)) n (fields x) (line-no "SALE" (83 ∷ 65 ∷ 76 ∷ 69 ∷ []) 4 (c .before .form .result) x word-SALE (c .before .form .ensures) (c .if1 .taken)); ranges = λ l b k t z. absurd (no-sale z) }
 
 get-requires : tie.Need-get-requires
-get-requires c κs = let a = c .before .before .before .before .args in let x = slice (a .at) (a .end) (now (a .s)) in (omega arith, omega arith, numbered (83 ∷ 65 ∷ 76 ∷ 69 ∷ []) (fields x) 4 1 (sym (c .before .form .ensures) ∙ c .if1 .left) (omega arith) (omega arith))
+get-requires c κs =
+    let start = c .before .before .before .before in
+    let a = start .args in let x = slice (a .at) (a .end) (now (a .s)) in (omega arith, omega arith, numbered (83 ∷ 65 ∷ 76 ∷ 69 ∷ []) (fields x) 4 1 (sym (c .before .form .ensures) ∙ c .if1 .left) (omega arith) (omega arith))
 
 get-requires-2 : tie.Need-get-requires-2
-get-requires-2 c κs = let a = c .before .before .before .before .before .args in let x = slice (a .at) (a .end) (now (a .s)) in (omega arith, omega arith, numbered (83 ∷ 65 ∷ 76 ∷ 69 ∷ []) (fields x) 4 2 (sym (c .before .before .form .ensures) ∙ c .before .if1 .left) (omega arith) (omega arith))
+get-requires-2 c κs =
+    let start = c .before .before .before .before .before in
+    let a = start .args in let x = slice (a .at) (a .end) (now (a .s)) in (omega arith, omega arith, numbered (83 ∷ 65 ∷ 76 ∷ 69 ∷ []) (fields x) 4 2 (sym (c .before .before .form .ensures) ∙ c .before .if1 .left) (omega arith) (omega arith))
 
 get-requires-3 : tie.Need-get-requires-3
-get-requires-3 c κs = let a = c .before .before .before .before .before .before .args in let x = slice (a .at) (a .end) (now (a .s)) in (omega arith, omega arith, numbered (83 ∷ 65 ∷ 76 ∷ 69 ∷ []) (fields x) 4 3 (sym (c .before .before .before .form .ensures) ∙ c .before .before .if1 .left) (omega arith) (omega arith))
+get-requires-3 c κs =
+    let at-form = c .before .before .before in
+    let start = at-form .before .before .before in
+    let a = start .args in let x = slice (a .at) (a .end) (now (a .s)) in (omega arith, omega arith, numbered (83 ∷ 65 ∷ 76 ∷ 69 ∷ []) (fields x) 4 3 (sym (at-form .form .ensures) ∙ c .before .before .if1 .left) (omega arith) (omega arith))
 
 get-requires-4 : tie.Need-get-requires-4
-get-requires-4 c κs = let a = c .before .before .before .before .before .before .before .args in let x = slice (a .at) (a .end) (now (a .s)) in (omega arith, omega arith, numbered (83 ∷ 65 ∷ 76 ∷ 69 ∷ []) (fields x) 4 4 (sym (c .before .before .before .before .form .ensures) ∙ c .before .before .before .if1 .left) (omega arith) (omega arith))
+get-requires-4 c κs =
+    let at-if1 = c .before .before .before in
+    let at-form = at-if1 .before in
+    let start = at-form .before .before .before in
+    let a = start .args in let x = slice (a .at) (a .end) (now (a .s)) in (omega arith, omega arith, numbered (83 ∷ 65 ∷ 76 ∷ 69 ∷ []) (fields x) 4 4 (sym (at-form .form .ensures) ∙ at-if1 .if1 .left) (omega arith) (omega arith))
 
 between-requires : tie.Need-between-requires
 between-requires c κs = search needs

@@ -39,7 +39,9 @@ loop-less : tie.Need-loop-less Inv-loop μ-loop
 loop-less c = omega arith
 
 loop-again : tie.Need-loop-again Inv-loop μ-loop
-loop-again c = let l = c .before .before .loop in let a = c .before .before .before .args in (omega arith, filled-more (l .i) (getD (now (a .from)) (l .i) 0) (λ x. getD (now (a .from)) x 0) (now (a .to)) (l .to) (l .inv .1) (omega arith) refl)
+loop-again c =
+    let start = c .before .before .before in
+    let l = c .before .before .loop in let a = start .args in (omega arith, filled-more (l .i) (getD (now (a .from)) (l .i) 0) (λ x. getD (now (a .from)) x 0) (now (a .to)) (l .to) (l .inv .1) (omega arith) refl)
 
 same-length : tie.Need-same-length Inv-loop μ-loop
 same-length c = c .before .loop .inv .1 .as-long

@@ -24,21 +24,27 @@ cast-start-2 c = search needs
 
 start-requires : tie.Need-start-requires
 start-requires c κs =
-    let p = c .before .before .before .before .before .before .before .before .before .before .before .before .before .before .before .before .before .before .before .before .before .before .before .before .before .before .before .before .before .before .before .before .before .before .before .before .before .before .pre .4 in
-    let f = c .before .before .before .before .before .before .before .before .before .before .before .before .before .before .before .before .before .before .before .before .read .ensures .fitted (c .before .before .before .before .before .before .l .given .0 .0) (c .before .before .before .before .before .before .l .given .0 .1 .0) (c .before .before .before .before .before .before .l .given .0 .1 .1 .0) (c .before .before .before .before .before .before .l .given .0 .1 .1 .1 .0) (c .before .before .before .before .before .before .l .given .0 .1 .1 .1 .1 .0) (c .before .before .before .before .before .before .l .given .0 .1 .1 .1 .1 .1 .0) (c .before .before .before .before .before .before .l .given .1) in
-    (omega (arith, f .range .l-high, p .aboves), omega (arith, f .settled .laid .m-le, p .loadedPins, c .before .before .before .before .before .before .before .before .before .before .before .before .before .before .before .before .before .before .before .before .read .kept .1 .1 .1 .1 .1 .1 .1 .1 .0), omega (arith, f .settled .laid .m-le, p .presentPins), omega (arith, f .range .b-high, p .loadedSizes, c .before .before .before .before .before .before .before .before .before .before .before .before .before .before .before .before .before .before .before .before .read .kept .1 .1 .1 .1 .1 .1 .1 .0), omega (arith, f .range .b-high, p .presentSizes))
+    let at-l = c .before .before .before .before .before .before in
+    let at-read = at-l .before .before .before .before .before .before .before .before .before .before .before .before .before .before in
+    let start = at-read .before .before .before .before .before .before .before .before .before .before .before .before .before .before .before .before .before .before in
+    let p = start .pre .4 in
+    let f = at-read .read .ensures .fitted (at-l .l .given .0 .0) (at-l .l .given .0 .1 .0) (at-l .l .given .0 .1 .1 .0) (at-l .l .given .0 .1 .1 .1 .0) (at-l .l .given .0 .1 .1 .1 .1 .0) (at-l .l .given .0 .1 .1 .1 .1 .1 .0) (at-l .l .given .1) in
+    (omega (arith, f .range .l-high, p .aboves), omega (arith, f .settled .laid .m-le, p .loadedPins, at-read .read .kept .1 .1 .1 .1 .1 .1 .1 .1 .0), omega (arith, f .settled .laid .m-le, p .presentPins), omega (arith, f .range .b-high, p .loadedSizes, at-read .read .kept .1 .1 .1 .1 .1 .1 .1 .0), omega (arith, f .range .b-high, p .presentSizes))
 
 measure-requires : tie.Need-measure-requires
 measure-requires c κs =
+    let at-l = c .before .before .before .before .before .before .before .before .before .before .before .before .before .before in
+    let at-read = at-l .before .before .before .before .before .before .before .before .before .before .before .before .before .before in
+    let start = at-read .before .before .before .before .before .before .before .before .before .before .before .before .before .before .before .before .before .before in
     let a = c .before .before .before .before .before .before .before .before .before .before .before .before .before .before .before .before .before .before .before .before .before .before .before .before .before .before .before .before .before .before .before .before .before .before .before .before .before .before .before .before .before .before .before .before .before .before .args in
-    let p = c .before .before .before .before .before .before .before .before .before .before .before .before .before .before .before .before .before .before .before .before .before .before .before .before .before .before .before .before .before .before .before .before .before .before .before .before .before .before .before .before .before .before .before .before .before .before .pre .4 in
-    let f = c .before .before .before .before .before .before .before .before .before .before .before .before .before .before .before .before .before .before .before .before .before .before .before .before .before .before .before .before .read .ensures .fitted (c .before .before .before .before .before .before .before .before .before .before .before .before .before .before .l .given .0 .0) (c .before .before .before .before .before .before .before .before .before .before .before .before .before .before .l .given .0 .1 .0) (c .before .before .before .before .before .before .before .before .before .before .before .before .before .before .l .given .0 .1 .1 .0) (c .before .before .before .before .before .before .before .before .before .before .before .before .before .before .l .given .0 .1 .1 .1 .0) (c .before .before .before .before .before .before .before .before .before .before .before .before .before .before .l .given .0 .1 .1 .1 .1 .0) (c .before .before .before .before .before .before .before .before .before .before .before .before .before .before .l .given .0 .1 .1 .1 .1 .1 .0) (c .before .before .before .before .before .before .before .before .before .before .before .before .before .before .l .given .1) in (
-      omega (arith, f .range .l-high, c .before .before .before .before .before .before .before .before .before .before .before .before .before .before .before .before .before .before .before .before .before .before .before .before .before .before .before .before .before .before .before .before .before .before .before .before .before .before .before .before .before .before .before .before .before .before .pre .0),
-      omega (arith, f .range .l-high, p .weights, c .before .before .before .before .before .before .before .before .before .before .before .before .before .before .before .before .before .before .before .before .before .before .before .before .before .before .before .before .read .kept .1 .1 .1 .0),
+    let p = start .pre .4 in
+    let f = at-read .read .ensures .fitted (at-l .l .given .0 .0) (at-l .l .given .0 .1 .0) (at-l .l .given .0 .1 .1 .0) (at-l .l .given .0 .1 .1 .1 .0) (at-l .l .given .0 .1 .1 .1 .1 .0) (at-l .l .given .0 .1 .1 .1 .1 .1 .0) (at-l .l .given .1) in (
+      omega (arith, f .range .l-high, start .pre .0),
+      omega (arith, f .range .l-high, p .weights, at-read .read .kept .1 .1 .1 .0),
       omega (arith, f .range .k-low),
-      omega (arith, f .range .k-high, c .before .before .before .before .before .before .before .before .before .before .before .before .before .before .before .before .before .before .before .before .before .before .before .before .before .before .before .before .before .before .before .before .before .before .before .before .before .before .before .before .before .before .before .before .before .before .pre .1),
+      omega (arith, f .range .k-high, start .pre .1),
       f .range .t-high,
-      omega (arith, f .range .k-high, c .before .before .before .before .before .before .before .before .before .before .before .before .before .before .before .before .before .before .before .before .before .before .before .before .before .before .before .before .before .before .before .before .before .before .before .before .before .before .before .before .before .before .before .before .before .before .pre .1, small (limitsOf (a .vmax) (a .bmax)) (now (a .s)) (c .before .before .before .before .before .before .before .before .before .before .before .before .before .before .l .given .0 .0) (c .before .before .before .before .before .before .before .before .before .before .before .before .before .before .l .given .0 .1 .0) (c .before .before .before .before .before .before .before .before .before .before .before .before .before .before .l .given .0 .1 .1 .0) (c .before .before .before .before .before .before .before .before .before .before .before .before .before .before .l .given .0 .1 .1 .1 .0) (c .before .before .before .before .before .before .before .before .before .before .before .before .before .before .l .given .0 .1 .1 .1 .1 .0) (c .before .before .before .before .before .before .before .before .before .before .before .before .before .before .l .given .0 .1 .1 .1 .1 .1 .0) (now (a .weights)) (now (a .blocks)) (now (a .aboves)) (now (a .loadedpins)) (now (a .presentpins)) (now (a .firsts)) (now (a .loadedsizes)) (now (a .presentsizes)) _ _ (now (a .aboves)) _ (now (a .presentpins)) _ _ (now (a .presentsizes)) _ _ (c .before .before .before .before .before .before .before .before .before .before .before .before .before .before .before .before .before .before .before .before .before .before .before .before .before .before .before .before .read .result) (c .before .before .before .before .before .before .before .before .before .before .before .before .before .before .before .before .before .before .before .before .before .before .before .before .before .before .before .before .read .ensures) (c .before .before .before .before .before .before .before .before .before .before .before .before .before .before .l .given .1) (c .before .before .before .before .before .before .before .before .before .before .before .before .before .before .before .before .before .before .before .before .before .before .before .before .before .before .before .before .before .before .before .before .before .before .before .before .before .before .before .before .before .before .before .before .before .before .pre .0) (c .before .before .before .before .before .before .before .before .before .before .before .before .before .before .before .before .before .before .before .before .before .before .before .before .before .before .before .before .read .kept .1 .1 .1 .0) (c .before .before .before .before .before .before .before .before .before .before .before .before .before .before .before .before .before .before .before .before .before .before .before .before .before .before .before .before .read .kept .1 .1 .1 .1 .0) (c .before .before .before .before .before .before .before .before .before .before .before .before .before .before .before .before .before .before .before .before .before .before .before .before .before .before .before .before .read .kept .1 .1 .1 .1 .1 .1 .1 .1 .0) (c .before .before .before .before .before .before .before .before .before .before .before .before .before .before .before .before .before .before .before .before .before .before .before .before .before .before .before .before .read .kept .1 .1 .1 .1 .1 .1 .0) (c .before .before .before .before .before .before .before .before .before .before .before .before .before .before .before .before .before .before .before .before .before .before .before .before .before .before .before .before .read .kept .1 .1 .1 .1 .1 .1 .1 .0) (p .weights) (p .blocks) (p .loadedPins) (p .presentPins)),
+      omega (arith, f .range .k-high, start .pre .1, small (limitsOf (a .vmax) (a .bmax)) (now (a .s)) (at-l .l .given .0 .0) (at-l .l .given .0 .1 .0) (at-l .l .given .0 .1 .1 .0) (at-l .l .given .0 .1 .1 .1 .0) (at-l .l .given .0 .1 .1 .1 .1 .0) (at-l .l .given .0 .1 .1 .1 .1 .1 .0) (now (a .weights)) (now (a .blocks)) (now (a .aboves)) (now (a .loadedpins)) (now (a .presentpins)) (now (a .firsts)) (now (a .loadedsizes)) (now (a .presentsizes)) _ _ (now (a .aboves)) _ (now (a .presentpins)) _ _ (now (a .presentsizes)) _ _ (at-read .read .result) (at-read .read .ensures) (at-l .l .given .1) (start .pre .0) (at-read .read .kept .1 .1 .1 .0) (at-read .read .kept .1 .1 .1 .1 .0) (at-read .read .kept .1 .1 .1 .1 .1 .1 .1 .1 .0) (at-read .read .kept .1 .1 .1 .1 .1 .1 .0) (at-read .read .kept .1 .1 .1 .1 .1 .1 .1 .0) (p .weights) (p .blocks) (p .loadedPins) (p .presentPins)),
     )
 
 same-length : tie.Need-same-length

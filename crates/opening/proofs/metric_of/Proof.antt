@@ -30,10 +30,16 @@ shared-slice-read-cost-2 : tie.Need-shared-slice-read-cost-2 Inv-loop μ-loop
 shared-slice-read-cost-2 c = omega arith
 
 cost-requires : tie.Need-cost-requires Inv-loop μ-loop
-cost-requires c κs = c .before .before .before .before .before .before .pre .light (c .before .before .before .loop .e) (omega arith)
+cost-requires c κs =
+    let at-loop = c .before .before .before in
+    let start = at-loop .before .before .before in
+    start .pre .light (at-loop .loop .e) (omega arith)
 
 add-t : tie.Need-add-t Inv-loop μ-loop
-add-t c = record { fits = omega (arith, c .cost .ensures .1, c .before .before .before .before .loop .inv .1, metric-le (c .before .before .before .before .before .before .before .args .visited .now) (c .before .before .before .before .before .before .before .args .netweights .now) (c .before .before .before .before .loop .e) (c .before .before .before .before .before .before .before .args .m) (omega arith) (c .before .before .before .before .before .before .before .pre), c .before .before .before .before .before .before .before .pre .few) }
+add-t c =
+    let at-loop = c .before .before .before .before in
+    let start = at-loop .before .before .before in
+    record { fits = omega (arith, c .cost .ensures .1, at-loop .loop .inv .1, metric-le (start .args .visited .now) (start .args .netweights .now) (at-loop .loop .e) (start .args .m) (omega arith) (start .pre), start .pre .few) }
 
 add-e : tie.Need-add-e Inv-loop μ-loop
 add-e c = omega arith
@@ -42,10 +48,15 @@ loop-less : tie.Need-loop-less Inv-loop μ-loop
 loop-less c = omega arith
 
 loop-again : tie.Need-loop-again Inv-loop μ-loop
-loop-again c = (omega arith, metric-more (c .before .before .before .before .before .before .before .args .visited .now) (c .before .before .before .before .before .before .before .args .netweights .now) (c .before .before .before .before .loop .e) (c .before .before .before .before .loop .t) (c .cost .result) (c .before .before .before .before .loop .inv .1) (c .cost .ensures .0))
+loop-again c =
+    let at-loop = c .before .before .before .before in
+    let start = at-loop .before .before .before in
+    (omega arith, metric-more (start .args .visited .now) (start .args .netweights .now) (at-loop .loop .e) (at-loop .loop .t) (c .cost .result) (at-loop .loop .inv .1) (c .cost .ensures .0))
 
 returns : tie.Need-returns Inv-loop μ-loop
-returns c = let q : c .before .loop .e ≡ c .before .before .before .before .args .m = omega arith in c .before .loop .inv .1 ∙ ap (metricBy (c .before .before .before .before .args .visited .now) (c .before .before .before .before .args .netweights .now)) q
+returns c =
+    let start = c .before .before .before .before in
+    let q : c .before .loop .e ≡ start .args .m = omega arith in c .before .loop .inv .1 ∙ ap (metricBy (start .args .visited .now) (start .args .netweights .now)) q
 
 pub metric-of-spec : {M : Type 1} → statement M
 metric-of-spec =

@@ -28,7 +28,9 @@ mul-loads : tie.Need-mul-loads Inv-loop μ-loop
 mul-loads c = omega arith
 
 element-write-loads : tie.Need-element-write-loads Inv-loop μ-loop
-element-write-loads c = omega (arith, c .before .before .before .before .before .pre .1)
+element-write-loads c =
+    let start = c .before .before .before .before .before in
+    omega (arith, start .pre .1)
 
 add-b : tie.Need-add-b Inv-loop μ-loop
 add-b c = omega arith
@@ -37,7 +39,9 @@ loop-less : tie.Need-loop-less Inv-loop μ-loop
 loop-less c = omega arith
 
 loop-again : tie.Need-loop-again Inv-loop μ-loop
-loop-again c = (omega arith, weighed-more (c .before .before .loop .b) (c .block-weight .result) (omega (arith, c .before .before .before .before .before .pre .1)) (c .before .before .loop .inv .1) (c .block-weight .ensures))
+loop-again c =
+    let start = c .before .before .before .before .before in
+    (omega arith, weighed-more (c .before .before .loop .b) (c .block-weight .result) (omega (arith, start .pre .1)) (c .before .before .loop .inv .1) (c .block-weight .ensures))
 
 returns : tie.Need-returns Inv-loop μ-loop
 returns c = record { len = c .before .loop .inv .1 .len; loads-are = λ j l. c .before .loop .inv .1 .done j (omega arith) }

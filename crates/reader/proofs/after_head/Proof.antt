@@ -22,7 +22,11 @@ enum-known-i : tie.Need-enum-known-i
 enum-known-i c = search needs
 
 after-vertices-requires : tie.Need-after-vertices-requires
-after-vertices-requires c κs = let p = c .before .before .before .before .before .before .before .before .before .before .before .before .before .before .before .before .before .before .before .before .before .before .before .before .before .pre in record { at-le = c .before .before .before .before .before .before .before .before .before .before .before .before .before .before .before .read-vertices .ensures .inside (c .before .before .before .before .before .before .before .before .before .i .given .0 .0) (c .before .before .before .before .before .before .before .before .before .i .given .1); range = p .1; long = record { l-le = p .2 .l-le; w-len = omega (arith, p .2 .w-len, c .before .before .before .before .before .before .before .before .before .before .before .before .before .before .before .read-vertices .kept .1 .1 .1 .1 .0); d-len = omega (arith, p .2 .d-len, c .before .before .before .before .before .before .before .before .before .before .before .before .before .before .before .read-vertices .kept .1 .1 .1 .1 .1 .0); nw-len = p .2 .nw-len; f-len = p .2 .f-len; c-len = p .2 .c-len; wide = p .2 .wide; calls-len = p .2 .calls-len }; slen = refl; fresh = fresh-start }
+after-vertices-requires c κs =
+    let at-i = c .before .before .before .before .before .before .before .before .before in
+    let at-read-vertices = at-i .before .before .before .before .before .before in
+    let start = at-read-vertices .before .before .before .before .before .before .before .before .before .before in
+    let p = start .pre in record { at-le = at-read-vertices .read-vertices .ensures .inside (at-i .i .given .0 .0) (at-i .i .given .1); range = p .1; long = record { l-le = p .2 .l-le; w-len = omega (arith, p .2 .w-len, at-read-vertices .read-vertices .kept .1 .1 .1 .1 .0); d-len = omega (arith, p .2 .d-len, at-read-vertices .read-vertices .kept .1 .1 .1 .1 .1 .0); nw-len = p .2 .nw-len; f-len = p .2 .f-len; c-len = p .2 .c-len; wide = p .2 .wide; calls-len = p .2 .calls-len }; slen = refl; fresh = fresh-start }
 
 same-length : tie.Need-same-length
 same-length c = search needs

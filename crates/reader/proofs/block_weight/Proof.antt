@@ -46,10 +46,15 @@ loop-less : tie.Need-loop-less Inv-loop μ-loop
 loop-less c = omega arith
 
 loop-again : tie.Need-loop-again Inv-loop μ-loop
-loop-again c = let l = c .before .before .before .before .loop in let a = c .before .before .before .before .before .before .before .args in (omega arith, omega (arith, l .inv .1, c .share .ensures, sum-step (l .i) (blockTerm (a .b) (now (a .weights)) (now (a .draft)))), omega (arith, l .inv .2))
+loop-again c =
+    let at-loop = c .before .before .before .before in
+    let start = at-loop .before .before .before in
+    let l = at-loop .loop in let a = start .args in (omega arith, omega (arith, l .inv .1, c .share .ensures, sum-step (l .i) (blockTerm (a .b) (now (a .weights)) (now (a .draft)))), omega (arith, l .inv .2))
 
 returns : tie.Need-returns Inv-loop μ-loop
-returns c = let l = c .before .loop in let a = c .before .before .before .before .args in l .inv .1 ∙ ap (λ n. sum n (blockTerm (a .b) (now (a .weights)) (now (a .draft)))) (omega arith)
+returns c =
+    let start = c .before .before .before .before in
+    let l = c .before .loop in let a = start .args in l .inv .1 ∙ ap (λ n. sum n (blockTerm (a .b) (now (a .weights)) (now (a .draft)))) (omega arith)
 
 pub block-weight-spec : {M : Type 1} → statement M
 block-weight-spec =

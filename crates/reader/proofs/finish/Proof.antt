@@ -16,7 +16,9 @@ overfull-requires : tie.Need-overfull-requires
 overfull-requires c κs = search needs
 
 returns : tie.Need-returns
-returns c = let a = c .before .before .before .before .before .before .args in last-over (now (a .s)) (a .at) (a .vertices) (a .nets) (a .blocks) (a .imbalance) (a .m) (now (a .weights)) (now (a .draft)) (omega arith) (c .before .overfull .result) (c .before .overfull .ensures) (c .if1 .taken) (now (a .calls))
+returns c =
+    let start = c .before .before .before .before .before .before in
+    let a = start .args in last-over (now (a .s)) (a .at) (a .vertices) (a .nets) (a .blocks) (a .imbalance) (a .m) (now (a .weights)) (now (a .draft)) (omega arith) (c .before .overfull .result) (c .before .overfull .ensures) (c .if1 .taken) (now (a .calls))
 
 add-read-calls : tie.Need-add-read-calls
 add-read-calls c = search needs
@@ -28,7 +30,11 @@ same-length : tie.Need-same-length
 same-length c = search needs
 
 returns-2 : tie.Need-returns-2
-returns-2 c = let a = c .before .before .before .before .before .before .before .before .before .before .args in last-calls (now (a .s)) (a .at) (a .vertices) (a .nets) (a .blocks) (a .imbalance) (a .m) (now (a .weights)) (now (a .draft)) (omega arith) (c .before .before .before .before .before .overfull .result) (c .before .before .before .before .before .overfull .ensures) (c .before .before .before .before .if1 .left) (c .before .before .read-calls .result) _ (c .before .before .read-calls .ensures)
+returns-2 c =
+    let at-if1 = c .before .before .before .before in
+    let at-overfull = at-if1 .before in
+    let start = at-overfull .before .before .before .before .before in
+    let a = start .args in last-calls (now (a .s)) (a .at) (a .vertices) (a .nets) (a .blocks) (a .imbalance) (a .m) (now (a .weights)) (now (a .draft)) (omega arith) (at-overfull .overfull .result) (at-overfull .overfull .ensures) (at-if1 .if1 .left) (c .before .before .read-calls .result) _ (c .before .before .read-calls .ensures)
 
 pub finish-spec : {M : Type 1} → statement M
 finish-spec =

@@ -24,7 +24,9 @@ capacity-requires : tie.Need-capacity-requires Inv-loop μ-loop
 capacity-requires c κs = search needs
 
 loop-holds : tie.Need-loop-holds Inv-loop μ-loop
-loop-holds c = let a = c .before .before .before .before .args in (omega arith, λ ns. over-none (a .vertices) (a .blocks) (a .imbalance) (now (a .weights)) (now (a .draft)) ns)
+loop-holds c =
+    let start = c .before .before .before .before in
+    let a = start .args in (omega arith, λ ns. over-none (a .vertices) (a .blocks) (a .imbalance) (now (a .weights)) (now (a .draft)) ns)
 
 add-b : tie.Need-add-b Inv-loop μ-loop
 add-b c = omega arith
@@ -33,16 +35,28 @@ block-weight-requires : tie.Need-block-weight-requires Inv-loop μ-loop
 block-weight-requires c κs = search needs
 
 returns : tie.Need-returns Inv-loop μ-loop
-returns c = let a = c .before .before .before .before .before .before .before .before .args in λ ns. over-found (a .vertices) (a .blocks) (a .imbalance) (now (a .weights)) (now (a .draft)) ns (omega arith) (c .before .before .before .loop .b) (c .before .before .before .before .before .average-weight .result) (c .before .before .before .before .capacity .result) (c .before .block-weight .result) (c .before .before .before .before .before .average-weight .ensures .0) (c .before .before .before .before .capacity .ensures) (c .before .block-weight .ensures) (omega arith) (c .if1 .taken)
+returns c =
+    let at-loop = c .before .before .before in
+    let at-capacity = at-loop .before in
+    let at-average-weight = at-capacity .before in
+    let start = at-average-weight .before .before .before in
+    let a = start .args in λ ns. over-found (a .vertices) (a .blocks) (a .imbalance) (now (a .weights)) (now (a .draft)) ns (omega arith) (at-loop .loop .b) (at-average-weight .average-weight .result) (at-capacity .capacity .result) (c .before .block-weight .result) (at-average-weight .average-weight .ensures .0) (at-capacity .capacity .ensures) (c .before .block-weight .ensures) (omega arith) (c .if1 .taken)
 
 loop-less : tie.Need-loop-less Inv-loop μ-loop
 loop-less c = omega arith
 
 loop-again : tie.Need-loop-again Inv-loop μ-loop
-loop-again c = let a = c .before .before .before .before .before .before .before .before .args in (omega arith, λ ns. over-next (a .vertices) (a .blocks) (a .imbalance) (now (a .weights)) (now (a .draft)) ns (omega arith) (c .before .before .before .loop .b) (c .before .before .before .before .before .average-weight .result) (c .before .before .before .before .capacity .result) (c .before .block-weight .result) (c .before .before .before .before .before .average-weight .ensures .0) (c .before .before .before .before .capacity .ensures) (c .before .block-weight .ensures) (c .before .before .before .loop .inv .1 ns) (c .if1 .left))
+loop-again c =
+    let at-loop = c .before .before .before in
+    let at-capacity = at-loop .before in
+    let at-average-weight = at-capacity .before in
+    let start = at-average-weight .before .before .before in
+    let a = start .args in (omega arith, λ ns. over-next (a .vertices) (a .blocks) (a .imbalance) (now (a .weights)) (now (a .draft)) ns (omega arith) (at-loop .loop .b) (at-average-weight .average-weight .result) (at-capacity .capacity .result) (c .before .block-weight .result) (at-average-weight .average-weight .ensures .0) (at-capacity .capacity .ensures) (c .before .block-weight .ensures) (at-loop .loop .inv .1 ns) (c .if1 .left))
 
 returns-2 : tie.Need-returns-2 Inv-loop μ-loop
-returns-2 c = let a = c .before .before .before .before .before .before .args in λ ns. over-all (a .vertices) (a .blocks) (a .imbalance) (now (a .weights)) (now (a .draft)) ns (c .before .loop .b) (omega arith) (c .before .loop .inv .1 ns)
+returns-2 c =
+    let start = c .before .before .before .before .before .before in
+    let a = start .args in λ ns. over-all (a .vertices) (a .blocks) (a .imbalance) (now (a .weights)) (now (a .draft)) ns (c .before .loop .b) (omega arith) (c .before .loop .inv .1 ns)
 
 pub overfull-spec : {M : Type 1} → statement M
 overfull-spec =

@@ -16,7 +16,9 @@ line-end-requires : tie.Need-line-end-requires
 line-end-requires c κs = search needs
 
 returns-2 : tie.Need-returns-2
-returns-2 c = let a = c .before .before .before .before .before .before .before .before .before .before .args in no-line (limitsOf (a .vmax) (a .bmax)) (now (a .s)) (now (a .weights)) (now (a .draft)) (now (a .firsts)) (now (a .loadedsizes)) (now (a .loadedpins)) (omega (arith, c .before .before .if1 .left)) (c .before .line-end .result) (c .before .line-end .ensures) (now (a .netweights)) (now (a .calls)) (c .if2 .taken)
+returns-2 c =
+    let start = c .before .before .before .before .before .before .before .before .before .before in
+    let a = start .args in no-line (limitsOf (a .vmax) (a .bmax)) (now (a .s)) (now (a .weights)) (now (a .draft)) (now (a .firsts)) (now (a .loadedsizes)) (now (a .loadedpins)) (omega (arith, c .before .before .if1 .left)) (c .before .line-end .result) (c .before .line-end .ensures) (now (a .netweights)) (now (a .calls)) (c .if2 .taken)
 
 sale-line-requires : tie.Need-sale-line-requires
 sale-line-requires c κs = search needs
@@ -31,7 +33,13 @@ add-after-head : tie.Need-add-after-head
 add-after-head c = search needs
 
 after-head-requires : tie.Need-after-head-requires
-after-head-requires c κs = let a = c .before .before .before .before .before .before .before .before .before .before .before .before .before .before .before .before .before .before .before .before .before .args in let p = c .before .before .before .before .before .before .before .before .before .before .before .before .before .before .before .before .before .before .before .before .before .pre in let g = c .before .before .before .before .before .before .before .before .vertices .given in let r = c .before .before .before .before .before .before .before .before .before .before .sale-line .ensures .ranges (g .0 .0) (g .0 .1 .0) (g .0 .1 .1 .0) (g .0 .1 .1 .1 .0) (g .1) in (omega (arith, c .before .before .before .before .before .before .before .before .before .before .before .if2 .left, c .before .before .before .before .before .before .before .before .before .before .before .before .line-end .ensures .high), record { l-low = r .l-low; l-high = omega (arith, r .l-high, p .1 .l-le); b-high = r .b-high; k-low = r .k-low; k-high = omega (arith, r .k-high, p .0); t-high = r .t-high }, record { l-le = omega (arith, r .l-high, p .1 .l-le); w-len = omega (arith, r .l-high, p .1 .w-len); d-len = omega (arith, r .l-high, p .1 .d-len); nw-len = p .1 .nw-len; f-len = p .1 .f-len; c-len = p .1 .c-len; wide = p .1 .wide; calls-len = p .1 .calls-len })
+after-head-requires c κs =
+    let at-vertices = c .before .before .before .before .before .before .before .before in
+    let at-sale-line = at-vertices .before .before in
+    let at-if2 = at-sale-line .before in
+    let at-line-end = at-if2 .before in
+    let start = at-line-end .before .before .before .before .before .before .before .before .before in
+    let a = start .args in let p = start .pre in let g = at-vertices .vertices .given in let r = at-sale-line .sale-line .ensures .ranges (g .0 .0) (g .0 .1 .0) (g .0 .1 .1 .0) (g .0 .1 .1 .1 .0) (g .1) in (omega (arith, at-if2 .if2 .left, at-line-end .line-end .ensures .high), record { l-low = r .l-low; l-high = omega (arith, r .l-high, p .1 .l-le); b-high = r .b-high; k-low = r .k-low; k-high = omega (arith, r .k-high, p .0); t-high = r .t-high }, record { l-le = omega (arith, r .l-high, p .1 .l-le); w-len = omega (arith, r .l-high, p .1 .w-len); d-len = omega (arith, r .l-high, p .1 .d-len); nw-len = p .1 .nw-len; f-len = p .1 .f-len; c-len = p .1 .c-len; wide = p .1 .wide; calls-len = p .1 .calls-len })
 
 enum-known-q-2 : tie.Need-enum-known-q-2
 enum-known-q-2 c = search needs
@@ -40,7 +48,13 @@ enum-known-m : tie.Need-enum-known-m
 enum-known-m c = search needs
 
 returns-3 : tie.Need-returns-3
-returns-3 c = let a = c .before .before .before .before .before .before .before .before .before .before .before .before .before .before .args in bad-sale (limitsOf (a .vmax) (a .bmax)) (now (a .s)) (now (a .weights)) (now (a .draft)) (now (a .firsts)) (now (a .loadedsizes)) (now (a .loadedpins)) (omega (arith, c .before .before .before .before .before .before .if1 .left)) (c .before .before .before .before .before .line-end .result) (c .before .before .before .before .before .line-end .ensures) (omega (arith, c .before .before .before .before .if2 .left, c .before .before .before .before .before .line-end .ensures .high)) (c .before .before .before .sale-line .result) (c .before .before .before .sale-line .ensures) (now (a .netweights)) (now (a .calls)) (c .before .q .given .0 .0) (c .before .q .given .1)
+returns-3 c =
+    let at-sale-line = c .before .before .before in
+    let at-if2 = at-sale-line .before in
+    let at-line-end = at-if2 .before in
+    let at-if1 = at-line-end .before in
+    let start = at-if1 .before .before .before .before .before .before .before .before in
+    let a = start .args in bad-sale (limitsOf (a .vmax) (a .bmax)) (now (a .s)) (now (a .weights)) (now (a .draft)) (now (a .firsts)) (now (a .loadedsizes)) (now (a .loadedpins)) (omega (arith, at-if1 .if1 .left)) (at-line-end .line-end .result) (at-line-end .line-end .ensures) (omega (arith, at-if2 .if2 .left, at-line-end .line-end .ensures .high)) (at-sale-line .sale-line .result) (at-sale-line .sale-line .ensures) (now (a .netweights)) (now (a .calls)) (c .before .q .given .0 .0) (c .before .q .given .1)
 
 same-length : tie.Need-same-length
 same-length c = search needs
@@ -61,7 +75,15 @@ same-length-6 : tie.Need-same-length-6
 same-length-6 c = search needs
 
 returns-4 : tie.Need-returns-4
-returns-4 c = let a = c .before .before .before .before .before .before .before .before .before .before .before .before .before .before .before .before .before .before .before .before .before .before .before .before .before .before .before .before .before .before .before .before .before .before .before .before .before .args in file-not (limitsOf (a .vmax) (a .bmax)) (now (a .s)) (now (a .weights)) (now (a .draft)) (now (a .firsts)) (now (a .loadedsizes)) (now (a .loadedpins)) (omega (arith, c .before .before .before .before .before .before .before .before .before .before .before .before .before .before .before .before .before .before .before .before .before .before .before .before .before .before .before .before .before .if1 .left)) (c .before .before .before .before .before .before .before .before .before .before .before .before .before .before .before .before .before .before .before .before .before .before .before .before .before .before .before .before .line-end .result) (c .before .before .before .before .before .before .before .before .before .before .before .before .before .before .before .before .before .before .before .before .before .before .before .before .before .before .before .before .line-end .ensures) (omega (arith, c .before .before .before .before .before .before .before .before .before .before .before .before .before .before .before .before .before .before .before .before .before .before .before .before .before .before .before .if2 .left, c .before .before .before .before .before .before .before .before .before .before .before .before .before .before .before .before .before .before .before .before .before .before .before .before .before .before .before .before .line-end .ensures .high)) (c .before .before .before .before .before .before .before .before .before .before .before .before .before .before .before .before .before .before .before .before .before .before .before .before .before .before .sale-line .result) (c .before .before .before .before .before .before .before .before .before .before .before .before .before .before .before .before .before .before .before .before .before .before .before .before .before .before .sale-line .ensures) (c .before .before .before .before .before .before .before .before .before .before .before .before .before .before .before .before .before .before .before .before .before .before .before .before .vertices .given .0 .0) (c .before .before .before .before .before .before .before .before .before .before .before .before .before .before .before .before .before .before .before .before .before .before .before .before .vertices .given .0 .1 .0) (c .before .before .before .before .before .before .before .before .before .before .before .before .before .before .before .before .before .before .before .before .before .before .before .before .vertices .given .0 .1 .1 .0) (c .before .before .before .before .before .before .before .before .before .before .before .before .before .before .before .before .before .before .before .before .before .before .before .before .vertices .given .0 .1 .1 .1 .0) (c .before .before .before .before .before .before .before .before .before .before .before .before .before .before .before .before .before .before .before .before .before .before .before .before .vertices .given .1) (c .before .before .before .before .before .before .before .before .before .before .before .before .before .before .before .after-head .result) _ _ _ _ _ _ _ (c .before .before .before .before .before .before .before .before .before .before .before .before .before .before .before .after-head .ensures) (c .before .q2 .given .0 .0) (c .before .q2 .given .0 .1 .0) (c .before .q2 .given .1)
+returns-4 c =
+    let at-after-head = c .before .before .before .before .before .before .before .before .before .before .before .before .before .before .before in
+    let at-vertices = at-after-head .before .before .before .before .before .before .before .before .before in
+    let at-sale-line = at-vertices .before .before in
+    let at-if2 = at-sale-line .before in
+    let at-line-end = at-if2 .before in
+    let at-if1 = at-line-end .before in
+    let start = at-if1 .before .before .before .before .before .before .before .before in
+    let a = start .args in file-not (limitsOf (a .vmax) (a .bmax)) (now (a .s)) (now (a .weights)) (now (a .draft)) (now (a .firsts)) (now (a .loadedsizes)) (now (a .loadedpins)) (omega (arith, at-if1 .if1 .left)) (at-line-end .line-end .result) (at-line-end .line-end .ensures) (omega (arith, at-if2 .if2 .left, at-line-end .line-end .ensures .high)) (at-sale-line .sale-line .result) (at-sale-line .sale-line .ensures) (at-vertices .vertices .given .0 .0) (at-vertices .vertices .given .0 .1 .0) (at-vertices .vertices .given .0 .1 .1 .0) (at-vertices .vertices .given .0 .1 .1 .1 .0) (at-vertices .vertices .given .1) (at-after-head .after-head .result) _ _ _ _ _ _ _ (at-after-head .after-head .ensures) (c .before .q2 .given .0 .0) (c .before .q2 .given .0 .1 .0) (c .before .q2 .given .1)
 
 same-length-7 : tie.Need-same-length-7
 same-length-7 c = search needs
@@ -82,7 +104,15 @@ same-length-12 : tie.Need-same-length-12
 same-length-12 c = search needs
 
 returns-5 : tie.Need-returns-5
-returns-5 c = let a = c .before .before .before .before .before .before .before .before .before .before .before .before .before .before .before .before .before .before .before .before .before .before .before .before .before .before .before .before .before .before .before .before .before .before .before .before .before .args in file-kept (limitsOf (a .vmax) (a .bmax)) (now (a .s)) (now (a .weights)) (now (a .draft)) (now (a .firsts)) (now (a .loadedsizes)) (now (a .loadedpins)) (omega (arith, c .before .before .before .before .before .before .before .before .before .before .before .before .before .before .before .before .before .before .before .before .before .before .before .before .before .before .before .before .before .if1 .left)) (c .before .before .before .before .before .before .before .before .before .before .before .before .before .before .before .before .before .before .before .before .before .before .before .before .before .before .before .before .line-end .result) (c .before .before .before .before .before .before .before .before .before .before .before .before .before .before .before .before .before .before .before .before .before .before .before .before .before .before .before .before .line-end .ensures) (omega (arith, c .before .before .before .before .before .before .before .before .before .before .before .before .before .before .before .before .before .before .before .before .before .before .before .before .before .before .before .if2 .left, c .before .before .before .before .before .before .before .before .before .before .before .before .before .before .before .before .before .before .before .before .before .before .before .before .before .before .before .before .line-end .ensures .high)) (c .before .before .before .before .before .before .before .before .before .before .before .before .before .before .before .before .before .before .before .before .before .before .before .before .before .before .sale-line .result) (c .before .before .before .before .before .before .before .before .before .before .before .before .before .before .before .before .before .before .before .before .before .before .before .before .before .before .sale-line .ensures) (c .before .before .before .before .before .before .before .before .before .before .before .before .before .before .before .before .before .before .before .before .before .before .before .before .vertices .given .0 .0) (c .before .before .before .before .before .before .before .before .before .before .before .before .before .before .before .before .before .before .before .before .before .before .before .before .vertices .given .0 .1 .0) (c .before .before .before .before .before .before .before .before .before .before .before .before .before .before .before .before .before .before .before .before .before .before .before .before .vertices .given .0 .1 .1 .0) (c .before .before .before .before .before .before .before .before .before .before .before .before .before .before .before .before .before .before .before .before .before .before .before .before .vertices .given .0 .1 .1 .1 .0) (c .before .before .before .before .before .before .before .before .before .before .before .before .before .before .before .before .before .before .before .before .before .before .before .before .vertices .given .1) (c .before .before .before .before .before .before .before .before .before .before .before .before .before .before .before .after-head .result) _ _ _ _ _ _ _ (c .before .before .before .before .before .before .before .before .before .before .before .before .before .before .before .after-head .ensures) (c .before .m .given .0 .0) (c .before .m .given .0 .1 .0) (c .before .m .given .1)
+returns-5 c =
+    let at-after-head = c .before .before .before .before .before .before .before .before .before .before .before .before .before .before .before in
+    let at-vertices = at-after-head .before .before .before .before .before .before .before .before .before in
+    let at-sale-line = at-vertices .before .before in
+    let at-if2 = at-sale-line .before in
+    let at-line-end = at-if2 .before in
+    let at-if1 = at-line-end .before in
+    let start = at-if1 .before .before .before .before .before .before .before .before in
+    let a = start .args in file-kept (limitsOf (a .vmax) (a .bmax)) (now (a .s)) (now (a .weights)) (now (a .draft)) (now (a .firsts)) (now (a .loadedsizes)) (now (a .loadedpins)) (omega (arith, at-if1 .if1 .left)) (at-line-end .line-end .result) (at-line-end .line-end .ensures) (omega (arith, at-if2 .if2 .left, at-line-end .line-end .ensures .high)) (at-sale-line .sale-line .result) (at-sale-line .sale-line .ensures) (at-vertices .vertices .given .0 .0) (at-vertices .vertices .given .0 .1 .0) (at-vertices .vertices .given .0 .1 .1 .0) (at-vertices .vertices .given .0 .1 .1 .1 .0) (at-vertices .vertices .given .1) (at-after-head .after-head .result) _ _ _ _ _ _ _ (at-after-head .after-head .ensures) (c .before .m .given .0 .0) (c .before .m .given .0 .1 .0) (c .before .m .given .1)
 
 pub read-spec : {M : Type 1} → statement M
 read-spec =

@@ -28,7 +28,9 @@ same-length : tie.Need-same-length Inv-loop μ-loop
 same-length c = c .before .before .loop .inv .same
 
 returns : tie.Need-returns Inv-loop μ-loop
-returns c = let a = c .before .before .before .before .before .args in let l = c .before .before .loop in calls-full (now (a .s)) (a .at) (a .n) (now (a .calls)) (l .calls) (l .i) (l .c) (l .inv) (omega arith) (c .if1 .taken)
+returns c =
+    let start = c .before .before .before .before .before in
+    let a = start .args in let l = c .before .before .loop in calls-full (now (a .s)) (a .at) (a .n) (now (a .calls)) (l .calls) (l .i) (l .c) (l .inv) (omega arith) (c .if1 .taken)
 
 line-end-requires : tie.Need-line-end-requires Inv-loop μ-loop
 line-end-requires c κs = search needs
@@ -37,10 +39,15 @@ add-t15 : tie.Need-add-t15 Inv-loop μ-loop
 add-t15 c = omega arith
 
 same-length-2 : tie.Need-same-length-2 Inv-loop μ-loop
-same-length-2 c = c .before .before .before .before .loop .inv .same
+same-length-2 c =
+    let at-loop = c .before .before .before .before in
+    at-loop .loop .inv .same
 
 returns-2 : tie.Need-returns-2 Inv-loop μ-loop
-returns-2 c = let a = c .before .before .before .before .before .before .before .args in let l = c .before .before .before .before .loop in calls-unended (now (a .s)) (a .at) (a .n) (now (a .calls)) (l .calls) (l .i) (l .c) (l .inv) (omega arith) (c .before .line-end .result) (c .before .line-end .ensures) (omega arith) (omega arith)
+returns-2 c =
+    let at-loop = c .before .before .before .before in
+    let start = at-loop .before .before .before in
+    let a = start .args in let l = at-loop .loop in calls-unended (now (a .s)) (a .at) (a .n) (now (a .calls)) (l .calls) (l .i) (l .c) (l .inv) (omega arith) (c .before .line-end .result) (c .before .line-end .ensures) (omega arith) (omega arith)
 
 call-line-requires : tie.Need-call-line-requires Inv-loop μ-loop
 call-line-requires c κs = search needs
@@ -52,10 +59,16 @@ add-t17 : tie.Need-add-t17 Inv-loop μ-loop
 add-t17 c = omega arith
 
 same-length-3 : tie.Need-same-length-3 Inv-loop μ-loop
-same-length-3 c = c .before .before .before .before .before .before .before .loop .inv .same
+same-length-3 c =
+    let at-loop = c .before .before .before .before .before .before .before in
+    at-loop .loop .inv .same
 
 returns-3 : tie.Need-returns-3 Inv-loop μ-loop
-returns-3 c = let a = c .before .before .before .before .before .before .before .before .before .before .args in let l = c .before .before .before .before .before .before .before .loop in calls-bad (now (a .s)) (a .at) (a .n) (now (a .calls)) (l .calls) (l .i) (l .c) (l .inv) (omega arith) (c .before .before .before .before .line-end .result) (c .before .before .before .before .line-end .ensures) (omega arith) (omega arith) (subst (CallRead (fields (slice (l .i) (c .before .before .before .before .line-end .result) (now (a .s))))) (c .enum-told .given .1) (c .before .before .call-line .ensures))
+returns-3 c =
+    let at-line-end = c .before .before .before .before in
+    let at-loop = at-line-end .before .before .before in
+    let start = at-loop .before .before .before in
+    let a = start .args in let l = at-loop .loop in calls-bad (now (a .s)) (a .at) (a .n) (now (a .calls)) (l .calls) (l .i) (l .c) (l .inv) (omega arith) (at-line-end .line-end .result) (at-line-end .line-end .ensures) (omega arith) (omega arith) (subst (CallRead (fields (slice (l .i) (at-line-end .line-end .result) (now (a .s))))) (c .enum-told .given .1) (c .before .before .call-line .ensures))
 
 enum-known-k : tie.Need-enum-known-k Inv-loop μ-loop
 enum-known-k c = search needs
@@ -97,13 +110,20 @@ loop-less : tie.Need-loop-less Inv-loop μ-loop
 loop-less c = omega arith
 
 loop-again : tie.Need-loop-again Inv-loop μ-loop
-loop-again c = let a = c .before .before .before .before .before .before .before .before .before .before .before .args in let l = c .before .before .before .before .before .before .before .before .loop in calls-on (now (a .s)) (a .at) (a .n) (now (a .calls)) (l .calls) (l .i) (l .c) (l .inv) (omega arith) (c .before .before .before .before .before .line-end .result) (c .before .before .before .before .before .line-end .ensures) (omega arith) (omega arith) (c .before .k .given .0 .0) (c .before .k .given .0 .1 .0) (c .before .k .given .0 .1 .1 .0) (subst (CallRead (fields (slice (l .i) (c .before .before .before .before .before .line-end .result) (now (a .s))))) (c .before .k .given .1) (c .before .before .before .call-line .ensures))
+loop-again c =
+    let at-call-line = c .before .before .before in
+    let at-line-end = at-call-line .before .before in
+    let at-loop = at-line-end .before .before .before in
+    let start = at-loop .before .before .before in
+    let a = start .args in let l = at-loop .loop in calls-on (now (a .s)) (a .at) (a .n) (now (a .calls)) (l .calls) (l .i) (l .c) (l .inv) (omega arith) (at-line-end .line-end .result) (at-line-end .line-end .ensures) (omega arith) (omega arith) (c .before .k .given .0 .0) (c .before .k .given .0 .1 .0) (c .before .k .given .0 .1 .1 .0) (subst (CallRead (fields (slice (l .i) (at-line-end .line-end .result) (now (a .s))))) (c .before .k .given .1) (at-call-line .call-line .ensures))
 
 same-length-4 : tie.Need-same-length-4 Inv-loop μ-loop
 same-length-4 c = c .before .loop .inv .same
 
 returns-4 : tie.Need-returns-4 Inv-loop μ-loop
-returns-4 c = let a = c .before .before .before .before .args in let l = c .before .loop in calls-done (now (a .s)) (a .at) (a .n) (now (a .calls)) (l .calls) (l .i) (l .c) (l .inv) (omega arith)
+returns-4 c =
+    let start = c .before .before .before .before in
+    let a = start .args in let l = c .before .loop in calls-done (now (a .s)) (a .at) (a .n) (now (a .calls)) (l .calls) (l .i) (l .c) (l .inv) (omega arith)
 
 pub read-calls-spec : {M : Type 1} → statement M
 read-calls-spec =

@@ -29,16 +29,25 @@ add-t21 : tie.Need-add-t21 Inv-loop μ-loop
 add-t21 c = omega arith
 
 same-length : tie.Need-same-length Inv-loop μ-loop
-same-length c = c .before .before .before .loop .inv .f-same
+same-length c =
+    let at-loop = c .before .before .before in
+    at-loop .loop .inv .f-same
 
 same-length-2 : tie.Need-same-length-2 Inv-loop μ-loop
-same-length-2 c = c .before .before .before .loop .inv .c-same
+same-length-2 c =
+    let at-loop = c .before .before .before in
+    at-loop .loop .inv .c-same
 
 same-length-3 : tie.Need-same-length-3 Inv-loop μ-loop
-same-length-3 c = c .before .before .before .loop .inv .m-same
+same-length-3 c =
+    let at-loop = c .before .before .before in
+    at-loop .loop .inv .m-same
 
 returns : tie.Need-returns Inv-loop μ-loop
-returns c = let a = c .before .before .before .before .before .before .before .before .args in let l = c .before .before .before .loop in buys-none (now (a .s)) (a .at) (a .vertices) (a .nets) (now (a .firsts)) (now (a .loadedsizes)) (now (a .loadedpins)) (l .netweights) (l .firsts) (l .loadedsizes) (l .loadedpins) (l .stamps) (l .i) (l .j) (l .m) (l .inv) (omega arith) (c .before .line-end .result) (c .before .line-end .ensures) (omega arith)
+returns c =
+    let at-loop = c .before .before .before in
+    let start = at-loop .before .before .before .before .before in
+    let a = start .args in let l = at-loop .loop in buys-none (now (a .s)) (a .at) (a .vertices) (a .nets) (now (a .firsts)) (now (a .loadedsizes)) (now (a .loadedpins)) (l .netweights) (l .firsts) (l .loadedsizes) (l .loadedpins) (l .stamps) (l .i) (l .j) (l .m) (l .inv) (omega arith) (c .before .line-end .result) (c .before .line-end .ensures) (omega arith)
 
 add-buy-line : tie.Need-add-buy-line Inv-loop μ-loop
 add-buy-line c = omega arith
@@ -47,7 +56,10 @@ cast-buy-line : tie.Need-cast-buy-line Inv-loop μ-loop
 cast-buy-line c = omega arith
 
 buy-line-requires : tie.Need-buy-line-requires Inv-loop μ-loop
-buy-line-requires c κs = let a = c .before .before .before .before .before .before .before .before .before .before .args in let l = c .before .before .before .before .before .loop in (omega arith, omega arith, l .inv .l-le, l .inv .m-le, l .inv .wide, l .inv .slen, l .inv .fresh)
+buy-line-requires c κs =
+    let at-loop = c .before .before .before .before .before in
+    let start = at-loop .before .before .before .before .before in
+    let a = start .args in let l = at-loop .loop in (omega arith, omega arith, l .inv .l-le, l .inv .m-le, l .inv .wide, l .inv .slen, l .inv .fresh)
 
 enum-known-q : tie.Need-enum-known-q Inv-loop μ-loop
 enum-known-q c = search needs
@@ -72,7 +84,12 @@ same-length-6 c =
     at-buy-line .buy-line .ensures .len ∙ at-loop .loop .inv .m-same
 
 returns-2 : tie.Need-returns-2 Inv-loop μ-loop
-returns-2 c = let a = c .before .before .before .before .before .before .before .before .before .before .before .before .before .before .before .before .args in let l = c .before .before .before .before .before .before .before .before .before .before .before .loop in buys-stop (now (a .s)) (a .at) (a .vertices) (a .nets) (now (a .firsts)) (now (a .loadedsizes)) (now (a .loadedpins)) (l .netweights) (l .firsts) (l .loadedsizes) (l .loadedpins) (l .stamps) (l .i) (l .j) (l .m) (l .inv) (omega arith) (c .before .before .before .before .before .before .before .before .before .line-end .result) (c .before .before .before .before .before .before .before .before .before .line-end .ensures) (omega arith) (c .before .before .before .before .before .buy-line .result) (c .before .before .before .before .before .buy-line .last .1 .1 .1 .1 .1 .1 .0) (c .before .before .before .before .before .buy-line .last .1 .1 .1 .1 .1 .1 .1 .0) (c .before .before .before .before .before .buy-line .ensures) (c .before .q .given .0 .0) (c .before .q .given .1)
+returns-2 c =
+    let at-buy-line = c .before .before .before .before .before in
+    let at-line-end = at-buy-line .before .before .before .before in
+    let at-loop = at-line-end .before .before in
+    let start = at-loop .before .before .before .before .before in
+    let a = start .args in let l = at-loop .loop in buys-stop (now (a .s)) (a .at) (a .vertices) (a .nets) (now (a .firsts)) (now (a .loadedsizes)) (now (a .loadedpins)) (l .netweights) (l .firsts) (l .loadedsizes) (l .loadedpins) (l .stamps) (l .i) (l .j) (l .m) (l .inv) (omega arith) (at-line-end .line-end .result) (at-line-end .line-end .ensures) (omega arith) (at-buy-line .buy-line .result) (at-buy-line .buy-line .last .1 .1 .1 .1 .1 .1 .0) (at-buy-line .buy-line .last .1 .1 .1 .1 .1 .1 .1 .0) (at-buy-line .buy-line .ensures) (c .before .q .given .0 .0) (c .before .q .given .1)
 
 enum-known-w : tie.Need-enum-known-w Inv-loop μ-loop
 enum-known-w c = search needs
@@ -84,25 +101,35 @@ element-write-netweights : tie.Need-element-write-netweights Inv-loop μ-loop
 element-write-netweights c = omega arith
 
 cast-firsts : tie.Need-cast-firsts Inv-loop μ-loop
-cast-firsts c = omega (arith, c .before .before .before .before .before .before .before .before .before .before .before .loop .inv .m-le)
+cast-firsts c =
+    let at-loop = c .before .before .before .before .before .before .before .before .before .before .before in
+    omega (arith, at-loop .loop .inv .m-le)
 
 mul-firsts : tie.Need-mul-firsts Inv-loop μ-loop
 mul-firsts c = omega arith
 
 slice-write-firsts : tie.Need-slice-write-firsts Inv-loop μ-loop
-slice-write-firsts c = omega (arith, c .before .before .before .before .before .before .before .before .before .before .before .loop .inv .f-len, c .before .before .before .before .before .before .before .before .before .before .before .loop .inv .b-le)
+slice-write-firsts c =
+    let at-loop = c .before .before .before .before .before .before .before .before .before .before .before in
+    omega (arith, at-loop .loop .inv .f-len, at-loop .loop .inv .b-le)
 
 sub-loadedsizes : tie.Need-sub-loadedsizes Inv-loop μ-loop
-sub-loadedsizes c = omega (arith, (let g = c .before .before .before .before .before .buy-line .ensures .next (c .before .w .given .0 .0) (c .before .w .given .0 .1 .0) (c .before .w .given .1) in g .f-le))
+sub-loadedsizes c =
+    let at-buy-line = c .before .before .before .before .before in
+    omega (arith, (let g = at-buy-line .buy-line .ensures .next (c .before .w .given .0 .0) (c .before .w .given .0 .1 .0) (c .before .w .given .1) in g .f-le))
 
 cast-loadedsizes : tie.Need-cast-loadedsizes Inv-loop μ-loop
-cast-loadedsizes c = omega (arith, (let g = c .before .before .before .before .before .buy-line .ensures .next (c .before .w .given .0 .0) (c .before .w .given .0 .1 .0) (c .before .w .given .1) in g .f-le), (let g = c .before .before .before .before .before .buy-line .ensures .next (c .before .w .given .0 .0) (c .before .w .given .0 .1 .0) (c .before .w .given .1) in g .m-le))
+cast-loadedsizes c =
+    let at-buy-line = c .before .before .before .before .before in
+    omega (arith, (let g = at-buy-line .buy-line .ensures .next (c .before .w .given .0 .0) (c .before .w .given .0 .1 .0) (c .before .w .given .1) in g .f-le), (let g = at-buy-line .buy-line .ensures .next (c .before .w .given .0 .0) (c .before .w .given .0 .1 .0) (c .before .w .given .1) in g .m-le))
 
 mul-loadedsizes : tie.Need-mul-loadedsizes Inv-loop μ-loop
 mul-loadedsizes c = omega arith
 
 slice-write-loadedsizes : tie.Need-slice-write-loadedsizes Inv-loop μ-loop
-slice-write-loadedsizes c = omega (arith, c .before .before .before .before .before .before .before .before .before .before .before .loop .inv .c-len, c .before .before .before .before .before .before .before .before .before .before .before .loop .inv .b-le)
+slice-write-loadedsizes c =
+    let at-loop = c .before .before .before .before .before .before .before .before .before .before .before in
+    omega (arith, at-loop .loop .inv .c-len, at-loop .loop .inv .b-le)
 
 add-j : tie.Need-add-j Inv-loop μ-loop
 add-j c = omega arith
@@ -114,7 +141,12 @@ loop-less : tie.Need-loop-less Inv-loop μ-loop
 loop-less c = omega arith
 
 loop-again : tie.Need-loop-again Inv-loop μ-loop
-loop-again c = let a = c .before .before .before .before .before .before .before .before .before .before .before .before .before .before .before .before .args in let l = c .before .before .before .before .before .before .before .before .before .before .before .loop in buys-on (now (a .s)) (a .at) (a .vertices) (a .nets) (now (a .firsts)) (now (a .loadedsizes)) (now (a .loadedpins)) (l .netweights) (l .firsts) (l .loadedsizes) (l .loadedpins) (l .stamps) (l .i) (l .j) (l .m) (l .inv) (omega arith) (c .before .before .before .before .before .before .before .before .before .line-end .result) (c .before .before .before .before .before .before .before .before .before .line-end .ensures) (omega arith) (c .before .before .before .before .before .buy-line .result) (c .before .before .before .before .before .buy-line .last .1 .1 .1 .1 .1 .1 .0) (c .before .before .before .before .before .buy-line .last .1 .1 .1 .1 .1 .1 .1 .0) (c .before .before .before .before .before .buy-line .ensures) (c .before .w .given .0 .0) (c .before .w .given .0 .1 .0) (c .before .w .given .1)
+loop-again c =
+    let at-buy-line = c .before .before .before .before .before in
+    let at-line-end = at-buy-line .before .before .before .before in
+    let at-loop = at-line-end .before .before in
+    let start = at-loop .before .before .before .before .before in
+    let a = start .args in let l = at-loop .loop in buys-on (now (a .s)) (a .at) (a .vertices) (a .nets) (now (a .firsts)) (now (a .loadedsizes)) (now (a .loadedpins)) (l .netweights) (l .firsts) (l .loadedsizes) (l .loadedpins) (l .stamps) (l .i) (l .j) (l .m) (l .inv) (omega arith) (at-line-end .line-end .result) (at-line-end .line-end .ensures) (omega arith) (at-buy-line .buy-line .result) (at-buy-line .buy-line .last .1 .1 .1 .1 .1 .1 .0) (at-buy-line .buy-line .last .1 .1 .1 .1 .1 .1 .1 .0) (at-buy-line .buy-line .ensures) (c .before .w .given .0 .0) (c .before .w .given .0 .1 .0) (c .before .w .given .1)
 
 same-length-7 : tie.Need-same-length-7 Inv-loop μ-loop
 same-length-7 c = c .before .loop .inv .f-same
@@ -126,7 +158,9 @@ same-length-9 : tie.Need-same-length-9 Inv-loop μ-loop
 same-length-9 c = c .before .loop .inv .m-same
 
 returns-3 : tie.Need-returns-3 Inv-loop μ-loop
-returns-3 c = let a = c .before .before .before .before .before .before .args in let l = c .before .loop in buys-done (now (a .s)) (a .at) (a .vertices) (a .nets) (now (a .firsts)) (now (a .loadedsizes)) (now (a .loadedpins)) (l .netweights) (l .firsts) (l .loadedsizes) (l .loadedpins) (l .stamps) (l .i) (l .j) (l .m) (l .inv) (omega arith)
+returns-3 c =
+    let start = c .before .before .before .before .before .before in
+    let a = start .args in let l = c .before .loop in buys-done (now (a .s)) (a .at) (a .vertices) (a .nets) (now (a .firsts)) (now (a .loadedsizes)) (now (a .loadedpins)) (l .netweights) (l .firsts) (l .loadedsizes) (l .loadedpins) (l .stamps) (l .i) (l .j) (l .m) (l .inv) (omega arith)
 
 pub read-nets-spec : {M : Type 1} → statement M
 read-nets-spec =

@@ -14,7 +14,9 @@ abbrev μ-loop : tie.MeasureT-loop
 μ-loop s at vertices blocks weights₀ draft₀ len i₀ k₀ weights draft i k = vertices - k
 
 loop-holds : tie.Need-loop-holds Inv-loop μ-loop
-loop-holds c = let a = c .before .before .before .args in lots-start (now (a .s)) (a .at) (a .vertices) (a .blocks) (now (a .weights)) (now (a .draft)) (omega arith) (omega arith) (omega arith) (c .before .before .before .pre .3) (c .before .before .before .pre .4)
+loop-holds c =
+    let start = c .before .before .before in
+    let a = start .args in lots-start (now (a .s)) (a .at) (a .vertices) (a .blocks) (now (a .weights)) (now (a .draft)) (omega arith) (omega arith) (omega arith) (start .pre .3) (start .pre .4)
 
 line-end-requires : tie.Need-line-end-requires Inv-loop μ-loop
 line-end-requires c κs = search needs
@@ -23,13 +25,20 @@ add-t15 : tie.Need-add-t15 Inv-loop μ-loop
 add-t15 c = omega arith
 
 same-length : tie.Need-same-length Inv-loop μ-loop
-same-length c = c .before .before .before .loop .inv .w-same
+same-length c =
+    let at-loop = c .before .before .before in
+    at-loop .loop .inv .w-same
 
 same-length-2 : tie.Need-same-length-2 Inv-loop μ-loop
-same-length-2 c = c .before .before .before .loop .inv .d-same
+same-length-2 c =
+    let at-loop = c .before .before .before in
+    at-loop .loop .inv .d-same
 
 returns : tie.Need-returns Inv-loop μ-loop
-returns c = let a = c .before .before .before .before .before .before .before .args in let l = c .before .before .before .loop in lots-none (now (a .s)) (a .at) (a .vertices) (a .blocks) (now (a .weights)) (now (a .draft)) (l .weights) (l .draft) (l .i) (l .k) (l .inv) (omega arith) (c .before .line-end .result) (c .before .line-end .ensures) (omega arith)
+returns c =
+    let at-loop = c .before .before .before in
+    let start = at-loop .before .before .before .before in
+    let a = start .args in let l = at-loop .loop in lots-none (now (a .s)) (a .at) (a .vertices) (a .blocks) (now (a .weights)) (now (a .draft)) (l .weights) (l .draft) (l .i) (l .k) (l .inv) (omega arith) (c .before .line-end .result) (c .before .line-end .ensures) (omega arith)
 
 lot-line-requires : tie.Need-lot-line-requires Inv-loop μ-loop
 lot-line-requires c κs = search needs
@@ -41,13 +50,22 @@ add-t17 : tie.Need-add-t17 Inv-loop μ-loop
 add-t17 c = omega arith
 
 same-length-3 : tie.Need-same-length-3 Inv-loop μ-loop
-same-length-3 c = c .before .before .before .before .before .before .before .loop .inv .w-same
+same-length-3 c =
+    let at-loop = c .before .before .before .before .before .before .before in
+    at-loop .loop .inv .w-same
 
 same-length-4 : tie.Need-same-length-4 Inv-loop μ-loop
-same-length-4 c = c .before .before .before .before .before .before .before .loop .inv .d-same
+same-length-4 c =
+    let at-loop = c .before .before .before .before .before .before .before in
+    at-loop .loop .inv .d-same
 
 returns-2 : tie.Need-returns-2 Inv-loop μ-loop
-returns-2 c = let a = c .before .before .before .before .before .before .before .before .before .before .before .args in let l = c .before .before .before .before .before .before .before .loop in lots-stop (now (a .s)) (a .at) (a .vertices) (a .blocks) (now (a .weights)) (now (a .draft)) (l .weights) (l .draft) (l .i) (l .k) (l .inv) (omega arith) (c .before .before .before .before .before .line-end .result) (c .before .before .before .before .before .line-end .ensures) (omega arith) (c .before .before .before .lot-line .result) (c .before .before .before .lot-line .ensures) (c .before .q .given .0 .0) (c .before .q .given .1)
+returns-2 c =
+    let at-lot-line = c .before .before .before in
+    let at-line-end = at-lot-line .before .before in
+    let at-loop = at-line-end .before .before in
+    let start = at-loop .before .before .before .before in
+    let a = start .args in let l = at-loop .loop in lots-stop (now (a .s)) (a .at) (a .vertices) (a .blocks) (now (a .weights)) (now (a .draft)) (l .weights) (l .draft) (l .i) (l .k) (l .inv) (omega arith) (at-line-end .line-end .result) (at-line-end .line-end .ensures) (omega arith) (at-lot-line .lot-line .result) (at-lot-line .lot-line .ensures) (c .before .q .given .0 .0) (c .before .q .given .1)
 
 enum-known-w : tie.Need-enum-known-w Inv-loop μ-loop
 enum-known-w c = search needs
@@ -74,7 +92,12 @@ loop-less : tie.Need-loop-less Inv-loop μ-loop
 loop-less c = omega arith
 
 loop-again : tie.Need-loop-again Inv-loop μ-loop
-loop-again c = let a = c .before .before .before .before .before .before .before .before .before .before .before .args in let l = c .before .before .before .before .before .before .before .loop in lots-on (now (a .s)) (a .at) (a .vertices) (a .blocks) (now (a .weights)) (now (a .draft)) (l .weights) (l .draft) (l .i) (l .k) (l .inv) (omega arith) (c .before .before .before .before .before .line-end .result) (c .before .before .before .before .before .line-end .ensures) (omega arith) (c .before .before .before .lot-line .result) (c .before .before .before .lot-line .ensures) (c .before .w .given .0 .0) (c .before .w .given .0 .1 .0) (c .before .w .given .1)
+loop-again c =
+    let at-lot-line = c .before .before .before in
+    let at-line-end = at-lot-line .before .before in
+    let at-loop = at-line-end .before .before in
+    let start = at-loop .before .before .before .before in
+    let a = start .args in let l = at-loop .loop in lots-on (now (a .s)) (a .at) (a .vertices) (a .blocks) (now (a .weights)) (now (a .draft)) (l .weights) (l .draft) (l .i) (l .k) (l .inv) (omega arith) (at-line-end .line-end .result) (at-line-end .line-end .ensures) (omega arith) (at-lot-line .lot-line .result) (at-lot-line .lot-line .ensures) (c .before .w .given .0 .0) (c .before .w .given .0 .1 .0) (c .before .w .given .1)
 
 same-length-5 : tie.Need-same-length-5 Inv-loop μ-loop
 same-length-5 c = c .before .loop .inv .w-same
@@ -83,7 +106,9 @@ same-length-6 : tie.Need-same-length-6 Inv-loop μ-loop
 same-length-6 c = c .before .loop .inv .d-same
 
 returns-3 : tie.Need-returns-3 Inv-loop μ-loop
-returns-3 c = let a = c .before .before .before .before .before .args in let l = c .before .loop in lots-done (now (a .s)) (a .at) (a .vertices) (a .blocks) (now (a .weights)) (now (a .draft)) (l .weights) (l .draft) (l .i) (l .k) (l .inv) (omega arith)
+returns-3 c =
+    let start = c .before .before .before .before .before in
+    let a = start .args in let l = c .before .loop in lots-done (now (a .s)) (a .at) (a .vertices) (a .blocks) (now (a .weights)) (now (a .draft)) (l .weights) (l .draft) (l .i) (l .k) (l .inv) (omega arith)
 
 pub read-vertices-spec : {M : Type 1} → statement M
 read-vertices-spec =

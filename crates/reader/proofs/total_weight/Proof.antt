@@ -37,7 +37,9 @@ loop-less : tie.Need-loop-less Inv-loop μ-loop
 loop-less c = omega arith
 
 loop-again : tie.Need-loop-again Inv-loop μ-loop
-loop-again c = let l = c .before .before .loop in let a = c .before .before .before .args in (omega arith, omega (arith, l .inv .1, sum-step (l .i) (λ x. getD (now (a .weights)) x 0)), omega (arith, c .shared-slice-known .given (c .before .before .loop .i), l .inv .2))
+loop-again c =
+    let start = c .before .before .before in
+    let l = c .before .before .loop in let a = start .args in (omega arith, omega (arith, l .inv .1, sum-step (l .i) (λ x. getD (now (a .weights)) x 0)), omega (arith, c .shared-slice-known .given (c .before .before .loop .i), l .inv .2))
 
 returns : tie.Need-returns Inv-loop μ-loop
 returns c = let l = c .before .loop in let a = c .before .before .args in (l .inv .1 ∙ ap (λ n. sum n (λ x. getD (now (a .weights)) x 0)) (omega arith) ∙ sum-take (a .n) (now (a .weights)) (omega arith), omega (arith, l .inv .2))

@@ -16,9 +16,6 @@ cast-m c = search needs
 cast-k : tie.Need-cast-k
 cast-k c = search needs
 
-cast-average : tie.Need-cast-average
-cast-average c = search needs
-
 cast-capacity : tie.Need-cast-capacity
 cast-capacity c = search needs
 
@@ -58,19 +55,31 @@ same-length-6 : tie.Need-same-length-6
 same-length-6 c = search needs
 
 same-length-7 : tie.Need-same-length-7
-same-length-7 c = omega (arith, c .before .before .before .before .before .before .before .before .before .before .before .before .before .before .before .before .before .before .before .before .before .before .before .before .before .before .before .before .before .before .before .before .before .before .before .before .before .before .before .«open» .kept, c .before .before .before .before .before .before .before .before .before .before .before .before .before .before .before .before .before .before .before .before .run-calls .kept)
+same-length-7 c =
+    let at-run-calls = c .before .before .before .before .before .before .before .before .before .before .before .before .before .before .before .before .before .before .before .before in
+    let at-open = at-run-calls .before .before .before .before .before .before .before .before .before .before .before .before .before .before .before .before .before .before .before in
+    omega (arith, at-open .«open» .kept, at-run-calls .run-calls .kept)
 
 same-length-8 : tie.Need-same-length-8
-same-length-8 c = omega (arith, c .before .before .before .before .before .before .before .before .before .before .before .before .before .before .before .before .before .before .before .before .before .before .before .before .before .before .before .before .before .before .before .before .before .before .before .before .before .before .before .«open» .kept, c .before .before .before .before .before .before .before .before .before .before .before .before .before .before .before .before .before .before .before .before .run-calls .kept)
+same-length-8 c =
+    let at-run-calls = c .before .before .before .before .before .before .before .before .before .before .before .before .before .before .before .before .before .before .before .before in
+    let at-open = at-run-calls .before .before .before .before .before .before .before .before .before .before .before .before .before .before .before .before .before .before .before in
+    omega (arith, at-open .«open» .kept, at-run-calls .run-calls .kept)
 
 same-length-9 : tie.Need-same-length-9
-same-length-9 c = omega (arith, c .before .before .before .before .before .before .before .before .before .before .before .before .before .before .before .before .before .before .before .before .before .before .before .before .before .before .before .before .before .before .before .before .before .before .before .before .before .before .before .«open» .kept, c .before .before .before .before .before .before .before .before .before .before .before .before .before .before .before .before .before .before .before .before .run-calls .kept)
+same-length-9 c =
+    let at-run-calls = c .before .before .before .before .before .before .before .before .before .before .before .before .before .before .before .before .before .before .before .before in
+    let at-open = at-run-calls .before .before .before .before .before .before .before .before .before .before .before .before .before .before .before .before .before .before .before in
+    omega (arith, at-open .«open» .kept, at-run-calls .run-calls .kept)
 
 returns : tie.Need-returns
 returns c =
     let at-run-calls = c .before .before .before .before .before .before .before .before .before .before .before .before .before .before .before .before .before .before .before .before in
     let state = at-run-calls .before .before .before .before .before .before .before .before .before .before .before .before .before .before .before .before .before .before .before in
     λ limits file pins old g l. sold g (blank 16384 refl) (state .«open» .ensures) l (at-run-calls .run-calls .ensures limits _ (begins g (blank 16384 refl) (state .«open» .ensures) l))
+
+cast-t28 : tie.Need-cast-t28
+cast-t28 c = omega arith
 
 pub sell-spec : {M : Type 1} → statement M
 sell-spec =
@@ -79,7 +88,7 @@ sell-spec =
     cast-n
     cast-m
     cast-k
-    cast-average
+    cast-t28
     cast-capacity
     slice-aggregate-open
     open-requires

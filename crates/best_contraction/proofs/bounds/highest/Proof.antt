@@ -23,37 +23,47 @@ loop-holds : tie.Need-loop-holds Inv-loop μ-loop
 loop-holds c = (omega arith, c .before .pre .1, highest-one (now (c .before .args .bounds)), refl)
 
 add-higher : tie.Need-add-higher Inv-loop μ-loop
-add-higher c = omega (arith, c .before .before .before .pre)
+add-higher c =
+    let start = c .before .before .before in
+    omega (arith, start .pre)
 
 mul-higher : tie.Need-mul-higher Inv-loop μ-loop
 mul-higher c = omega arith
 
 element-copy-out-higher : tie.Need-element-copy-out-higher Inv-loop μ-loop
-element-copy-out-higher c = omega (arith, c .before .before .before .pre)
+element-copy-out-higher c =
+    let start = c .before .before .before in
+    omega (arith, start .pre)
 
 add-higher-2 : tie.Need-add-higher-2 Inv-loop μ-loop
-add-higher-2 c = omega (arith, c .before .before .before .before .pre)
+add-higher-2 c =
+    let start = c .before .before .before .before in
+    omega (arith, start .pre)
 
 higher-requires : tie.Need-higher-requires Inv-loop μ-loop
 higher-requires c κs = search needs
 
 add-i : tie.Need-add-i Inv-loop μ-loop
-add-i c = omega (arith, c .before .before .before .before .before .pre)
+add-i c =
+    let start = c .before .before .before .before .before in
+    omega (arith, start .pre)
 
 loop-less : tie.Need-loop-less Inv-loop μ-loop
 loop-less c = omega arith
 
 loop-again : tie.Need-loop-again Inv-loop μ-loop
 loop-again c =
+    let start = c .before .before .before .before .before in
     let l = c .before .before .before .loop in
-    let h = highest-more (now (c .before .before .before .before .before .args .bounds)) (l .i) _ _ _ _ _ (l .inv .0) (l .inv .2) (l .inv .3) refl (c .higher .ensures) in
+    let h = highest-more (now (start .args .bounds)) (l .i) _ _ _ _ _ (l .inv .0) (l .inv .2) (l .inv .3) refl (c .higher .ensures) in
     (omega arith, omega arith, h .0, h .1)
 
 returns : tie.Need-returns Inv-loop μ-loop
 returns c =
+    let start = c .before .before .before in
     let l = c .before .loop in
-    let e : l .i ≡ c .before .before .before .args .n = omega (arith, l .inv .1) in
-    subst (λ (k : ℕ). Highest (now (c .before .before .before .args .bounds)) k (l .top .vertex)) e (l .inv .2)
+    let e : l .i ≡ start .args .n = omega (arith, l .inv .1) in
+    subst (λ (k : ℕ). Highest (now (start .args .bounds)) k (l .top .vertex)) e (l .inv .2)
 
 pub highest-spec : {M : Type 1} → statement M
 highest-spec =

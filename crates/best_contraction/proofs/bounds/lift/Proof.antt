@@ -18,16 +18,24 @@ abbrev μ-loop : tie.MeasureT-loop
 μ-loop bounds₀ bits pins firsts sizes netWeights blocks u v m n own e₀ bounds e = m - e
 
 sub-own : tie.Need-sub-own Inv-loop μ-loop
-sub-own c = omega (arith, c .before .before .before .before .before .before .pre .1)
+sub-own c =
+    let start = c .before .before .before .before .before .before in
+    omega (arith, start .pre .1)
 
 mul-own : tie.Need-mul-own Inv-loop μ-loop
-mul-own c = omega (arith, c .before .before .before .before .before .before .pre)
+mul-own c =
+    let start = c .before .before .before .before .before .before in
+    omega (arith, start .pre)
 
 shared-slice-read-own : tie.Need-shared-slice-read-own Inv-loop μ-loop
-shared-slice-read-own c = omega (arith, c .before .before .before .before .before .before .before .pre .1, c .before .before .before .before .before .before .before .pre .0 .in-blocks)
+shared-slice-read-own c =
+    let start = c .before .before .before .before .before .before .before in
+    omega (arith, start .pre .1, start .pre .0 .in-blocks)
 
 sub-next-net : tie.Need-sub-next-net Inv-loop μ-loop
-sub-next-net c = omega (arith, c .before .before .before .before .before .before .before .pre .1)
+sub-next-net c =
+    let start = c .before .before .before .before .before .before .before in
+    omega (arith, start .pre .1)
 
 next-net-requires : tie.Need-next-net-requires Inv-loop μ-loop
 next-net-requires c κs =
@@ -42,7 +50,9 @@ loop-holds c =
     (c .next-net .ensures .high, c .next-net .ensures .found, nets-none (now (a .bits)) (now (a .presentpins)) (now (a .firsts)) (now (a .presentsizes)) (now (a .netWeights)) (now (a .blocks)) (a .m) (a .n) (a .u) (a .v) (s .pre .0) (now (a .bounds)) _ (s .pre .1 .0) (c .next-net .ensures))
 
 sub-is-pin : tie.Need-sub-is-pin Inv-loop μ-loop
-sub-is-pin c = omega (arith, c .before .before .before .before .before .before .before .before .before .before .pre .1)
+sub-is-pin c =
+    let start = c .before .before .before .before .before .before .before .before .before .before in
+    omega (arith, start .pre .1)
 
 is-pin-requires : tie.Need-is-pin-requires Inv-loop μ-loop
 is-pin-requires c κs =
@@ -50,49 +60,71 @@ is-pin-requires c κs =
     (omega (arith, p .0 .rows, p .1), omega (arith, p .0 .nets))
 
 mul-rise : tie.Need-mul-rise Inv-loop μ-loop
-mul-rise c = omega (arith, c .before .before .before .before .before .before .before .before .before .before .before .pre .0 .nets)
+mul-rise c =
+    let start = c .before .before .before .before .before .before .before .before .before .before .before in
+    omega (arith, start .pre .0 .nets)
 
 shared-slice-read-rise : tie.Need-shared-slice-read-rise Inv-loop μ-loop
-shared-slice-read-rise c = omega (arith, c .before .before .before .before .before .before .before .before .before .before .before .before .pre .0 .in-netWeights)
+shared-slice-read-rise c =
+    let start = c .before .before .before .before .before .before .before .before .before .before .before .before in
+    omega (arith, start .pre .0 .in-netWeights)
 
 mul-rise-2 : tie.Need-mul-rise-2 Inv-loop μ-loop
-mul-rise-2 c = omega (arith, c .before .before .before .before .before .before .before .before .before .before .before .before .pre .0 .nets)
+mul-rise-2 c =
+    let start = c .before .before .before .before .before .before .before .before .before .before .before .before in
+    omega (arith, start .pre .0 .nets)
 
 shared-slice-read-rise-2 : tie.Need-shared-slice-read-rise-2 Inv-loop μ-loop
-shared-slice-read-rise-2 c = omega (arith, c .before .before .before .before .before .before .before .before .before .before .before .before .before .pre .0 .in-sizes)
+shared-slice-read-rise-2 c =
+    let start = c .before .before .before .before .before .before .before .before .before .before .before .before .before in
+    omega (arith, start .pre .0 .in-sizes)
 
 rise-requires : tie.Need-rise-requires Inv-loop μ-loop
 rise-requires c κs = search needs
 
 mul-index : tie.Need-mul-index Inv-loop μ-loop
-mul-index c = omega (arith, c .before .before .before .before .before .before .before .before .before .before .before .before .before .before .before .pre .0 .nets)
+mul-index c =
+    let start = c .before .before .before .before .before .before .before .before .before .before .before .before .before .before .before in
+    omega (arith, start .pre .0 .nets)
 
 shared-slice-read-index : tie.Need-shared-slice-read-index Inv-loop μ-loop
-shared-slice-read-index c = omega (arith, c .before .before .before .before .before .before .before .before .before .before .before .before .before .before .before .before .pre .0 .in-firsts)
+shared-slice-read-index c =
+    let start = c .before .before .before .before .before .before .before .before .before .before .before .before .before .before .before .before in
+    omega (arith, start .pre .0 .in-firsts)
 
 index-requires : tie.Need-index-requires Inv-loop μ-loop
 index-requires c κs = search needs
 
 mul-index-2 : tie.Need-mul-index-2 Inv-loop μ-loop
-mul-index-2 c = omega (arith, c .before .before .before .before .before .before .before .before .before .before .before .before .before .before .before .before .before .pre .0 .nets)
+mul-index-2 c =
+    let start = c .before .before .before .before .before .before .before .before .before .before .before .before .before .before .before .before .before in
+    omega (arith, start .pre .0 .nets)
 
 shared-slice-read-index-2 : tie.Need-shared-slice-read-index-2 Inv-loop μ-loop
-shared-slice-read-index-2 c = omega (arith, c .before .before .before .before .before .before .before .before .before .before .before .before .before .before .before .before .before .before .pre .0 .in-sizes)
+shared-slice-read-index-2 c =
+    let start = c .before .before .before .before .before .before .before .before .before .before .before .before .before .before .before .before .before .before in
+    omega (arith, start .pre .0 .in-sizes)
 
 index-requires-2 : tie.Need-index-requires-2 Inv-loop μ-loop
 index-requires-2 c κs = search needs
 
 lift-net-requires : tie.Need-lift-net-requires Inv-loop μ-loop
 lift-net-requires c κs =
+    let at-rise = c .before .before .before .before .before in
+    let at-loop = at-rise .before .before .before .before .before in
     let s = c .before .before .before .before .before .before .before .before .before .before .before .before .before .before .before .before .before .before .before in
     let a = s .args in
-    (nets-take (now (a .bits)) (now (a .presentpins)) (now (a .firsts)) (now (a .presentsizes)) (now (a .netWeights)) (now (a .blocks)) (a .m) (a .n) (a .u) (a .v) (s .pre .0) _ (c .before .before .before .before .before .before .before .before .before .before .loop .e) _ _ (omega arith) (c .before .before .before .before .before .before .before .before .before .before .loop .inv .2 .len) (c .before .before .index .ensures) (c .index2 .ensures), c .before .before .before .before .before .rise .ensures .1)
+    (nets-take (now (a .bits)) (now (a .presentpins)) (now (a .firsts)) (now (a .presentsizes)) (now (a .netWeights)) (now (a .blocks)) (a .m) (a .n) (a .u) (a .v) (s .pre .0) _ (at-loop .loop .e) _ _ (omega arith) (at-loop .loop .inv .2 .len) (c .before .before .index .ensures) (c .index2 .ensures), at-rise .rise .ensures .1)
 
 sub-next-net-2 : tie.Need-sub-next-net-2 Inv-loop μ-loop
-sub-next-net-2 c = omega (arith, c .before .before .before .before .before .before .before .before .before .before .before .before .before .before .before .before .before .before .before .before .pre .1)
+sub-next-net-2 c =
+    let start = c .before .before .before .before .before .before .before .before .before .before .before .before .before .before .before .before .before .before .before .before in
+    omega (arith, start .pre .1)
 
 add-next-net : tie.Need-add-next-net Inv-loop μ-loop
-add-next-net c = omega (arith, c .before .before .before .before .before .before .before .before .before .before .before .before .before .before .before .before .before .before .before .before .pre .0 .nets)
+add-next-net c =
+    let start = c .before .before .before .before .before .before .before .before .before .before .before .before .before .before .before .before .before .before .before .before in
+    omega (arith, start .pre .0 .nets)
 
 next-net-requires-2 : tie.Need-next-net-requires-2 Inv-loop μ-loop
 next-net-requires-2 c κs =
@@ -104,22 +136,33 @@ loop-less c = omega (arith, c .next-net2 .ensures .low, c .next-net2 .ensures .h
 
 loop-again : tie.Need-loop-again Inv-loop μ-loop
 loop-again c =
+    let at-index = c .before .before .before .before in
+    let at-rise = at-index .before .before .before in
+    let at-is-pin = at-rise .before .before .before in
     let s = c .before .before .before .before .before .before .before .before .before .before .before .before .before .before .before .before .before .before .before .before .before in
     let a = s .args in
     let l = c .before .before .before .before .before .before .before .before .before .before .before .before .loop in
-    (c .next-net2 .ensures .high, c .next-net2 .ensures .found, nets-more (now (a .bits)) (now (a .presentpins)) (now (a .firsts)) (now (a .presentsizes)) (now (a .netWeights)) (now (a .blocks)) (a .m) (a .n) (a .u) (a .v) (s .pre .0) (now (a .bounds)) (l .bounds) _ (l .e) _ _ _ _ _ (c .before .before .before .before .before .before .before .before .before .before .is-pin .result) (l .inv .2) (l .inv .1 (omega arith)) (c .before .before .before .before .index .ensures) (c .before .before .index2 .ensures) (c .before .before .before .before .before .before .before .before .before .before .is-pin .ensures) (c .before .before .before .before .before .before .before .rise .ensures .0 .0) (c .before .before .before .before .before .before .before .rise .ensures .0 .1) (c .before .lift-net .ensures) (c .next-net2 .ensures))
+    (c .next-net2 .ensures .high, c .next-net2 .ensures .found, nets-more (now (a .bits)) (now (a .presentpins)) (now (a .firsts)) (now (a .presentsizes)) (now (a .netWeights)) (now (a .blocks)) (a .m) (a .n) (a .u) (a .v) (s .pre .0) (now (a .bounds)) (l .bounds) _ (l .e) _ _ _ _ _ (at-is-pin .is-pin .result) (l .inv .2) (l .inv .1 (omega arith)) (at-index .index .ensures) (c .before .before .index2 .ensures) (at-is-pin .is-pin .ensures) (at-rise .rise .ensures .0 .0) (at-rise .rise .ensures .0 .1) (c .before .lift-net .ensures) (c .next-net2 .ensures))
 
 mul-bounds : tie.Need-mul-bounds Inv-loop μ-loop
-mul-bounds c = omega (arith, c .before .before .before .before .before .before .before .before .before .before .pre .0 .vertices, c .before .before .before .before .before .before .before .before .before .before .pre .1)
+mul-bounds c =
+    let start = c .before .before .before .before .before .before .before .before .before .before in
+    omega (arith, start .pre .0 .vertices, start .pre .1)
 
 element-write-bounds : tie.Need-element-write-bounds Inv-loop μ-loop
-element-write-bounds c = omega (arith, c .before .before .before .before .before .before .before .before .before .before .pre .0 .vertices, c .before .before .before .before .before .before .before .before .before .before .pre .1, c .before .loop .inv .2 .len)
+element-write-bounds c =
+    let start = c .before .before .before .before .before .before .before .before .before .before in
+    omega (arith, start .pre .0 .vertices, start .pre .1, c .before .loop .inv .2 .len)
 
 mul-bounds-2 : tie.Need-mul-bounds-2 Inv-loop μ-loop
-mul-bounds-2 c = omega (arith, c .before .before .before .before .before .before .before .before .before .before .pre .0 .vertices, c .before .before .before .before .before .before .before .before .before .before .pre .1)
+mul-bounds-2 c =
+    let start = c .before .before .before .before .before .before .before .before .before .before in
+    omega (arith, start .pre .0 .vertices, start .pre .1)
 
 element-write-bounds-2 : tie.Need-element-write-bounds-2 Inv-loop μ-loop
-element-write-bounds-2 c = omega (arith, c .before .before .before .before .before .before .before .before .before .before .pre .0 .vertices, c .before .before .before .before .before .before .before .before .before .before .pre .1, c .before .loop .inv .2 .len, length-set (c .before .loop .bounds) (c .before .before .before .before .before .before .before .before .before .before .args .v) 0)
+element-write-bounds-2 c =
+    let start = c .before .before .before .before .before .before .before .before .before .before in
+    omega (arith, start .pre .0 .vertices, start .pre .1, c .before .loop .inv .2 .len, length-set (c .before .loop .bounds) (start .args .v) 0)
 
 returns : tie.Need-returns Inv-loop μ-loop
 returns c =

@@ -25,9 +25,10 @@ rate-requires c κs =
 
 loop-holds : tie.Need-loop-holds Inv-loop μ-loop
 loop-holds c =
+    let at-highest = c .before .before .before in
     let start = c .before .before .before .before .before .before .before .before .before .before .before .before in
     let p = start .pre in
-    let h = c .before .before .before .highest .ensures in
+    let h = at-highest .highest .ensures in
     (settling (p .1 .1) (h .low) (h .high) (p .0 .vertices) (c .rate .ensures .0), c .rate .ensures .1)
 
 rate-requires-2 : tie.Need-rate-requires-2 Inv-loop μ-loop

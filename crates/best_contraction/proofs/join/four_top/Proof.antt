@@ -52,8 +52,9 @@ larger-requires-3 c κs = search needs
 
 returns : tie.Need-returns
 returns c =
+    let at-larger = c .before .before .before .before in
     let a = c .before .before .before .before .before .before .before .args in
-    four-under (now (a .acc)) (a .y) _ _ _ (c .before .before .before .before .larger .ensures) (c .before .larger2 .ensures) (c .larger3 .ensures)
+    four-under (now (a .acc)) (a .y) _ _ _ (at-larger .larger .ensures) (c .before .larger2 .ensures) (c .larger3 .ensures)
 
 pub four-top-spec : {M : Type 1} → statement M
 four-top-spec =

@@ -44,8 +44,10 @@ long-requires c κs = search needs
 
 returns-4 : tie.Need-returns-4
 returns-4 c =
+    let at-if2 = c .before .before .before in
+    let at-if1 = at-if2 .before .before in
     let a = c .before .before .before .before .before .before .before .before .args in
-    fits-left (now (a .blocks)) (now (a .weights)) (a .u) (a .own) (a .a) (a .limit) (a .y) (c .long .result) (omega (arith, c .before .before .before .before .before .if1 .left)) (c .before .before .before .if2 .left) (c .before .before .if3 .left) (c .long .ensures)
+    fits-left (now (a .blocks)) (now (a .weights)) (a .u) (a .own) (a .a) (a .limit) (a .y) (c .long .result) (omega (arith, at-if1 .if1 .left)) (at-if2 .if2 .left) (c .before .before .if3 .left) (c .long .ensures)
 
 pub may-join-spec : {M : Type 1} → statement M
 may-join-spec =

@@ -27,8 +27,9 @@ lift-requires c κs =
 
 returns-2 : tie.Need-returns-2
 returns-2 c =
+    let at-best-join = c .before .before .before in
     let a = c .before .before .before .before .before .before .before .before .before .before .before .before .before .args in
-    let b = c .before .before .before .best-join in
+    let b = at-best-join .best-join in
     (b .ensures .0, (planned-some (riseOf (now (a .bits)) (now (a .presentpins)) (now (a .firsts)) (now (a .presentsizes)) (now (a .netWeights)) (now (a .blocks)) (a .m)) (b .result) (omega (arith, c .before .before .if1 .left)) (b .ensures .1 .0) (c .lift .ensures), b .ensures .1 .1))
 
 pub plan-join-spec : {M : Type 1} → statement M

@@ -14,15 +14,20 @@ best-partner-requires c κs =
     (p .0, (p .1 .0, p .1 .2, p .1 .3, p .1 .4))
 
 mul-bounds : tie.Need-mul-bounds
-mul-bounds c = omega (arith, c .before .before .before .before .before .before .before .before .before .pre .1, c .before .before .before .before .before .before .before .before .before .pre .0 .vertices)
+mul-bounds c =
+    let start = c .before .before .before .before .before .before .before .before .before in
+    omega (arith, start .pre .1, start .pre .0 .vertices)
 
 element-write-bounds : tie.Need-element-write-bounds
-element-write-bounds c = omega (arith, c .before .before .before .before .before .before .before .before .before .pre .1, c .before .before .before .before .before .before .before .before .before .pre .0 .vertices)
+element-write-bounds c =
+    let start = c .before .before .before .before .before .before .before .before .before in
+    omega (arith, start .pre .1, start .pre .0 .vertices)
 
 highest-requires : tie.Need-highest-requires
 highest-requires c κs =
+    let start = c .before .before .before .before .before .before .before .before .before .before in
     let p = c .before .before .before .before .before .before .before .before .before .before .pre in
-    (length-set (now (c .before .before .before .before .before .before .before .before .before .before .args .bounds)) (c .before .before .before .before .before .before .before .before .before .before .args .u) _ ∙ p .1 .1, omega (arith, p .1), p .0 .vertices)
+    (length-set (now (start .args .bounds)) (start .args .u) _ ∙ p .1 .1, omega (arith, p .1), p .0 .vertices)
 
 returns : tie.Need-returns
 returns c =

@@ -23,19 +23,26 @@ loop-holds c =
     (omega arith, net-none (now (a .acc)) (now (a .presentpins)) (a .first) (a .n) (a .t) (p .0) (p .1))
 
 add-index : tie.Need-add-index Inv-loop μ-loop
-add-index c = omega (arith, c .before .before .before .pre .0 .stretch)
+add-index c =
+    let start = c .before .before .before in
+    omega (arith, start .pre .0 .stretch)
 
 mul-index : tie.Need-mul-index Inv-loop μ-loop
 mul-index c = omega arith
 
 shared-slice-read-index : tie.Need-shared-slice-read-index Inv-loop μ-loop
-shared-slice-read-index c = omega (arith, c .before .before .before .before .pre .0 .stretch)
+shared-slice-read-index c =
+    let start = c .before .before .before .before in
+    omega (arith, start .pre .0 .stretch)
 
 index-requires : tie.Need-index-requires Inv-loop μ-loop
 index-requires c κs = search needs
 
 mul-acc : tie.Need-mul-acc Inv-loop μ-loop
-mul-acc c = omega (arith, c .index .ensures, c .before .before .before .before .before .pre .0 .pin (c .before .before .before .loop .i) (omega arith))
+mul-acc c =
+    let at-loop = c .before .before .before in
+    let start = at-loop .before .before in
+    omega (arith, c .index .ensures, start .pre .0 .pin (at-loop .loop .i) (omega arith))
 
 element-copy-out-acc : tie.Need-element-copy-out-acc Inv-loop μ-loop
 element-copy-out-acc c =
@@ -52,7 +59,10 @@ add-acc c =
     omega (arith, net-room (now (a .acc)) (now (a .presentpins)) (a .first) (a .n) (a .t) (p .0) (p .1) (l .acc) (l .i) (c .before .index .result) (omega arith) (l .inv .1) (c .before .index .ensures))
 
 mul-acc-2 : tie.Need-mul-acc-2 Inv-loop μ-loop
-mul-acc-2 c = omega (arith, c .before .index .ensures, c .before .before .before .before .before .before .pre .0 .pin (c .before .before .before .before .loop .i) (omega arith))
+mul-acc-2 c =
+    let at-loop = c .before .before .before .before in
+    let start = at-loop .before .before in
+    omega (arith, c .before .index .ensures, start .pre .0 .pin (at-loop .loop .i) (omega arith))
 
 element-write-acc : tie.Need-element-write-acc Inv-loop μ-loop
 element-write-acc c =

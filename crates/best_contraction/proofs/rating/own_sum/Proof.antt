@@ -16,7 +16,9 @@ abbrev μ-loop : tie.MeasureT-loop
 μ-loop bits sizes netWeights u m sum₀ e₀ sum e = m - e
 
 sub-next-net : tie.Need-sub-next-net Inv-loop μ-loop
-sub-next-net c = omega (arith, c .before .before .before .pre .u-from)
+sub-next-net c =
+    let start = c .before .before .before in
+    omega (arith, start .pre .u-from)
 
 next-net-requires : tie.Need-next-net-requires Inv-loop μ-loop
 next-net-requires c κs =
@@ -33,13 +35,17 @@ mul-term : tie.Need-mul-term Inv-loop μ-loop
 mul-term c = omega arith
 
 shared-slice-read-term : tie.Need-shared-slice-read-term Inv-loop μ-loop
-shared-slice-read-term c = omega (arith, c .before .before .before .before .before .before .before .pre .in-netWeights)
+shared-slice-read-term c =
+    let start = c .before .before .before .before .before .before .before in
+    omega (arith, start .pre .in-netWeights)
 
 mul-term-2 : tie.Need-mul-term-2 Inv-loop μ-loop
 mul-term-2 c = omega arith
 
 shared-slice-read-term-2 : tie.Need-shared-slice-read-term-2 Inv-loop μ-loop
-shared-slice-read-term-2 c = omega (arith, c .before .before .before .before .before .before .before .before .pre .in-sizes)
+shared-slice-read-term-2 c =
+    let start = c .before .before .before .before .before .before .before .before in
+    omega (arith, start .pre .in-sizes)
 
 term-requires : tie.Need-term-requires Inv-loop μ-loop
 term-requires c κs = search needs
@@ -51,7 +57,9 @@ add-sum c =
     omega (arith, l .inv .2, c .term .ensures .1, own-room (now (s .args .bits)) (now (s .args .presentsizes)) (now (s .args .netWeights)) (s .args .u) (s .args .m) (l .e) (l .inv .0) (s .pre .nets) (s .pre .light))
 
 sub-next-net-2 : tie.Need-sub-next-net-2 Inv-loop μ-loop
-sub-next-net-2 c = omega (arith, c .before .before .before .before .before .before .before .before .before .pre .u-from)
+sub-next-net-2 c =
+    let start = c .before .before .before .before .before .before .before .before .before in
+    omega (arith, start .pre .u-from)
 
 add-next-net : tie.Need-add-next-net Inv-loop μ-loop
 add-next-net c = omega arith
@@ -66,8 +74,9 @@ loop-less c = omega (arith, c .next-net2 .ensures .low, c .next-net2 .ensures .h
 
 loop-again : tie.Need-loop-again Inv-loop μ-loop
 loop-again c =
+    let at-loop = c .before .before .before .before .before in
     let a = c .before .before .before .before .before .before .before .before .before .before .args in
-    let l = c .before .before .before .before .before .loop in (
+    let l = at-loop .loop in (
       c .next-net2 .ensures .high,
       c .next-net2 .ensures .found,
       own-more (now (a .bits)) (now (a .presentsizes)) (now (a .netWeights)) (a .u) (a .m) (l .e) _ (l .sum) _ (c .before .term .result) (l .inv .2) (l .inv .1 (omega arith)) (c .before .term .ensures .0) refl (c .next-net2 .ensures),

@@ -30,7 +30,9 @@ slice-read-had : tie.Need-slice-read-had
 slice-read-had c = search needs
 
 add-counts : tie.Need-add-counts
-add-counts c = let S = c .before .before .before .before in omega (arith, S .pre .1 .1 .1 .0 (omega arith))
+add-counts c =
+    let start = c .before .before .before .before in
+    let S = start in omega (arith, S .pre .1 .1 .1 .0 (omega arith))
 
 mul-counts : tie.Need-mul-counts
 mul-counts c = search needs

@@ -30,7 +30,9 @@ slice-read-left : tie.Need-slice-read-left
 slice-read-left c = search needs
 
 sub-left : tie.Need-sub-left
-sub-left c = let S = c .before .before .before .before in omega (arith, S .pre .1 .1 .1 .0 (omega arith))
+sub-left c =
+    let start = c .before .before .before .before in
+    let S = start in omega (arith, S .pre .1 .1 .1 .0 (omega arith))
 
 mul-counts : tie.Need-mul-counts
 mul-counts c = search needs

@@ -18,40 +18,80 @@ abbrev μ-loop : tie.MeasureT-loop
 μ-loop counts₀ visited₀ gains₀ pins₀ sizes₀ bits₀ blocks₀ weights₀ aboves₀ loads₀ netweights firsts loaded ceilings n m k total stack f₀ i₀ counts visited gains pins sizes bits blocks weights aboves loads f i = i
 
 loop-holds : tie.Need-loop-holds Inv-loop μ-loop
-loop-holds c = let p = c .before .before .before .before .before .before .before .before .before .before .before .pre in (omega arith, omega (arith, stack-to p), omega (arith, stack-to p), refining-none _ _ _ _ _, refl, refl, refl, refl, refl, refl, refl, refl, refl)
+loop-holds c =
+    let start = c .before .before .before .before .before .before .before .before .before .before .before in
+    let p = start .pre in (omega arith, omega (arith, stack-to p), omega (arith, stack-to p), refining-none _ _ _ _ _, refl, refl, refl, refl, refl, refl, refl, refl, refl)
 
 sub-i : tie.Need-sub-i Inv-loop μ-loop
 sub-i c = omega (arith, c .loop-test)
 
 mul-place-of : tie.Need-mul-place-of Inv-loop μ-loop
-mul-place-of c = let p = c .before .before .before .before .before .before .before .before .before .before .before .before .before .pre in omega (arith, stack-to p, p .into-fit, p .gone-fit, c .before .loop .inv .0, c .loop-test)
+mul-place-of c =
+    let start = c .before .before .before .before .before .before .before .before .before .before .before .before .before in
+    let p = start .pre in omega (arith, stack-to p, p .into-fit, p .gone-fit, c .before .loop .inv .0, c .loop-test)
 
 element-copy-out-place-of : tie.Need-element-copy-out-place-of Inv-loop μ-loop
-element-copy-out-place-of c = let p = c .before .before .before .before .before .before .before .before .before .before .before .before .before .pre in omega (arith, stack-to p, p .into-fit, p .gone-fit, c .before .loop .inv .0, c .loop-test)
+element-copy-out-place-of c =
+    let start = c .before .before .before .before .before .before .before .before .before .before .before .before .before in
+    let p = start .pre in omega (arith, stack-to p, p .into-fit, p .gone-fit, c .before .loop .inv .0, c .loop-test)
 
 place-of-requires : tie.Need-place-of-requires Inv-loop μ-loop
-place-of-requires c κs = omega (arith, top-asks (c .before .before .loop .i) (c .before .before .before .before .before .before .before .before .before .before .before .before .before .before .pre) (c .before .before .loop .inv .3) (omega (arith, c .before .loop-test)) .0)
+place-of-requires c κs =
+    let start = c .before .before .before .before .before .before .before .before .before .before .before .before .before .before in
+    omega (arith, top-asks (c .before .before .loop .i) (start .pre) (c .before .before .loop .inv .3) (omega (arith, c .before .loop-test)) .0)
 
 mul-place-of-2 : tie.Need-mul-place-of-2 Inv-loop μ-loop
-mul-place-of-2 c = let p = c .before .before .before .before .before .before .before .before .before .before .before .before .before .before .before .pre in omega (arith, stack-to p, p .into-fit, p .gone-fit, c .before .before .before .loop .inv .0, c .before .before .loop-test)
+mul-place-of-2 c =
+    let at-loop = c .before .before .before in
+    let start = at-loop .before .before .before .before .before .before .before .before .before .before .before .before in
+    let p = start .pre in omega (arith, stack-to p, p .into-fit, p .gone-fit, at-loop .loop .inv .0, c .before .before .loop-test)
 
 element-copy-out-place-of-2 : tie.Need-element-copy-out-place-of-2 Inv-loop μ-loop
-element-copy-out-place-of-2 c = let p = c .before .before .before .before .before .before .before .before .before .before .before .before .before .before .before .pre in omega (arith, stack-to p, p .into-fit, p .gone-fit, c .before .before .before .loop .inv .0, c .before .before .loop-test)
+element-copy-out-place-of-2 c =
+    let at-loop = c .before .before .before in
+    let start = at-loop .before .before .before .before .before .before .before .before .before .before .before .before in
+    let p = start .pre in omega (arith, stack-to p, p .into-fit, p .gone-fit, at-loop .loop .inv .0, c .before .before .loop-test)
 
 place-of-requires-2 : tie.Need-place-of-requires-2 Inv-loop μ-loop
-place-of-requires-2 c κs = omega (arith, top-asks (c .before .before .before .before .loop .i) (c .before .before .before .before .before .before .before .before .before .before .before .before .before .before .before .before .pre) (c .before .before .before .before .loop .inv .3) (omega (arith, c .before .before .before .loop-test)) .1)
+place-of-requires-2 c κs =
+    let at-loop-test = c .before .before .before in
+    let at-loop = at-loop-test .before in
+    let start = at-loop .before .before .before .before .before .before .before .before .before .before .before .before in
+    omega (arith, top-asks (at-loop .loop .i) (start .pre) (at-loop .loop .inv .3) (omega (arith, at-loop-test .loop-test)) .1)
 
 refine-once-requires : tie.Need-refine-once-requires Inv-loop μ-loop
-refine-once-requires c κs = part-asks (c .before .before .before .before .before .before .before .before .before .before .before .before .before .before .before .loop .i) (c .before .before .before .before .before .before .before .before .before .before .before .before .before .before .before .before .before .before .before .before .before .before .before .before .before .before .before .pre) (c .before .before .before .before .before .before .before .before .before .before .before .before .before .before .before .loop .inv .3) (omega (arith, c .before .before .before .before .before .before .before .before .before .before .before .before .before .before .loop-test)) (c .before .before .before .before .before .before .before .before .before .before .before .before .place-of .ensures) (c .before .before .before .before .before .before .before .before .before .before .place-of2 .ensures)
+refine-once-requires c κs =
+    let at-place-of2 = c .before .before .before .before .before .before .before .before .before .before in
+    let at-place-of = at-place-of2 .before .before in
+    let at-loop-test = at-place-of .before .before in
+    let at-loop = at-loop-test .before in
+    let start = at-loop .before .before .before .before .before .before .before .before .before .before .before .before in
+    part-asks (at-loop .loop .i) (start .pre) (at-loop .loop .inv .3) (omega (arith, at-loop-test .loop-test)) (at-place-of .place-of .ensures) (at-place-of2 .place-of2 .ensures)
 
 add-walk-requires : tie.Need-add-walk-requires Inv-loop μ-loop
-add-walk-requires c κs = let q = parts-few (part-asks (c .before .before .before .before .before .before .before .before .before .before .before .before .before .before .before .before .before .before .before .before .before .before .before .before .before .before .before .before .before .before .before .before .before .loop .i) (c .before .before .before .before .before .before .before .before .before .before .before .before .before .before .before .before .before .before .before .before .before .before .before .before .before .before .before .before .before .before .before .before .before .before .before .before .before .before .before .before .before .before .before .before .before .pre) (c .before .before .before .before .before .before .before .before .before .before .before .before .before .before .before .before .before .before .before .before .before .before .before .before .before .before .before .before .before .before .before .before .before .loop .inv .3) (omega (arith, c .before .before .before .before .before .before .before .before .before .before .before .before .before .before .before .before .before .before .before .before .before .before .before .before .before .before .before .before .before .before .before .before .loop-test)) (c .before .before .before .before .before .before .before .before .before .before .before .before .before .before .before .before .before .before .before .before .before .before .before .before .before .before .before .before .before .before .place-of .ensures) (c .before .before .before .before .before .before .before .before .before .before .before .before .before .before .before .before .before .before .before .before .before .before .before .before .before .before .before .before .place-of2 .ensures)) (c .before .before .before .before .before .before .before .before .before .before .before .before .before .before .before .before .before .refine-once .ensures) in (q .0, omega (arith, q), omega (arith, c .before .before .before .before .before .before .before .before .before .before .before .before .before .before .before .before .before .before .before .before .before .before .before .before .before .before .before .before .before .before .before .before .before .loop .inv .1), omega (arith, c .before .before .before .before .before .before .before .before .before .before .before .before .before .before .before .before .before .before .before .before .before .before .before .before .before .before .before .before .before .before .before .before .before .loop .inv .2))
+add-walk-requires c κs =
+    let at-refine-once = c .before .before .before .before .before .before .before .before .before .before .before .before .before .before .before .before .before in
+    let at-place-of2 = at-refine-once .before .before .before .before .before .before .before .before .before .before .before in
+    let at-place-of = at-place-of2 .before .before in
+    let at-loop-test = at-place-of .before .before in
+    let at-loop = at-loop-test .before in
+    let start = at-loop .before .before .before .before .before .before .before .before .before .before .before .before in
+    let q = parts-few (part-asks (at-loop .loop .i) (start .pre) (at-loop .loop .inv .3) (omega (arith, at-loop-test .loop-test)) (at-place-of .place-of .ensures) (at-place-of2 .place-of2 .ensures)) (at-refine-once .refine-once .ensures) in (q .0, omega (arith, q), omega (arith, at-loop .loop .inv .1), omega (arith, at-loop .loop .inv .2))
 
 loop-less : tie.Need-loop-less Inv-loop μ-loop
-loop-less c = omega (arith, c .before .before .before .before .before .before .before .before .before .before .before .before .before .before .before .before .before .before .before .before .before .before .before .before .before .before .before .before .before .before .before .before .before .loop-test)
+loop-less c =
+    let at-loop-test = c .before .before .before .before .before .before .before .before .before .before .before .before .before .before .before .before .before .before .before .before .before .before .before .before .before .before .before .before .before .before .before .before .before in
+    omega (arith, at-loop-test .loop-test)
 
 loop-again : tie.Need-loop-again Inv-loop μ-loop
-loop-again c = let q = parts-few (part-asks (c .before .before .before .before .before .before .before .before .before .before .before .before .before .before .before .before .before .before .before .before .before .before .before .before .before .before .before .before .before .before .before .before .before .before .loop .i) (c .before .before .before .before .before .before .before .before .before .before .before .before .before .before .before .before .before .before .before .before .before .before .before .before .before .before .before .before .before .before .before .before .before .before .before .before .before .before .before .before .before .before .before .before .before .before .pre) (c .before .before .before .before .before .before .before .before .before .before .before .before .before .before .before .before .before .before .before .before .before .before .before .before .before .before .before .before .before .before .before .before .before .before .loop .inv .3) (omega (arith, c .before .before .before .before .before .before .before .before .before .before .before .before .before .before .before .before .before .before .before .before .before .before .before .before .before .before .before .before .before .before .before .before .before .loop-test)) (c .before .before .before .before .before .before .before .before .before .before .before .before .before .before .before .before .before .before .before .before .before .before .before .before .before .before .before .before .before .before .before .place-of .ensures) (c .before .before .before .before .before .before .before .before .before .before .before .before .before .before .before .before .before .before .before .before .before .before .before .before .before .before .before .before .before .place-of2 .ensures)) (c .before .before .before .before .before .before .before .before .before .before .before .before .before .before .before .before .before .before .refine-once .ensures) in let e = c .add-walk .ensures in (omega (arith, c .before .before .before .before .before .before .before .before .before .before .before .before .before .before .before .before .before .before .before .before .before .before .before .before .before .before .before .before .before .before .before .before .before .before .loop .inv .0), omega (arith, c .before .before .before .before .before .before .before .before .before .before .before .before .before .before .before .before .before .before .before .before .before .before .before .before .before .before .before .before .before .before .before .before .before .before .loop .inv .1, c .before .before .before .before .before .before .before .before .before .before .before .before .before .before .before .before .before .before .before .before .before .before .before .before .before .before .before .before .before .before .before .before .before .loop-test, e .0, q .0), omega (arith, c .before .before .before .before .before .before .before .before .before .before .before .before .before .before .before .before .before .before .before .before .before .before .before .before .before .before .before .before .before .before .before .before .before .before .loop .inv .2, c .before .before .before .before .before .before .before .before .before .before .before .before .before .before .before .before .before .before .before .before .before .before .before .before .before .before .before .before .before .before .before .before .before .loop-test, e .1, q), rw (e .2) (refining-more (c .before .before .before .before .before .before .before .before .before .before .before .before .before .before .before .before .before .before .before .before .before .before .before .before .before .before .before .before .before .before .before .before .before .before .loop .i) refl refl refl refl refl (c .before .before .before .before .before .before .before .before .before .before .before .before .before .before .before .before .before .before .before .before .before .before .before .before .before .before .before .before .before .before .before .before .before .before .loop .inv .3) (omega (arith, c .before .before .before .before .before .before .before .before .before .before .before .before .before .before .before .before .before .before .before .before .before .before .before .before .before .before .before .before .before .before .before .before .before .loop-test)) (c .before .before .before .before .before .before .before .before .before .before .before .before .before .before .before .before .before .before .before .before .before .before .before .before .before .before .before .before .before .before .before .place-of .ensures) (c .before .before .before .before .before .before .before .before .before .before .before .before .before .before .before .before .before .before .before .before .before .before .before .before .before .before .before .before .before .place-of2 .ensures) (c .before .before .before .before .before .before .before .before .before .before .before .before .before .before .before .before .before .before .refine-once .ensures) (e .0) (e .1)), omega (arith, c .before .before .before .before .before .before .before .before .before .before .before .before .before .before .before .before .before .before .before .before .before .before .before .before .before .before .before .before .before .before .before .before .before .before .loop .inv, c .before .before .before .before .before .before .before .before .before .before .before .before .before .before .before .before .before .before .refine-once .kept), omega (arith, c .before .before .before .before .before .before .before .before .before .before .before .before .before .before .before .before .before .before .before .before .before .before .before .before .before .before .before .before .before .before .before .before .before .before .loop .inv, c .before .before .before .before .before .before .before .before .before .before .before .before .before .before .before .before .before .before .refine-once .kept), omega (arith, c .before .before .before .before .before .before .before .before .before .before .before .before .before .before .before .before .before .before .before .before .before .before .before .before .before .before .before .before .before .before .before .before .before .before .loop .inv, c .before .before .before .before .before .before .before .before .before .before .before .before .before .before .before .before .before .before .refine-once .kept), omega (arith, c .before .before .before .before .before .before .before .before .before .before .before .before .before .before .before .before .before .before .before .before .before .before .before .before .before .before .before .before .before .before .before .before .before .before .loop .inv, c .before .before .before .before .before .before .before .before .before .before .before .before .before .before .before .before .before .before .refine-once .kept), omega (arith, c .before .before .before .before .before .before .before .before .before .before .before .before .before .before .before .before .before .before .before .before .before .before .before .before .before .before .before .before .before .before .before .before .before .before .loop .inv, c .before .before .before .before .before .before .before .before .before .before .before .before .before .before .before .before .before .before .refine-once .kept), omega (arith, c .before .before .before .before .before .before .before .before .before .before .before .before .before .before .before .before .before .before .before .before .before .before .before .before .before .before .before .before .before .before .before .before .before .before .loop .inv, c .before .before .before .before .before .before .before .before .before .before .before .before .before .before .before .before .before .before .refine-once .kept), omega (arith, c .before .before .before .before .before .before .before .before .before .before .before .before .before .before .before .before .before .before .before .before .before .before .before .before .before .before .before .before .before .before .before .before .before .before .loop .inv, c .before .before .before .before .before .before .before .before .before .before .before .before .before .before .before .before .before .before .refine-once .kept), omega (arith, c .before .before .before .before .before .before .before .before .before .before .before .before .before .before .before .before .before .before .before .before .before .before .before .before .before .before .before .before .before .before .before .before .before .before .loop .inv, c .before .before .before .before .before .before .before .before .before .before .before .before .before .before .before .before .before .before .refine-once .kept), omega (arith, c .before .before .before .before .before .before .before .before .before .before .before .before .before .before .before .before .before .before .before .before .before .before .before .before .before .before .before .before .before .before .before .before .before .before .loop .inv, c .before .before .before .before .before .before .before .before .before .before .before .before .before .before .before .before .before .before .refine-once .kept))
+loop-again c =
+    let at-refine-once = c .before .before .before .before .before .before .before .before .before .before .before .before .before .before .before .before .before .before in
+    let at-place-of2 = at-refine-once .before .before .before .before .before .before .before .before .before .before .before in
+    let at-place-of = at-place-of2 .before .before in
+    let at-loop-test = at-place-of .before .before in
+    let at-loop = at-loop-test .before in
+    let start = at-loop .before .before .before .before .before .before .before .before .before .before .before .before in
+    let q = parts-few (part-asks (at-loop .loop .i) (start .pre) (at-loop .loop .inv .3) (omega (arith, at-loop-test .loop-test)) (at-place-of .place-of .ensures) (at-place-of2 .place-of2 .ensures)) (at-refine-once .refine-once .ensures) in let e = c .add-walk .ensures in (omega (arith, at-loop .loop .inv .0), omega (arith, at-loop .loop .inv .1, at-loop-test .loop-test, e .0, q .0), omega (arith, at-loop .loop .inv .2, at-loop-test .loop-test, e .1, q), rw (e .2) (refining-more (at-loop .loop .i) refl refl refl refl refl (at-loop .loop .inv .3) (omega (arith, at-loop-test .loop-test)) (at-place-of .place-of .ensures) (at-place-of2 .place-of2 .ensures) (at-refine-once .refine-once .ensures) (e .0) (e .1)), omega (arith, at-loop .loop .inv, at-refine-once .refine-once .kept), omega (arith, at-loop .loop .inv, at-refine-once .refine-once .kept), omega (arith, at-loop .loop .inv, at-refine-once .refine-once .kept), omega (arith, at-loop .loop .inv, at-refine-once .refine-once .kept), omega (arith, at-loop .loop .inv, at-refine-once .refine-once .kept), omega (arith, at-loop .loop .inv, at-refine-once .refine-once .kept), omega (arith, at-loop .loop .inv, at-refine-once .refine-once .kept), omega (arith, at-loop .loop .inv, at-refine-once .refine-once .kept), omega (arith, at-loop .loop .inv, at-refine-once .refine-once .kept))
 
 same-length : tie.Need-same-length Inv-loop μ-loop
 same-length c = omega (arith, c .before .loop .inv)

@@ -24,7 +24,8 @@ slice-copy-out-negated c = search needs
 
 negated-requires : tie.Need-negated-requires
 negated-requires c κs =
-    let g = c .before .before .before .before .before .before .before .before .before .before .before .pre .goes in
+    let start = c .before .before .before .before .before .before .before .before .before .before .before in
+    let g = start .pre .goes in
     negated-needs (g .sound) (g .open-pair) (c .before .index .result) (c .before .index .ensures)
 
 raise-total-requires : tie.Need-raise-total-requires
@@ -35,7 +36,8 @@ raise-total-requires c κs =
 
 carry-requires : tie.Need-carry-requires
 carry-requires c κs =
-    let g = c .before .before .before .before .before .before .before .before .before .before .before .before .before .before .before .before .before .before .pre .goes in
+    let start = c .before .before .before .before .before .before .before .before .before .before .before .before .before .before .before .before .before .before in
+    let g = start .pre .goes in
     carries (g .sound) (g .open-pair)
 
 same-length : tie.Need-same-length

@@ -34,7 +34,9 @@ shift-load-requires c κs =
     shifts-as (now (start .args .loads)) (at-index .index .ensures) (at-index2 .index2 .ensures) (c .long .ensures) (start .pre .shifts)
 
 move-vertex-requires : tie.Need-move-vertex-requires
-move-vertex-requires c κs = c .before .before .before .before .before .before .before .before .before .before .before .before .before .before .before .before .before .before .before .before .pre .moves
+move-vertex-requires c κs =
+    let start = c .before .before .before .before .before .before .before .before .before .before .before .before .before .before .before .before .before .before .before .before in
+    start .pre .moves
 
 same-length : tie.Need-same-length
 same-length c = search needs

@@ -24,12 +24,14 @@ slice-copy-out-lower-total c = search needs
 
 lower-total-requires : tie.Need-lower-total-requires
 lower-total-requires c κs =
-    let g = c .before .before .before .before .before .before .before .before .before .before .before .pre .goes in
+    let start = c .before .before .before .before .before .before .before .before .before .before .before in
+    let g = start .pre .goes in
     lower-needs (g .sound) (g .open-pair) (c .before .index .result) (c .before .index .ensures)
 
 carry-requires : tie.Need-carry-requires
 carry-requires c κs =
-    let g = c .before .before .before .before .before .before .before .before .before .before .before .before .before .before .before .before .before .pre .goes in
+    let start = c .before .before .before .before .before .before .before .before .before .before .before .before .before .before .before .before .before in
+    let g = start .pre .goes in
     carries (g .sound) (g .open-pair)
 
 same-length : tie.Need-same-length

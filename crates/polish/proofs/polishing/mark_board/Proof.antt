@@ -23,7 +23,10 @@ shared-slice-read-mark-placed : tie.Need-shared-slice-read-mark-placed Inv-loop 
 shared-slice-read-mark-placed c = omega arith
 
 mark-placed-requires : tie.Need-mark-placed-requires Inv-loop μ-loop
-mark-placed-requires c κs = omega (arith, c .before .before .before .before .before .pre, c .before .before .before .loop .inv .1 .len)
+mark-placed-requires c κs =
+    let at-loop = c .before .before .before in
+    let start = at-loop .before .before in
+    omega (arith, start .pre, at-loop .loop .inv .1 .len)
 
 add-x : tie.Need-add-x Inv-loop μ-loop
 add-x c = omega arith
@@ -32,10 +35,15 @@ loop-less : tie.Need-loop-less Inv-loop μ-loop
 loop-less c = omega arith
 
 loop-again : tie.Need-loop-again Inv-loop μ-loop
-loop-again c = (omega arith, sits-more (now (c .before .before .before .before .before .before .args .blocks)) (c .before .before .before .before .loop .x) _ refl (c .before .before .before .before .loop .inv .1) (c .mark-placed .ensures))
+loop-again c =
+    let at-loop = c .before .before .before .before in
+    let start = at-loop .before .before in
+    (omega arith, sits-more (now (start .args .blocks)) (at-loop .loop .x) _ refl (at-loop .loop .inv .1) (c .mark-placed .ensures))
 
 returns : tie.Need-returns Inv-loop μ-loop
-returns c = let e : c .before .loop .x ≡ c .before .before .before .args .n = omega arith in rw e at (c .before .loop .inv .1)
+returns c =
+    let start = c .before .before .before in
+    let e : c .before .loop .x ≡ start .args .n = omega arith in rw e at (c .before .loop .inv .1)
 
 pub mark-board-spec : {M : Type 1} → statement M
 mark-board-spec =

@@ -10,9 +10,10 @@ use Rattle.polish.proofs.polishing.pass.Tie as tie
 
 next-rise-requires : tie.Need-next-rise-requires
 next-rise-requires c κs =
+    let start′ = c .before .before .before .before .before .before .before .before .before .before .before .before .before .before in
     let start = c .before .before .before .before .before .before .before .before .before .before .before .before .before .before .pre in
     let at = start .0 .at in
-    (search-ok (at .sound) (now (c .before .before .before .before .before .before .before .before .before .before .before .before .before .before .args .marks)) (omega (arith, at .marks-fit)), start .1)
+    (search-ok (at .sound) (now (start′ .args .marks)) (omega (arith, at .marks-fit)), start .1)
 
 enum-told : tie.Need-enum-told
 enum-told c = search needs
@@ -24,7 +25,10 @@ index-requires : tie.Need-index-requires
 index-requires c κs = search needs
 
 sub-x : tie.Need-sub-x
-sub-x c = omega (arith, pass-in (c .before .before .before .before .before .before .before .before .before .before .before .before .before .before .before .before .before .before .before .pre .0) (now (c .before .before .before .before .before .before .before .before .before .before .before .before .before .before .before .before .before .before .before .args .ceilings)) _ _ (c .before .before .before .before .next-rise .ensures) (c .before .before .vertex .given .1), c .index .ensures)
+sub-x c =
+    let at-next-rise = c .before .before .before .before in
+    let start = at-next-rise .before .before .before .before .before .before .before .before .before .before .before .before .before .before .before in
+    omega (arith, pass-in (start .pre .0) (now (start .args .ceilings)) _ _ (at-next-rise .next-rise .ensures) (c .before .before .vertex .given .1), c .index .ensures)
 
 shift-requires : tie.Need-shift-requires
 shift-requires c κs =
@@ -37,10 +41,14 @@ shift-requires c κs =
     (pass-goes (start .0) (now (start-2 .args .ceilings)) _ _ (at-next-rise .next-rise .ensures) (at-vertex .vertex .given .1) (is .result - 1) (ap (λ (z : ℕ). z - 1) (is .ensures)), start .1)
 
 sub-t44 : tie.Need-sub-t44
-sub-t44 c = omega (arith, c .before .before .before .before .before .before .before .before .before .before .before .before .before .before .before .before .before .before .before .before .before .before .before .before .before .before .before .before .before .before .before .before .before .before .pre .0 .some)
+sub-t44 c =
+    let start = c .before .before .before .before .before .before .before .before .before .before .before .before .before .before .before .before .before .before .before .before .before .before .before .before .before .before .before .before .before .before .before .before .before .before in
+    omega (arith, start .pre .0 .some)
 
 add-t45 : tie.Need-add-t45
-add-t45 c = omega (arith, c .before .before .before .before .before .before .before .before .before .before .before .before .before .before .before .before .before .before .before .before .before .before .before .before .before .before .before .before .before .before .before .before .before .before .before .pre .0 .some, c .before .before .before .before .before .before .before .before .before .before .before .before .before .before .before .before .before .before .before .before .before .before .before .before .before .before .before .before .before .before .before .before .before .before .before .pre .0 .small)
+add-t45 c =
+    let start = c .before .before .before .before .before .before .before .before .before .before .before .before .before .before .before .before .before .before .before .before .before .before .before .before .before .before .before .before .before .before .before .before .before .before .before in
+    omega (arith, start .pre .0 .some, start .pre .0 .small)
 
 same-length : tie.Need-same-length
 same-length c = search needs
@@ -68,12 +76,16 @@ same-length-6 c = search needs
 
 returns-2 : tie.Need-returns-2
 returns-2 c =
+    let at-shift = c .before .before .before .before .before .before .before .before .before in
+    let at-vertex = at-shift .before .before .before .before .before .before .before .before .before in
+    let at-next-rise = at-vertex .before .before in
+    let start′ = at-next-rise .before .before .before .before .before .before .before .before .before .before .before .before .before .before .before in
     let start = c .before .before .before .before .before .before .before .before .before .before .before .before .before .before .before .before .before .before .before .before .before .before .before .before .before .before .before .before .before .before .before .before .before .before .before .pre in
     let is = c .before .before .before .before .before .before .before .before .before .before .before .before .before .before .before .before .index in
-    let found = c .before .before .before .before .before .before .before .before .before .before .before .before .before .before .before .before .before .before .before .before .next-rise .ensures in
-    let pair = c .before .before .before .before .before .before .before .before .before .before .before .before .before .before .before .before .before .before .vertex .given .1 in
-    let moved = c .before .before .before .before .before .before .before .before .before .shift .ensures in (
-      λ aboves loaded. pass-move _ _ _ _ (is .result - 1) _ _ (start .0 .some) refl found pair (omega (arith, pass-in (start .0) (now (c .before .before .before .before .before .before .before .before .before .before .before .before .before .before .before .before .before .before .before .before .before .before .before .before .before .before .before .before .before .before .before .before .before .before .before .args .ceilings)) _ _ found pair, is .ensures)) (moved .0 aboves loaded),
+    let found = at-next-rise .next-rise .ensures in
+    let pair = at-vertex .vertex .given .1 in
+    let moved = at-shift .shift .ensures in (
+      λ aboves loaded. pass-move _ _ _ _ (is .result - 1) _ _ (start .0 .some) refl found pair (omega (arith, pass-in (start .0) (now (start′ .args .ceilings)) _ _ found pair, is .ensures)) (moved .0 aboves loaded),
       moved .1,
     )
 

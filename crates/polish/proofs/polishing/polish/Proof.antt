@@ -33,12 +33,16 @@ survey-requires c κs =
     (length-replicate {A = ℤ} 16 (pos 0), frame .few-vertices, frame .few, frame .gains-fit)
 
 loop-holds : tie.Need-loop-holds Inv-loop μ-loop
-loop-holds c = (omega arith, λ aboves loaded. passing-none _ _ (c .before .before .before .mark-board .ensures), c .survey .ensures, refl, refl, refl, refl)
+loop-holds c =
+    let at-mark-board = c .before .before .before in
+    (omega arith, λ aboves loaded. passing-none _ _ (at-mark-board .mark-board .ensures), c .survey .ensures, refl, refl, refl, refl)
 
 pass-requires : tie.Need-pass-requires Inv-loop μ-loop
 pass-requires c κs =
+    let at-if1 = c .before .before .before .before .before .before .before in
+    let start = at-if1 .before .before .before .before .before .before .before .before .before .before .before .before .before .before .before .before .before .before in
     let l = c .before .before .before .before .before .before .before .before .before .loop in
-    (pass-asks (c .before .before .before .before .before .before .before .before .before .before .before .before .before .before .before .before .before .before .before .before .before .before .before .before .before .pre) (l .inv .1) (c .before .before .before .before .before .before .before .if1 .taken) (omega (arith, l .inv .0, c .before .before .before .before .before .before .before .before .before .before .before .before .before .before .before .before .before .before .before .before .before .before .before .before .before .fits .total)), l .inv .2)
+    (pass-asks (start .pre) (l .inv .1) (at-if1 .if1 .taken) (omega (arith, l .inv .0, start .fits .total)), l .inv .2)
 
 loop-less : tie.Need-loop-less Inv-loop μ-loop
 loop-less c =
@@ -48,10 +52,11 @@ loop-less c =
 
 loop-again : tie.Need-loop-again Inv-loop μ-loop
 loop-again c =
+    let at-pass = c .before .before .before .before .before .before .before in
     let ok = c .before .before .before .before .before .before .before .before .before .before .before .before .before .before .before .before .before .before .before .before .before .before .before .before .before .before .before .before .before .before .before .before .before .pre in
     let l = c .before .before .before .before .before .before .before .before .before .before .before .before .before .before .before .before .before .loop in
-    let passed = c .before .before .before .before .before .before .before .pass .ensures in
-    let lengths = c .before .before .before .before .before .before .before .pass .kept in (
+    let passed = at-pass .pass .ensures in
+    let lengths = at-pass .pass .kept in (
       omega (arith, l .inv .0, passed .0 (ok .aboves) (ok .loaded) .small),
       λ aboves loaded. passing-more refl refl refl refl refl (l .inv .1 aboves loaded) (passed .0 aboves loaded),
       passed .1,

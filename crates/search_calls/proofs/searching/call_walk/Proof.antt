@@ -23,10 +23,18 @@ clear-requires : tie.Need-clear-requires
 clear-requires c κs = search needs
 
 sub-walk : tie.Need-sub-walk
-sub-walk c = omega (arith, (both-of (now (c .before .before .before .before .before .before .before .before .before .before .before .before .before .before .before .before .before .before .args .blocks)) (c .before .before .before .before .before .before .before .before .before .before .before .before .before .before .before .before .before .before .args .n) (c .before .before .before .before .before .before .before .before .before .before .before .before .before .before .before .before .before .before .args .u) (c .before .before .before .before .before .before .before .before .before .before .before .before .before .before .before .before .before .before .args .v) (sym (c .before .before .before .before .before .before .before .refuses-walk .ensures) ∙ c .before .before .before .before .before .before .if1 .left)) .u-from)
+sub-walk c =
+    let at-if1 = c .before .before .before .before .before .before in
+    let at-refuses-walk = at-if1 .before in
+    let start = at-refuses-walk .before .before .before .before .before .before .before .before .before .before .before in
+    omega (arith, (both-of (now (start .args .blocks)) (start .args .n) (start .args .u) (start .args .v) (sym (at-refuses-walk .refuses-walk .ensures) ∙ at-if1 .if1 .left)) .u-from)
 
 sub-walk-2 : tie.Need-sub-walk-2
-sub-walk-2 c = omega (arith, (both-of (now (c .before .before .before .before .before .before .before .before .before .before .before .before .before .before .before .before .before .before .args .blocks)) (c .before .before .before .before .before .before .before .before .before .before .before .before .before .before .before .before .before .before .args .n) (c .before .before .before .before .before .before .before .before .before .before .before .before .before .before .before .before .before .before .args .u) (c .before .before .before .before .before .before .before .before .before .before .before .before .before .before .before .before .before .before .args .v) (sym (c .before .before .before .before .before .before .before .refuses-walk .ensures) ∙ c .before .before .before .before .before .before .if1 .left)) .v-from)
+sub-walk-2 c =
+    let at-if1 = c .before .before .before .before .before .before in
+    let at-refuses-walk = at-if1 .before in
+    let start = at-refuses-walk .before .before .before .before .before .before .before .before .before .before .before in
+    omega (arith, (both-of (now (start .args .blocks)) (start .args .n) (start .args .u) (start .args .v) (sym (at-refuses-walk .refuses-walk .ensures) ∙ at-if1 .if1 .left)) .v-from)
 
 walk-requires : tie.Need-walk-requires
 walk-requires c κs =

@@ -23,7 +23,9 @@ loop-holds c =
     (c .next-net .ensures .high, c .next-net .ensures .found, nets-none (now (start .args .bits)) (now (start .args .presentpins)) (now (start .args .firsts)) (now (start .args .presentsizes)) (start .args .u) (now (start .args .marks)) (start .args .m) _ (c .next-net .ensures), start .pre .2)
 
 mark-net-requires : tie.Need-mark-net-requires Inv-loop μ-loop
-mark-net-requires c κs = (omega (arith, c .before .before .before .before .before .before .before .before .pre .0, c .before .before .loop .inv .2 .len), omega arith, omega arith, omega arith, c .before .before .before .before .before .before .before .before .pre .1 .nets (c .before .before .loop .e) (omega arith), c .before .before .loop .inv .3)
+mark-net-requires c κs =
+    let start = c .before .before .before .before .before .before .before .before in
+    (omega (arith, start .pre .0, c .before .before .loop .inv .2 .len), omega arith, omega arith, omega arith, start .pre .1 .nets (c .before .before .loop .e) (omega arith), c .before .before .loop .inv .3)
 
 add-next-net : tie.Need-add-next-net Inv-loop μ-loop
 add-next-net c = omega arith
@@ -35,10 +37,15 @@ loop-less : tie.Need-loop-less Inv-loop μ-loop
 loop-less c = omega (arith, c .next-net2 .ensures .low, c .next-net2 .ensures .high)
 
 loop-again : tie.Need-loop-again Inv-loop μ-loop
-loop-again c = (c .next-net2 .ensures .high, c .next-net2 .ensures .found, nets-more (now (c .before .before .before .before .before .before .before .before .before .before .args .bits)) (now (c .before .before .before .before .before .before .before .before .before .before .args .presentpins)) (now (c .before .before .before .before .before .before .before .before .before .before .args .firsts)) (now (c .before .before .before .before .before .before .before .before .before .before .args .presentsizes)) (c .before .before .before .before .before .before .before .before .before .before .args .u) (c .before .before .before .before .before .before .before .before .before .before .args .m) (c .before .before .before .before .loop .e) _ (c .before .before .before .before .loop .inv .1 (omega arith)) (c .before .before .before .before .loop .inv .2) (c .before .mark-net .ensures .0) (c .next-net2 .ensures), c .before .mark-net .ensures .1)
+loop-again c =
+    let at-loop = c .before .before .before .before in
+    let start = at-loop .before .before .before .before .before .before in
+    (c .next-net2 .ensures .high, c .next-net2 .ensures .found, nets-more (now (start .args .bits)) (now (start .args .presentpins)) (now (start .args .firsts)) (now (start .args .presentsizes)) (start .args .u) (start .args .m) (at-loop .loop .e) _ (at-loop .loop .inv .1 (omega arith)) (at-loop .loop .inv .2) (c .before .mark-net .ensures .0) (c .next-net2 .ensures), c .before .mark-net .ensures .1)
 
 returns : tie.Need-returns Inv-loop μ-loop
-returns c = (nets-all (now (c .before .before .before .before .before .before .before .args .bits)) (now (c .before .before .before .before .before .before .before .args .presentpins)) (now (c .before .before .before .before .before .before .before .args .firsts)) (now (c .before .before .before .before .before .before .before .args .presentsizes)) (c .before .before .before .before .before .before .before .args .u) (c .before .before .before .before .before .before .before .args .m) (c .before .loop .e) (c .before .loop .inv .0) (omega arith) (c .before .loop .inv .2), c .before .loop .inv .3)
+returns c =
+    let start = c .before .before .before .before .before .before .before in
+    (nets-all (now (start .args .bits)) (now (start .args .presentpins)) (now (start .args .firsts)) (now (start .args .presentsizes)) (start .args .u) (start .args .m) (c .before .loop .e) (c .before .loop .inv .0) (omega arith) (c .before .loop .inv .2), c .before .loop .inv .3)
 
 pub mark-nets-spec : {M : Type 1} → statement M
 mark-nets-spec =

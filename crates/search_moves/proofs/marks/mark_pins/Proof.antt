@@ -30,10 +30,16 @@ index-requires : tie.Need-index-requires Inv-loop μ-loop
 index-requires c κs = search needs
 
 sub-mark-vertex : tie.Need-sub-mark-vertex Inv-loop μ-loop
-sub-mark-vertex c = omega (arith, c .index .ensures, c .before .before .before .before .before .before .pre .1 .vertices (c .before .before .before .before .loop .j) (omega arith))
+sub-mark-vertex c =
+    let at-loop = c .before .before .before .before in
+    let start = at-loop .before .before in
+    omega (arith, c .index .ensures, start .pre .1 .vertices (at-loop .loop .j) (omega arith))
 
 mark-vertex-requires : tie.Need-mark-vertex-requires Inv-loop μ-loop
-mark-vertex-requires c κs = omega (arith, c .index .ensures, c .before .before .before .before .before .before .pre .1 .vertices (c .before .before .before .before .loop .j) (omega arith), c .before .before .before .before .before .before .pre .0, c .before .before .before .before .loop .inv .1 .len)
+mark-vertex-requires c κs =
+    let at-loop = c .before .before .before .before in
+    let start = at-loop .before .before in
+    omega (arith, c .index .ensures, start .pre .1 .vertices (at-loop .loop .j) (omega arith), start .pre .0, at-loop .loop .inv .1 .len)
 
 add-j : tie.Need-add-j Inv-loop μ-loop
 add-j c = omega arith
@@ -42,10 +48,15 @@ loop-less : tie.Need-loop-less Inv-loop μ-loop
 loop-less c = omega arith
 
 loop-again : tie.Need-loop-again Inv-loop μ-loop
-loop-again c = (omega arith, pins-more (now (c .before .before .before .before .before .before .before .args .presentpins)) (c .before .before .before .before .before .before .before .args .first) (c .before .before .before .before .before .loop .j) (c .before .index .result) (c .before .before .before .before .before .before .before .pre .1 .vertices (c .before .before .before .before .before .loop .j) (omega arith) .0) (c .before .index .ensures) (c .before .before .before .before .before .loop .inv .1) (c .mark-vertex .ensures .0), nets-then (c .before .before .before .before .before .loop .inv .2) (c .mark-vertex .ensures .1))
+loop-again c =
+    let at-loop = c .before .before .before .before .before in
+    let start = at-loop .before .before in
+    (omega arith, pins-more (now (start .args .presentpins)) (start .args .first) (at-loop .loop .j) (c .before .index .result) (start .pre .1 .vertices (at-loop .loop .j) (omega arith) .0) (c .before .index .ensures) (at-loop .loop .inv .1) (c .mark-vertex .ensures .0), nets-then (at-loop .loop .inv .2) (c .mark-vertex .ensures .1))
 
 returns : tie.Need-returns Inv-loop μ-loop
-returns c = let e : c .before .loop .j ≡ c .before .before .before .args .size = omega arith in (rw e at (c .before .loop .inv .1), c .before .loop .inv .2)
+returns c =
+    let start = c .before .before .before in
+    let e : c .before .loop .j ≡ start .args .size = omega arith in (rw e at (c .before .loop .inv .1), c .before .loop .inv .2)
 
 pub mark-pins-spec : {M : Type 1} → statement M
 mark-pins-spec =

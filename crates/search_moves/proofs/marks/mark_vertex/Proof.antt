@@ -18,7 +18,10 @@ put-requires : tie.Need-put-requires
 put-requires c κs = search needs
 
 returns-2 : tie.Need-returns-2
-returns-2 c = (marked-one (c .before .before .before .before .before .before .args .x) (c .before .before .before .before .before .before .pre .1) (sym (c .before .before .before .is-pin .ensures) ∙ c .before .before .if1 .left) (c .put .ensures), nets-beside (omega arith) (c .put .ensures))
+returns-2 c =
+    let at-is-pin = c .before .before .before in
+    let start = at-is-pin .before .before .before in
+    (marked-one (start .args .x) (start .pre .1) (sym (at-is-pin .is-pin .ensures) ∙ c .before .before .if1 .left) (c .put .ensures), nets-beside (omega arith) (c .put .ensures))
 
 pub mark-vertex-spec : {M : Type 1} → statement M
 mark-vertex-spec = tie.close (tie.spec is-pin-requires returns put-requires returns-2)

@@ -38,29 +38,39 @@ loop-holds c =
     )
 
 mul-index : tie.Need-mul-index Inv-loop μ-loop
-mul-index c = omega (arith, c .before .before .before .before .before .before .before .before .before .before .before .before .pre .1 .few-nets)
+mul-index c =
+    let start = c .before .before .before .before .before .before .before .before .before .before .before .before in
+    omega (arith, start .pre .1 .few-nets)
 
 shared-slice-read-index : tie.Need-shared-slice-read-index Inv-loop μ-loop
-shared-slice-read-index c = omega (arith, c .before .before .before .before .before .before .before .before .before .before .before .before .before .pre .1 .firsts-fit)
+shared-slice-read-index c =
+    let start = c .before .before .before .before .before .before .before .before .before .before .before .before .before in
+    omega (arith, start .pre .1 .firsts-fit)
 
 index-requires : tie.Need-index-requires Inv-loop μ-loop
 index-requires c κs = search needs
 
 mul-index-2 : tie.Need-mul-index-2 Inv-loop μ-loop
-mul-index-2 c = omega (arith, c .before .before .before .before .before .before .before .before .before .before .before .before .before .before .pre .1 .few-nets)
+mul-index-2 c =
+    let start = c .before .before .before .before .before .before .before .before .before .before .before .before .before .before in
+    omega (arith, start .pre .1 .few-nets)
 
 shared-slice-read-index-2 : tie.Need-shared-slice-read-index-2 Inv-loop μ-loop
-shared-slice-read-index-2 c = omega (arith, c .before .before .before .before .before .before .before .before .before .before .before .before .before .before .before .pre .1 .sizes-fit)
+shared-slice-read-index-2 c =
+    let start = c .before .before .before .before .before .before .before .before .before .before .before .before .before .before .before in
+    omega (arith, start .pre .1 .sizes-fit)
 
 index-requires-2 : tie.Need-index-requires-2 Inv-loop μ-loop
 index-requires-2 c κs = search needs
 
 lift-net-requires : tie.Need-lift-net-requires Inv-loop μ-loop
 lift-net-requires c κs =
+    let at-loop = c .before .before .before .before .before .before in
+    let at-raise-row = at-loop .before .before in
     let start = c .before .before .before .before .before .before .before .before .before .before .before .before .before .before .before .before .pre in
     let ok = start .1 in
-    let e = c .before .before .before .before .before .before .loop .e in (
-      c .before .before .before .before .before .before .loop .inv .2 .len ∙ c .before .before .before .before .before .before .before .before .raise-row .ensures .0 .len ∙ start .0,
+    let e = at-loop .loop .e in (
+      at-loop .loop .inv .2 .len ∙ at-raise-row .raise-row .ensures .0 .len ∙ start .0,
       net-in ok e (omega arith) .0,
       net-in ok e (omega arith) .1,
       ok .few-blocks,
@@ -68,10 +78,14 @@ lift-net-requires c κs =
     )
 
 add-next-net : tie.Need-add-next-net Inv-loop μ-loop
-add-next-net c = omega (arith, c .before .before .before .before .before .before .before .before .before .before .before .before .before .before .before .before .before .pre .1 .few-nets)
+add-next-net c =
+    let start = c .before .before .before .before .before .before .before .before .before .before .before .before .before .before .before .before .before in
+    omega (arith, start .pre .1 .few-nets)
 
 next-net-requires-2 : tie.Need-next-net-requires-2 Inv-loop μ-loop
-next-net-requires-2 c κs = let ok = c .before .before .before .before .before .before .before .before .before .before .before .before .before .before .before .before .before .pre .1 in omega (arith, ok .u-bits, ok .few-nets)
+next-net-requires-2 c κs =
+    let start = c .before .before .before .before .before .before .before .before .before .before .before .before .before .before .before .before .before in
+    let ok = start .pre .1 in omega (arith, ok .u-bits, ok .few-nets)
 
 loop-less : tie.Need-loop-less Inv-loop μ-loop
 loop-less c = omega (arith, c .next-net2 .ensures .low, c .next-net2 .ensures .high)
@@ -93,9 +107,10 @@ loop-again c =
 
 returns : tie.Need-returns Inv-loop μ-loop
 returns c =
+    let at-raise-row = c .before .before .before in
     let a = c .before .before .before .before .before .before .before .before .before .before .before .args in
     let l = c .before .loop in
-    lifted (now (a .gains)) (now (a .counts)) (now (a .blocks)) (now (a .presentpins)) (now (a .firsts)) (now (a .presentsizes)) (now (a .bits)) (a .m) (a .k) (a .u) (a .s) (a .t) (l .e) (omega arith) (higher-then (c .before .before .before .raise-row .ensures .0) (l .inv .2)) (l .inv .3) (l .inv .4)
+    lifted (now (a .gains)) (now (a .counts)) (now (a .blocks)) (now (a .presentpins)) (now (a .firsts)) (now (a .presentsizes)) (now (a .bits)) (a .m) (a .k) (a .u) (a .s) (a .t) (l .e) (omega arith) (higher-then (at-raise-row .raise-row .ensures .0) (l .inv .2)) (l .inv .3) (l .inv .4)
 
 pub lift-spec : {M : Type 1} → statement M
 lift-spec =

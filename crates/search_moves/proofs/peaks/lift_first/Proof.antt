@@ -35,7 +35,9 @@ raise-first-requires : tie.Need-raise-first-requires
 raise-first-requires c κs = search needs
 
 returns-2 : tie.Need-returns-2
-returns-2 c = let r = c .raise-first .ensures in (r .0, λ q. rw (c .before .before .before .before .index .ensures) at (r .1))
+returns-2 c =
+    let at-index = c .before .before .before .before in
+    let r = c .raise-first .ensures in (r .0, λ q. rw (at-index .index .ensures) at (r .1))
 
 pub lift-first-spec : {M : Type 1} → statement M
 lift-first-spec =

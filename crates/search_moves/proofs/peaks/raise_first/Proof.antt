@@ -20,32 +20,44 @@ loop-holds c =
     (omega arith, higher-none (now (a .peaks)), first-none (now (a .gains)) (now (a .presentpins)) (a .first) (now (a .peaks)) (a .t))
 
 add-index : tie.Need-add-index Inv-loop μ-loop
-add-index c = omega (arith, c .before .before .before .before .pre .3 .fit)
+add-index c =
+    let start = c .before .before .before .before in
+    omega (arith, start .pre .3 .fit)
 
 mul-index : tie.Need-mul-index Inv-loop μ-loop
-mul-index c = omega (arith, c .before .before .before .before .pre .3 .fit)
+mul-index c =
+    let start = c .before .before .before .before in
+    omega (arith, start .pre .3 .fit)
 
 shared-slice-read-index : tie.Need-shared-slice-read-index Inv-loop μ-loop
-shared-slice-read-index c = omega (arith, c .before .before .before .before .before .pre .3 .fit)
+shared-slice-read-index c =
+    let start = c .before .before .before .before .before in
+    omega (arith, start .pre .3 .fit)
 
 index-requires : tie.Need-index-requires Inv-loop μ-loop
 index-requires c κs = search needs
 
 sub-raise-entry : tie.Need-sub-raise-entry Inv-loop μ-loop
-sub-raise-entry c = omega (arith, c .index .ensures, c .before .before .before .before .before .before .pre .3 .vertices (c .before .before .before .before .loop .j) (omega arith))
+sub-raise-entry c =
+    let at-loop = c .before .before .before .before in
+    let start = at-loop .before .before in
+    omega (arith, c .index .ensures, start .pre .3 .vertices (at-loop .loop .j) (omega arith))
 
 sub-raise-entry-2 : tie.Need-sub-raise-entry-2 Inv-loop μ-loop
-sub-raise-entry-2 c = omega (arith, c .before .before .before .before .before .before .pre .1)
+sub-raise-entry-2 c =
+    let start = c .before .before .before .before .before .before in
+    omega (arith, start .pre .1)
 
 raise-entry-requires : tie.Need-raise-entry-requires Inv-loop μ-loop
 raise-entry-requires c κs =
+    let at-loop = c .before .before .before .before in
     let start = c .before .before .before .before .before .before .pre in
-    let j = c .before .before .before .before .loop .j in
+    let j = at-loop .loop .j in
     let v = start .3 .vertices j (omega arith) in (
       omega (arith, c .index .ensures, v),
       omega (arith, start .1, start .2),
       omega (arith, c .index .ensures, v, start .3 .in-gains j (omega arith)),
-      c .before .before .before .before .loop .inv .1 .len ∙ start .0,
+      at-loop .loop .inv .1 .len ∙ start .0,
     )
 
 add-j : tie.Need-add-j Inv-loop μ-loop
@@ -66,7 +78,8 @@ loop-again c =
 
 returns : tie.Need-returns Inv-loop μ-loop
 returns c =
-    let e : c .before .loop .j ≡ c .before .before .before .args .size = omega arith in
+    let start = c .before .before .before in
+    let e : c .before .loop .j ≡ start .args .size = omega arith in
     (c .before .loop .inv .1, rw e at (c .before .loop .inv .2))
 
 pub raise-first-spec : {M : Type 1} → statement M

@@ -20,34 +20,47 @@ loop-holds c =
     (omega arith, higher-none (now (a .peaks)), last-none (now (a .gains)) (now (a .presentpins)) (a .first) (now (a .peaks)) (now (a .blocks)) (a .s) (a .k))
 
 add-index : tie.Need-add-index Inv-loop μ-loop
-add-index c = omega (arith, c .before .before .before .before .pre .2 .fit)
+add-index c =
+    let start = c .before .before .before .before in
+    omega (arith, start .pre .2 .fit)
 
 mul-index : tie.Need-mul-index Inv-loop μ-loop
 mul-index c = omega arith
 
 shared-slice-read-index : tie.Need-shared-slice-read-index Inv-loop μ-loop
-shared-slice-read-index c = omega (arith, c .before .before .before .before .before .pre .2 .fit)
+shared-slice-read-index c =
+    let start = c .before .before .before .before .before in
+    omega (arith, start .pre .2 .fit)
 
 index-requires : tie.Need-index-requires Inv-loop μ-loop
 index-requires c κs = search needs
 
 sub-x : tie.Need-sub-x Inv-loop μ-loop
-sub-x c = omega (arith, c .index .ensures, c .before .before .before .before .before .before .pre .2 .vertices (c .before .before .before .loop .j) (omega arith))
+sub-x c =
+    let at-loop = c .before .before .before in
+    let start = at-loop .before .before .before in
+    omega (arith, c .index .ensures, start .pre .2 .vertices (at-loop .loop .j) (omega arith))
 
 mul-raise-in-block : tie.Need-mul-raise-in-block Inv-loop μ-loop
-mul-raise-in-block c = omega (arith, c .before .index .ensures, c .before .before .before .before .before .before .before .pre .2 .vertices (c .before .before .before .before .loop .j) (omega arith))
+mul-raise-in-block c =
+    let at-loop = c .before .before .before .before in
+    let start = at-loop .before .before .before in
+    omega (arith, c .before .index .ensures, start .pre .2 .vertices (at-loop .loop .j) (omega arith))
 
 shared-slice-read-raise-in-block : tie.Need-shared-slice-read-raise-in-block Inv-loop μ-loop
 shared-slice-read-raise-in-block c =
-    let ok = c .before .before .before .before .before .before .before .before .pre .2 in
-    omega (arith, c .before .before .index .ensures, ok .vertices (c .before .before .before .before .before .loop .j) (omega arith), ok .in-blocks (c .before .before .before .before .before .loop .j) (omega arith))
+    let at-loop = c .before .before .before .before .before in
+    let start = at-loop .before .before .before in
+    let ok = start .pre .2 in
+    omega (arith, c .before .before .index .ensures, ok .vertices (at-loop .loop .j) (omega arith), ok .in-blocks (at-loop .loop .j) (omega arith))
 
 raise-in-block-requires : tie.Need-raise-in-block-requires Inv-loop μ-loop
 raise-in-block-requires c κs =
+    let at-loop = c .before .before .before .before .before in
     let start = c .before .before .before .before .before .before .before .before .pre in
-    let j = c .before .before .before .before .before .loop .j in
+    let j = at-loop .loop .j in
     let v = start .2 .vertices j (omega arith) in (
-      c .before .before .before .before .before .loop .inv .1 .len ∙ start .0,
+      at-loop .loop .inv .1 .len ∙ start .0,
       record {
         i-to = omega (arith, c .before .before .index .ensures, v);
         k-to = start .1;
@@ -63,17 +76,19 @@ loop-less c = omega arith
 
 loop-again : tie.Need-loop-again Inv-loop μ-loop
 loop-again c =
+    let at-index = c .before .before .before in
     let a = c .before .before .before .before .before .before .before .before .before .args in
     let l = c .before .before .before .before .before .before .loop in
     let r = c .raise-in-block .ensures in (
       omega arith,
       higher-then (l .inv .1) (r .0),
-      last-more (now (a .gains)) (now (a .presentpins)) (a .first) (now (a .blocks)) (l .j) (a .s) (a .k) (c .before .before .before .index .result - 1) (ap (λ (z : ℕ). z - 1) (c .before .before .before .index .ensures)) (r .0) (l .inv .2) (r .1),
+      last-more (now (a .gains)) (now (a .presentpins)) (a .first) (now (a .blocks)) (l .j) (a .s) (a .k) (at-index .index .result - 1) (ap (λ (z : ℕ). z - 1) (at-index .index .ensures)) (r .0) (l .inv .2) (r .1),
     )
 
 returns : tie.Need-returns Inv-loop μ-loop
 returns c =
-    let e : c .before .loop .j ≡ c .before .before .before .before .args .size = omega arith in
+    let start = c .before .before .before .before in
+    let e : c .before .loop .j ≡ start .args .size = omega arith in
     (c .before .loop .inv .1, rw e at (c .before .loop .inv .2))
 
 pub raise-last-spec : {M : Type 1} → statement M

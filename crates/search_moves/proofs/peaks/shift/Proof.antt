@@ -16,9 +16,10 @@ go-requires c κs = search needs
 
 lift-requires : tie.Need-lift-requires
 lift-requires c κs =
+    let at-go = c .before .before .before .before .before .before .before .before .before .before .before in
     let start = c .before .before .before .before .before .before .before .before .before .before .before .before .before .before .before .before .before .before .before .before .before .before .before .before .before .before .before .pre in
     let goes = start .0 .goes in
-    (start .1 .len, lift-asks (goes .sound) (goes .open-pair) (omega (arith, c .before .before .before .before .before .before .before .before .before .before .before .go .kept)) (omega (arith, c .before .before .before .before .before .before .before .before .before .before .before .go .kept)) (omega (arith, c .before .before .before .before .before .before .before .before .before .before .before .go .kept)))
+    (start .1 .len, lift-asks (goes .sound) (goes .open-pair) (omega (arith, at-go .go .kept)) (omega (arith, at-go .go .kept)) (omega (arith, at-go .go .kept)))
 
 same-length : tie.Need-same-length
 same-length c = search needs

@@ -8,9 +8,10 @@ use Rattle.walk.proofs.walks.advance.Tie as tie
 
 next-move-requires : tie.Need-next-move-requires
 next-move-requires c κs =
+    let start′ = c .before .before .before .before .before .before .before .before .before .before .before .before .before .before in
     let start = c .before .before .before .before .before .before .before .before .before .before .before .before .before .before .pre in
     let ok = start .0 in (
-      (ok .at .kept-to, omega (arith, ok .tried-to, ok .turn-to, ok .at .sound .follows .room .few-vertices), search-ok (ok .at .sound) (now (c .before .before .before .before .before .before .before .before .before .before .before .before .before .before .args .marks)) (omega (arith, ok .at .marks-fit))),
+      (ok .at .kept-to, omega (arith, ok .tried-to, ok .turn-to, ok .at .sound .follows .room .few-vertices), search-ok (ok .at .sound) (now (start′ .args .marks)) (omega (arith, ok .at .marks-fit))),
       start .1,
     )
 

@@ -10,30 +10,43 @@ index-requires : tie.Need-index-requires
 index-requires c κs = search needs
 
 sub-x : tie.Need-sub-x
-sub-x c = omega (arith, c .before .before .before .before .before .before .before .before .before .before .pre .0 .v-from, c .index .ensures)
+sub-x c =
+    let start = c .before .before .before .before .before .before .before .before .before .before in
+    omega (arith, start .pre .0 .v-from, c .index .ensures)
 
 add-made : tie.Need-add-made
-add-made c = let ok = c .before .before .before .before .before .before .before .before .before .before .pre .0 in omega (arith, ok .tried-to, ok .turn-to, ok .at .sound .follows .room .few-vertices)
+add-made c =
+    let start = c .before .before .before .before .before .before .before .before .before .before in
+    let ok = start .pre .0 in omega (arith, ok .tried-to, ok .turn-to, ok .at .sound .follows .room .few-vertices)
 
 mul-movers : tie.Need-mul-movers
-mul-movers c = let ok = c .before .before .before .before .before .before .before .before .before .before .pre .0 in omega (arith, ok .tried-to, ok .turn-to, ok .at .sound .follows .room .few-vertices)
+mul-movers c =
+    let start = c .before .before .before .before .before .before .before .before .before .before in
+    let ok = start .pre .0 in omega (arith, ok .tried-to, ok .turn-to, ok .at .sound .follows .room .few-vertices)
 
 element-write-movers : tie.Need-element-write-movers
-element-write-movers c = let ok = c .before .before .before .before .before .before .before .before .before .before .pre .0 in omega (arith, ok .tried-to, ok .turn-to, ok .at .sound .follows .room .few-vertices)
+element-write-movers c =
+    let start = c .before .before .before .before .before .before .before .before .before .before in
+    let ok = start .pre .0 in omega (arith, ok .tried-to, ok .turn-to, ok .at .sound .follows .room .few-vertices)
 
 mul-origins : tie.Need-mul-origins
 mul-origins c = omega arith
 
 slice-read-origins : tie.Need-slice-read-origins
 slice-read-origins c =
-    let ok = c .before .before .before .before .before .before .before .before .before .before .before .pre .0 in
+    let start = c .before .before .before .before .before .before .before .before .before .before .before in
+    let ok = start .pre .0 in
     omega (arith, ok .open-pair .u-in, ok .at .sound .follows .world .lists .blocks-fit, c .before .index .ensures)
 
 mul-origins-2 : tie.Need-mul-origins-2
-mul-origins-2 c = let ok = c .before .before .before .before .before .before .before .before .before .before .before .pre .0 in omega (arith, ok .tried-to, ok .turn-to, ok .at .sound .follows .room .few-vertices)
+mul-origins-2 c =
+    let start = c .before .before .before .before .before .before .before .before .before .before .before in
+    let ok = start .pre .0 in omega (arith, ok .tried-to, ok .turn-to, ok .at .sound .follows .room .few-vertices)
 
 element-write-origins : tie.Need-element-write-origins
-element-write-origins c = let ok = c .before .before .before .before .before .before .before .before .before .before .before .pre .0 in omega (arith, ok .tried-to, ok .turn-to, ok .at .sound .follows .room .few-vertices)
+element-write-origins c =
+    let start = c .before .before .before .before .before .before .before .before .before .before .before in
+    let ok = start .pre .0 in omega (arith, ok .tried-to, ok .turn-to, ok .at .sound .follows .room .few-vertices)
 
 shift-requires : tie.Need-shift-requires
 shift-requires c κs =
@@ -44,8 +57,10 @@ shift-requires c κs =
 
 spread-requires : tie.Need-spread-requires
 spread-requires c κs =
-    let ok = c .before .before .before .before .before .before .before .before .before .before .before .before .before .before .before .before .before .before .before .before .before .before .before .before .before .before .pre .0 in
-    let is = c .before .before .before .before .before .before .before .before .before .before .before .before .before .before .before .before .index in (
+    let at-index = c .before .before .before .before .before .before .before .before .before .before .before .before .before .before .before .before in
+    let start = at-index .before .before .before .before .before .before .before .before .before .before in
+    let ok = start .pre .0 in
+    let is = at-index .index in (
       ok .at .marks-fit,
       omega (arith, ok .open-pair .u-in, ok .at .sound .follows .room .few-vertices, is .ensures),
       take-nets ok (is .result - 1) (ap (λ (z : ℕ). z - 1) (is .ensures)),
@@ -54,15 +69,19 @@ spread-requires c κs =
 
 heaviest-requires : tie.Need-heaviest-requires
 heaviest-requires c κs =
-    let ok = c .before .before .before .before .before .before .before .before .before .before .before .before .before .before .before .before .before .before .before .before .before .before .before .before .before .before .before .before .pre .0 in
-    let moved = c .before .before .before .before .before .before .before .before .before .before .shift .ensures in
+    let at-shift = c .before .before .before .before .before .before .before .before .before .before in
+    let start = at-shift .before .before .before .before .before .before .before .before .before .before .before .before .before .before .before .before .before .before in
+    let ok = start .pre .0 in
+    let moved = at-shift .shift .ensures in
     (moved .0 (ok .aboves) (ok .loaded) .sound (ok .h) (ok .cs) (ok .walk .block) (ok .at .sound) .loads-fit, ok .at .sound .follows .world .frame .few)
 
 keep-requires : tie.Need-keep-requires
 keep-requires c κs = search needs
 
 add-t28 : tie.Need-add-t28
-add-t28 c = let ok = c .before .before .before .before .before .before .before .before .before .before .before .before .before .before .before .before .before .before .before .before .before .before .before .before .before .before .before .before .before .before .before .pre .0 in omega (arith, ok .turn-to, ok .at .sound .follows .room .few-vertices)
+add-t28 c =
+    let start = c .before .before .before .before .before .before .before .before .before .before .before .before .before .before .before .before .before .before .before .before .before .before .before .before .before .before .before .before .before .before .before in
+    let ok = start .pre .0 in omega (arith, ok .turn-to, ok .at .sound .follows .room .few-vertices)
 
 same-length : tie.Need-same-length
 same-length c = search needs
@@ -78,10 +97,13 @@ same-length-4 c = search needs
 
 returns : tie.Need-returns
 returns c =
-    let ok = c .before .before .before .before .before .before .before .before .before .before .before .before .before .before .before .before .before .before .before .before .before .before .before .before .before .before .before .before .before .before .before .pre .0 in
+    let at-spread = c .before .before .before .before in
+    let at-shift = at-spread .before .before .before .before .before .before .before .before .before in
+    let start = at-shift .before .before .before .before .before .before .before .before .before .before .before .before .before .before .before .before .before .before in
+    let ok = start .pre .0 in
     let is = c .before .before .before .before .before .before .before .before .before .before .before .before .before .before .before .before .before .before .before .before .before .index in
-    let moved = c .before .before .before .before .before .before .before .before .before .before .before .before .before .shift .ensures in
-    let marked = c .before .before .before .before .spread .ensures in
+    let moved = at-shift .shift .ensures in
+    let marked = at-spread .spread .ensures in
     let heavy = c .before .before .heaviest .ensures in
     let prefix = c .before .keep .ensures in (
       λ aboves loaded. record {

@@ -19,45 +19,72 @@ abbrev μ-loop : tie.MeasureT-loop
 μ-loop counts₀ visited₀ gains₀ blocks₀ loads₀ pins sizes bits weights netweights firsts movers origins n m k total tried kept t₀ j₀ counts visited gains blocks loads t j = j
 
 loop-holds : tie.Need-loop-holds Inv-loop μ-loop
-loop-holds c = (c .before .before .before .before .before .before .before .before .before .pre .kept-to, omega arith, λ aboves loaded. rewind-none _ _ _ _ _, refl, refl, refl, refl)
+loop-holds c =
+    let start = c .before .before .before .before .before .before .before .before .before in
+    (start .pre .kept-to, omega arith, λ aboves loaded. rewind-none _ _ _ _ _, refl, refl, refl, refl)
 
 sub-j : tie.Need-sub-j Inv-loop μ-loop
 sub-j c = omega arith
 
 mul-index : tie.Need-mul-index Inv-loop μ-loop
-mul-index c = omega (arith, c .before .before .before .before .before .before .before .before .before .before .before .pre .tried-to, c .before .loop .inv)
+mul-index c =
+    let start = c .before .before .before .before .before .before .before .before .before .before .before in
+    omega (arith, start .pre .tried-to, c .before .loop .inv)
 
 element-copy-out-index : tie.Need-element-copy-out-index Inv-loop μ-loop
-element-copy-out-index c = omega (arith, c .before .before .before .before .before .before .before .before .before .before .before .pre .tried-to, c .before .loop .inv)
+element-copy-out-index c =
+    let start = c .before .before .before .before .before .before .before .before .before .before .before in
+    omega (arith, start .pre .tried-to, c .before .loop .inv)
 
 index-requires : tie.Need-index-requires Inv-loop μ-loop
 index-requires c κs = search needs
 
 sub-x : tie.Need-sub-x Inv-loop μ-loop
-sub-x c = omega (arith, c .index .ensures, rewind-from _ _ _ _ _ _ (c .before .before .before .loop .j) (c .before .before .before .before .before .before .before .before .before .before .before .before .before .pre) (c .before .before .before .loop .inv .2) (omega (arith, c .before .before .loop-test)))
+sub-x c =
+    let at-loop = c .before .before .before in
+    let start = at-loop .before .before .before .before .before .before .before .before .before .before in
+    omega (arith, c .index .ensures, rewind-from _ _ _ _ _ _ (at-loop .loop .j) (start .pre) (at-loop .loop .inv .2) (omega (arith, c .before .before .loop-test)))
 
 mul-back : tie.Need-mul-back Inv-loop μ-loop
-mul-back c = omega (arith, c .before .before .before .before .before .before .before .before .before .before .before .before .before .before .before .before .before .before .pre .tried-to, c .before .before .before .before .before .before .before .before .loop .inv)
+mul-back c =
+    let at-loop = c .before .before .before .before .before .before .before .before in
+    let start = at-loop .before .before .before .before .before .before .before .before .before .before in
+    omega (arith, start .pre .tried-to, at-loop .loop .inv)
 
 element-copy-out-back : tie.Need-element-copy-out-back Inv-loop μ-loop
-element-copy-out-back c = omega (arith, c .before .before .before .before .before .before .before .before .before .before .before .before .before .before .before .before .before .before .pre .tried-to, c .before .before .before .before .before .before .before .before .loop .inv)
+element-copy-out-back c =
+    let at-loop = c .before .before .before .before .before .before .before .before in
+    let start = at-loop .before .before .before .before .before .before .before .before .before .before in
+    omega (arith, start .pre .tried-to, at-loop .loop .inv)
 
 back-requires : tie.Need-back-requires Inv-loop μ-loop
-back-requires c κs = rewind-asks _ _ _ _ _ _ (c .before .before .before .before .before .before .before .before .before .loop .j) _ (c .before .before .before .before .before .before .before .before .before .before .before .before .before .before .before .before .before .before .before .pre) (c .before .before .before .before .before .before .before .before .before .loop .inv .2) (omega (arith, c .before .before .before .before .before .before .before .before .loop-test)) (c .before .before .before .before .before .before .index .ensures)
+back-requires c κs =
+    let at-index = c .before .before .before .before .before .before in
+    let at-loop-test = at-index .before .before in
+    let at-loop = at-loop-test .before in
+    let start = at-loop .before .before .before .before .before .before .before .before .before .before in
+    rewind-asks _ _ _ _ _ _ (at-loop .loop .j) _ (start .pre) (at-loop .loop .inv .2) (omega (arith, at-loop-test .loop-test)) (at-index .index .ensures)
 
 loop-less : tie.Need-loop-less Inv-loop μ-loop
-loop-less c = omega (arith, c .before .before .before .before .before .before .before .before .before .before .before .before .before .before .before .before .loop-test)
+loop-less c =
+    let at-loop-test = c .before .before .before .before .before .before .before .before .before .before .before .before .before .before .before .before in
+    omega (arith, at-loop-test .loop-test)
 
 loop-again : tie.Need-loop-again Inv-loop μ-loop
-loop-again c = (
-  omega (arith, c .before .before .before .before .before .before .before .before .before .before .before .before .before .before .before .before .loop-test),
-  omega (arith, c .before .before .before .before .before .before .before .before .before .before .before .before .before .before .before .before .before .loop .inv),
-  λ aboves loaded. rewind-more _ _ _ _ (c .before .before .before .before .before .before .before .before .before .before .before .before .before .before .before .before .before .loop .j) (c .before .before .before .before .before .before .before .before .before .before .before .before .before .before .index .result) refl refl refl refl refl (c .before .before .before .before .before .before .before .before .before .before .before .before .before .before .before .before .before .loop .inv .2 aboves loaded) (c .before .before .before .before .before .before .before .before .before .before .before .before .before .before .before .before .loop-test .taken) (omega (arith, c .before .before .before .before .before .before .before .before .before .before .before .before .before .before .index .ensures, rewind-from _ _ _ _ _ _ (c .before .before .before .before .before .before .before .before .before .before .before .before .before .before .before .before .before .loop .j) (c .before .before .before .before .before .before .before .before .before .before .before .before .before .before .before .before .before .before .before .before .before .before .before .before .before .before .before .pre) (c .before .before .before .before .before .before .before .before .before .before .before .before .before .before .before .before .before .loop .inv .2) (omega (arith, c .before .before .before .before .before .before .before .before .before .before .before .before .before .before .before .before .loop-test)))) (c .before .before .before .before .before .before .before .back .ensures aboves loaded),
-  omega (arith, c .before .before .before .before .before .before .before .before .before .before .before .before .before .before .before .before .before .loop .inv, c .before .before .before .before .before .before .before .back .kept),
-  omega (arith, c .before .before .before .before .before .before .before .before .before .before .before .before .before .before .before .before .before .loop .inv, c .before .before .before .before .before .before .before .back .kept),
-  omega (arith, c .before .before .before .before .before .before .before .before .before .before .before .before .before .before .before .before .before .loop .inv, c .before .before .before .before .before .before .before .back .kept),
-  omega (arith, c .before .before .before .before .before .before .before .before .before .before .before .before .before .before .before .before .before .loop .inv, c .before .before .before .before .before .before .before .back .kept),
-)
+loop-again c =
+    let at-back = c .before .before .before .before .before .before .before in
+    let at-index = at-back .before .before .before .before .before .before .before in
+    let at-loop-test = at-index .before .before in
+    let at-loop = at-loop-test .before in
+    let start = at-loop .before .before .before .before .before .before .before .before .before .before in (
+      omega (arith, at-loop-test .loop-test),
+      omega (arith, at-loop .loop .inv),
+      λ aboves loaded. rewind-more _ _ _ _ (at-loop .loop .j) (at-index .index .result) refl refl refl refl refl (at-loop .loop .inv .2 aboves loaded) (at-loop-test .loop-test .taken) (omega (arith, at-index .index .ensures, rewind-from _ _ _ _ _ _ (at-loop .loop .j) (start .pre) (at-loop .loop .inv .2) (omega (arith, at-loop-test .loop-test)))) (at-back .back .ensures aboves loaded),
+      omega (arith, at-loop .loop .inv, at-back .back .kept),
+      omega (arith, at-loop .loop .inv, at-back .back .kept),
+      omega (arith, at-loop .loop .inv, at-back .back .kept),
+      omega (arith, at-loop .loop .inv, at-back .back .kept),
+    )
 
 same-length : tie.Need-same-length Inv-loop μ-loop
 same-length c = omega (arith, c .before .loop .inv)

@@ -44,10 +44,12 @@ heaviest-requires c κs =
 
 loop-holds : tie.Need-loop-holds Inv-loop μ-loop
 loop-holds c =
+    let at-mark-vertex2 = c .before .before .before .before .before in
+    let at-mark-vertex = at-mark-vertex2 .before .before in
     let a = c .before .before .before .before .before .before .before .before .before .before .before .before .before .before .before .before .before .before .args in
     let ok = c .before .before .before .before .before .before .before .before .before .before .before .before .before .before .before .before .before .before .pre in
-    let one = c .before .before .before .before .before .before .before .mark-vertex .ensures in
-    let two = c .before .before .before .before .before .mark-vertex2 .ensures in
+    let one = at-mark-vertex .mark-vertex .ensures in
+    let two = at-mark-vertex2 .mark-vertex2 .ensures in
     let fit = length-replicate {A = ℕ} 1024 0 in (
       omega arith,
       omega arith,
@@ -69,15 +71,18 @@ advance-requires c κs =
 
 loop-less : tie.Need-loop-less Inv-loop μ-loop
 loop-less c =
+    let at-advance = c .before .before .before .before .before .before .before in
+    let at-if1 = at-advance .before .before .before .before .before .before .before .before .before .before in
     let ok = c .before .before .before .before .before .before .before .before .before .before .before .before .before .before .before .before .before .before .before .before .before .before .before .before .before .before .before .before .before .before .before .before .before .before .before .before .before .before .pre in
-    omega (arith, c .before .before .before .before .before .before .before .advance .ensures .0 (ok .aboves) (ok .loaded) .on, c .before .before .before .before .before .before .before .before .before .before .before .before .before .before .before .before .before .if1)
+    omega (arith, at-advance .advance .ensures .0 (ok .aboves) (ok .loaded) .on, at-if1 .if1)
 
 loop-again : tie.Need-loop-again Inv-loop μ-loop
 loop-again c =
+    let at-advance = c .before .before .before .before .before .before .before in
     let ok = c .before .before .before .before .before .before .before .before .before .before .before .before .before .before .before .before .before .before .before .before .before .before .before .before .before .before .before .before .before .before .before .before .before .before .before .before .before .before .pre in
     let l = c .before .before .before .before .before .before .before .before .before .before .before .before .before .before .before .before .before .before .before .loop in
-    let turned = c .before .before .before .before .before .before .before .advance .ensures in
-    let lengths = c .before .before .before .before .before .before .before .advance .kept in
+    let turned = at-advance .advance .ensures in
+    let lengths = at-advance .advance .kept in
     let e = turned .0 (ok .aboves) (ok .loaded) in (
       e .to,
       e .tried-to,
@@ -96,16 +101,28 @@ rewind-requires c κs =
     let l = at-loop .loop in end-asks (start .pre) (l .inv .2) (l .inv .0) (l .inv .1)
 
 same-length : tie.Need-same-length Inv-loop μ-loop
-same-length c = omega (arith, c .before .before .before .before .before .before .before .before .before .before .before .before .before .before .before .before .before .loop .inv, c .before .before .before .before .before .before .before .rewind .kept)
+same-length c =
+    let at-rewind = c .before .before .before .before .before .before .before in
+    let at-loop = at-rewind .before .before .before .before .before .before .before .before .before .before in
+    omega (arith, at-loop .loop .inv, at-rewind .rewind .kept)
 
 same-length-2 : tie.Need-same-length-2 Inv-loop μ-loop
-same-length-2 c = omega (arith, c .before .before .before .before .before .before .before .before .before .before .before .before .before .before .before .before .before .loop .inv, c .before .before .before .before .before .before .before .rewind .kept)
+same-length-2 c =
+    let at-rewind = c .before .before .before .before .before .before .before in
+    let at-loop = at-rewind .before .before .before .before .before .before .before .before .before .before in
+    omega (arith, at-loop .loop .inv, at-rewind .rewind .kept)
 
 same-length-3 : tie.Need-same-length-3 Inv-loop μ-loop
-same-length-3 c = omega (arith, c .before .before .before .before .before .before .before .before .before .before .before .before .before .before .before .before .before .loop .inv, c .before .before .before .before .before .before .before .rewind .kept)
+same-length-3 c =
+    let at-rewind = c .before .before .before .before .before .before .before in
+    let at-loop = at-rewind .before .before .before .before .before .before .before .before .before .before in
+    omega (arith, at-loop .loop .inv, at-rewind .rewind .kept)
 
 same-length-4 : tie.Need-same-length-4 Inv-loop μ-loop
-same-length-4 c = omega (arith, c .before .before .before .before .before .before .before .before .before .before .before .before .before .before .before .before .before .loop .inv, c .before .before .before .before .before .before .before .rewind .kept)
+same-length-4 c =
+    let at-rewind = c .before .before .before .before .before .before .before in
+    let at-loop = at-rewind .before .before .before .before .before .before .before .before .before .before in
+    omega (arith, at-loop .loop .inv, at-rewind .rewind .kept)
 
 returns : tie.Need-returns Inv-loop μ-loop
 returns c =
