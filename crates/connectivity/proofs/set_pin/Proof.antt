@@ -29,7 +29,8 @@ own-row-requires c κs =
     let C₂ = c .before .before in
     let C₁ = C₂ .before .before in
     let E = C₁ .before .before .before in
-    set-own (E .before .before .before .before .before .before .pre) refl (E .if1 .left) (C₁ .count-at .ensures) (C₂ .count-at2 .ensures)
+    let start = E .before .before .before .before .before .before in
+    set-own (start .pre) refl (E .if1 .left) (C₁ .count-at .ensures) (C₂ .count-at2 .ensures)
 
 depart-requires : tie.Need-depart-requires
 depart-requires c κs =
@@ -53,7 +54,8 @@ touch-others-requires c κs =
     let C₂ = O .before .before .before in
     let C₁ = C₂ .before .before in
     let E = C₁ .before .before .before in
-    set-others (E .before .before .before .before .before .before .pre) refl (E .if1 .left) (C₁ .count-at .ensures) (C₂ .count-at2 .ensures) (O .own-row .ensures)
+    let start = E .before .before .before .before .before .before in
+    set-others (start .pre) refl (E .if1 .left) (C₁ .count-at .ensures) (C₂ .count-at2 .ensures) (O .own-row .ensures)
 
 own-row-requires-2 : tie.Need-own-row-requires-2
 own-row-requires-2 c κs =
@@ -65,7 +67,8 @@ own-row-requires-2 c κs =
     let C₂ = O .before .before .before in
     let C₁ = C₂ .before .before in
     let E = C₁ .before .before .before in
-    set-own-2 (E .before .before .before .before .before .before .pre) refl (E .if1 .left) (C₁ .count-at .ensures) (C₂ .count-at2 .ensures) (O .own-row .ensures) (D .depart .ensures) (A .arrive .ensures) (T .touch-others .ensures)
+    let start = E .before .before .before .before .before .before in
+    set-own-2 (start .pre) refl (E .if1 .left) (C₁ .count-at .ensures) (C₂ .count-at2 .ensures) (O .own-row .ensures) (D .depart .ensures) (A .arrive .ensures) (T .touch-others .ensures)
 
 own-moved-requires : tie.Need-own-moved-requires
 own-moved-requires c κs =
@@ -77,7 +80,8 @@ own-moved-requires c κs =
     let C₂ = O .before .before .before in
     let C₁ = C₂ .before .before in
     let E = C₁ .before .before .before in
-    set-moved (E .before .before .before .before .before .before .pre) refl (E .if1 .left) (C₁ .count-at .ensures) (C₂ .count-at2 .ensures) (O .own-row .ensures) (D .depart .ensures) (A .arrive .ensures) (T .touch-others .ensures) (P .own-row2 .ensures)
+    let start = E .before .before .before .before .before .before in
+    set-moved (start .pre) refl (E .if1 .left) (C₁ .count-at .ensures) (C₂ .count-at2 .ensures) (O .own-row .ensures) (D .depart .ensures) (A .arrive .ensures) (T .touch-others .ensures) (P .own-row2 .ensures)
 
 same-length : tie.Need-same-length
 same-length c = search needs
@@ -105,7 +109,8 @@ returns-2 c =
     let C₂ = O .before .before .before in
     let C₁ = C₂ .before .before in
     let E = C₁ .before .before .before in
-    set-done (E .before .before .before .before .before .before .pre) refl (E .if1 .left) (C₁ .count-at .ensures) (C₂ .count-at2 .ensures) (O .own-row .ensures) (D .depart .ensures) (A .arrive .ensures) (T .touch-others .ensures) (P .own-row2 .ensures) (M .own-moved .ensures)
+    let start = E .before .before .before .before .before .before in
+    set-done (start .pre) refl (E .if1 .left) (C₁ .count-at .ensures) (C₂ .count-at2 .ensures) (O .own-row .ensures) (D .depart .ensures) (A .arrive .ensures) (T .touch-others .ensures) (P .own-row2 .ensures) (M .own-moved .ensures)
 
 pub set-pin-spec : {M : Type 1} → statement M
 set-pin-spec =

@@ -16,7 +16,9 @@ slice-aggregate-put-row-2 c = search needs
 
 put-row-requires : tie.Need-put-row-requires
 unfolding answerRow row bytes
-put-row-requires c κs = rw (c .before .before .before .before .a .given .1) at (c .before .before .before .before .before .before .before .pre)
+put-row-requires c κs =
+    let start = c .before .before .before .before .before .before .before in
+    rw (c .before .before .before .before .a .given .1) at (start .pre)
 
 enum-known-a-2 : tie.Need-enum-known-a-2
 enum-known-a-2 c = search needs
@@ -29,7 +31,9 @@ slice-aggregate-put-row-4 c = search needs
 
 put-row-requires-2 : tie.Need-put-row-requires-2
 unfolding answerRow row bytes
-put-row-requires-2 c κs = rw (c .before .before .before .before .a2 .given .1) at (c .before .before .before .before .before .before .before .pre)
+put-row-requires-2 c κs =
+    let start = c .before .before .before .before .before .before .before in
+    rw (c .before .before .before .before .a2 .given .1) at (start .pre)
 
 enum-known-a-3 : tie.Need-enum-known-a-3
 enum-known-a-3 c = search needs
@@ -42,7 +46,9 @@ slice-aggregate-put-row-6 c = search needs
 
 put-row-requires-3 : tie.Need-put-row-requires-3
 unfolding answerRow row bytes
-put-row-requires-3 c κs = rw (c .before .before .before .before .a3 .given .1) at (c .before .before .before .before .before .before .before .pre)
+put-row-requires-3 c κs =
+    let start = c .before .before .before .before .before .before .before in
+    rw (c .before .before .before .before .a3 .given .1) at (start .pre)
 
 enum-known-a-4 : tie.Need-enum-known-a-4
 enum-known-a-4 c = search needs
@@ -55,7 +61,9 @@ slice-aggregate-put-row-8 c = search needs
 
 put-row-requires-4 : tie.Need-put-row-requires-4
 unfolding answerRow row bytes
-put-row-requires-4 c κs = rw (c .before .before .before .before .a4 .given .1) at (c .before .before .before .before .before .before .before .pre)
+put-row-requires-4 c κs =
+    let start = c .before .before .before .before .before .before .before in
+    rw (c .before .before .before .before .a4 .given .1) at (start .pre)
 
 enum-known-a-5 : tie.Need-enum-known-a-5
 enum-known-a-5 c = search needs
@@ -68,7 +76,9 @@ slice-aggregate-put-row-10 c = search needs
 
 put-row-requires-5 : tie.Need-put-row-requires-5
 unfolding answerRow row bytes
-put-row-requires-5 c κs = rw (c .before .before .before .before .a5 .given .1) at (c .before .before .before .before .before .before .before .pre)
+put-row-requires-5 c κs =
+    let start = c .before .before .before .before .before .before .before in
+    rw (c .before .before .before .before .a5 .given .1) at (start .pre)
 
 enum-known-a-6 : tie.Need-enum-known-a-6
 enum-known-a-6 c = search needs
@@ -81,7 +91,9 @@ slice-aggregate-put-row-12 c = search needs
 
 put-row-requires-6 : tie.Need-put-row-requires-6
 unfolding answerRow row bytes
-put-row-requires-6 c κs = rw (c .before .before .before .before .a6 .given .1) at (c .before .before .before .before .before .before .before .pre)
+put-row-requires-6 c κs =
+    let start = c .before .before .before .before .before .before .before in
+    rw (c .before .before .before .before .a6 .given .1) at (start .pre)
 
 enum-known-a-7 : tie.Need-enum-known-a-7
 enum-known-a-7 c = search needs
@@ -94,7 +106,9 @@ slice-aggregate-put-row-14 c = search needs
 
 put-row-requires-7 : tie.Need-put-row-requires-7
 unfolding answerRow row bytes
-put-row-requires-7 c κs = rw (c .before .before .before .before .a7 .given .1) at (c .before .before .before .before .before .before .before .pre)
+put-row-requires-7 c κs =
+    let start = c .before .before .before .before .before .before .before in
+    rw (c .before .before .before .before .a7 .given .1) at (start .pre)
 
 enum-known-a-8 : tie.Need-enum-known-a-8
 enum-known-a-8 c = search needs
@@ -107,63 +121,81 @@ slice-aggregate-put-row-16 c = search needs
 
 put-row-requires-8 : tie.Need-put-row-requires-8
 unfolding answerRow row bytes
-put-row-requires-8 c κs = rw (c .before .before .before .before .a8 .given .1) at (c .before .before .before .before .before .before .before .pre)
+put-row-requires-8 c κs =
+    let start = c .before .before .before .before .before .before .before in
+    rw (c .before .before .before .before .a8 .given .1) at (start .pre)
 
 same-length : tie.Need-same-length
 same-length c = search needs
 
 returns : tie.Need-returns
 unfolding answerRow row bytes
-returns c = rw (c .before .before .before .before .before .before .before .a .given .1) (c .before .before .put-row .ensures)
+returns c =
+    let start = c .before .before .before .before .before .before .before in
+    rw (start .a .given .1) (c .before .before .put-row .ensures)
 
 same-length-2 : tie.Need-same-length-2
 same-length-2 c = search needs
 
 returns-2 : tie.Need-returns-2
 unfolding answerRow row bytes
-returns-2 c = rw (c .before .before .before .before .before .before .before .a2 .given .1) (c .before .before .put-row2 .ensures)
+returns-2 c =
+    let start = c .before .before .before .before .before .before .before in
+    rw (start .a2 .given .1) (c .before .before .put-row2 .ensures)
 
 same-length-3 : tie.Need-same-length-3
 same-length-3 c = search needs
 
 returns-3 : tie.Need-returns-3
 unfolding answerRow row bytes
-returns-3 c = rw (c .before .before .before .before .before .before .before .a3 .given .1) (c .before .before .put-row3 .ensures)
+returns-3 c =
+    let start = c .before .before .before .before .before .before .before in
+    rw (start .a3 .given .1) (c .before .before .put-row3 .ensures)
 
 same-length-4 : tie.Need-same-length-4
 same-length-4 c = search needs
 
 returns-4 : tie.Need-returns-4
 unfolding answerRow row bytes
-returns-4 c = rw (c .before .before .before .before .before .before .before .a4 .given .1) (c .before .before .put-row4 .ensures)
+returns-4 c =
+    let start = c .before .before .before .before .before .before .before in
+    rw (start .a4 .given .1) (c .before .before .put-row4 .ensures)
 
 same-length-5 : tie.Need-same-length-5
 same-length-5 c = search needs
 
 returns-5 : tie.Need-returns-5
 unfolding answerRow row bytes
-returns-5 c = rw (c .before .before .before .before .before .before .before .a5 .given .1) (c .before .before .put-row5 .ensures)
+returns-5 c =
+    let start = c .before .before .before .before .before .before .before in
+    rw (start .a5 .given .1) (c .before .before .put-row5 .ensures)
 
 same-length-6 : tie.Need-same-length-6
 same-length-6 c = search needs
 
 returns-6 : tie.Need-returns-6
 unfolding answerRow row bytes
-returns-6 c = rw (c .before .before .before .before .before .before .before .a6 .given .1) (c .before .before .put-row6 .ensures)
+returns-6 c =
+    let start = c .before .before .before .before .before .before .before in
+    rw (start .a6 .given .1) (c .before .before .put-row6 .ensures)
 
 same-length-7 : tie.Need-same-length-7
 same-length-7 c = search needs
 
 returns-7 : tie.Need-returns-7
 unfolding answerRow row bytes
-returns-7 c = rw (c .before .before .before .before .before .before .before .a7 .given .1) (c .before .before .put-row7 .ensures)
+returns-7 c =
+    let start = c .before .before .before .before .before .before .before in
+    rw (start .a7 .given .1) (c .before .before .put-row7 .ensures)
 
 same-length-8 : tie.Need-same-length-8
 same-length-8 c = search needs
 
 returns-8 : tie.Need-returns-8
 unfolding answerRow row bytes
-returns-8 c = rw (c .before .before .before .before .before .before .before .a8 .given .1) (c .before .before .put-row8 .ensures)
+returns-8 c =
+    let start = c .before .before .before .before .before .before .before in
+    rw (start .a8 .given .1) (c .before .before .put-row8 .ensures)
 
 pub put-answer-spec : {M : Type 1} → statement M
 put-answer-spec =
