@@ -25,13 +25,15 @@ pub record Net : Type 0 where
 
 -- vertex: a lot. block: a session. imbalance: the slack in thousandths.
 -- totalWeight: W, the bales that the catalogue's lines announce, all together.
--- weights: the loaded bales of the lots 1, 2, ..; draft: their sessions in the file; nets: the buyers 1, 2, ..
+-- weights: the loaded bales of the lots 1, 2, ..; draft: their sessions in the file; fixed: 1 for each lot that is kept, else 0 (M-104);
+-- nets: the buyers 1, 2, ..
 pub record Hypergraph : Type 0 where
   pub blocks : ℕ
   pub imbalance : ℕ
   pub totalWeight : ℕ
   pub weights : List ℕ
   pub draft : List ℕ
+  pub fixed : List ℕ
   pub nets : List Net
 
 -- the number of lots
@@ -45,6 +47,10 @@ loaded h v = getD (h .weights) (v - 1) 0
 -- a lot's session in the draft; 0 for no lot
 abbrev pub drafted : Hypergraph → ℕ → ℕ
 drafted h v = getD (h .draft) (v - 1) 0
+
+-- 1 for a lot whose line ends in `,K`, else 0
+abbrev pub fixedEntry : Hypergraph → ℕ → ℕ
+fixedEntry h v = getD (h .fixed) (v - 1) 0
 
 -- the lot is known
 abbrev pub isVertex : Hypergraph → ℕ → Bool

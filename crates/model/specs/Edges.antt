@@ -9,7 +9,7 @@ use Rattle.model.specs.Catalogue.{Hypergraph, mainLimits, fineLimits, av
 use Rattle.model.specs.Measure.{above, climb, representative, weight, blockWeight}
 use Rattle.model.specs.Machine.{callM, callW}
 use Rattle.model.specs.Report.{digitsOf, digits}
-use Rattle.model.specs.Grammar.{Reading, reading, stopped, marked, wrong, bytes, same, parts, isNumber, onward, value, fields, isLine, saleLine, overfull, grown, withLot, lotLine, mark, marking, withNet, netRead, buyLine, asked, withCall, callLine, line, ending, lines, parse}
+use Rattle.model.specs.Grammar.{Reading, reading, stopped, marked, wrong, bytes, same, parts, isNumber, onward, value, fields, isLine, saleLine, overfull, grown, withLot, endsInK, beforeK, lotLine, mark, marking, withNet, netRead, buyLine, asked, withCall, callLine, line, ending, lines, parse}
 
 -- a text, so many times
 unfoldable pub many : ℕ → List ℕ → List ℕ
@@ -34,7 +34,7 @@ nineMarks = bytes "BUY,1,1,2,3,4,5,6,7,8,9\n"
 
 -- a catalogue of one lot
 abbrev pub oneLot : Hypergraph
-oneLot = record { blocks = 2; imbalance = 0; totalWeight = 1; weights = 1 ∷ []; draft = 1 ∷ []; nets = [] }
+oneLot = record { blocks = 2; imbalance = 0; totalWeight = 1; weights = 1 ∷ []; draft = 1 ∷ []; fixed = 0 ∷ []; nets = [] }
 
 pub edges :
     -- 1: 60,001 bytes on line 0; 60,000 are read
@@ -98,19 +98,48 @@ pub edges :
     × (says (bytes "SALE,1,0,2,1000\nLOT,65535,1\n") ≡ reading (record {
       lots = 1;
       buyers = 0;
-      graph = record { blocks = 2; imbalance = 1000; totalWeight = 65535; weights = 65535 ∷ []; draft = 1 ∷ []; nets = [] };
+      graph = record { blocks = 2; imbalance = 1000; totalWeight = 65535; weights = 65535 ∷ []; draft = 1 ∷ []; fixed = 0 ∷ []; nets = [] };
       marks = 0;
       calls = [];
     }))
     × (says (bytes "SALE,1,1,16,1000\nLOT,1,16\nBUY,1000,1\nM,999999999,0\nW,1,1\n") ≡ reading (record {
       lots = 1;
       buyers = 1;
-      graph = record { blocks = 16; imbalance = 1000; totalWeight = 1; weights = 1 ∷ []; draft = 16 ∷ []; nets = record { weight = 1000; pins = 1 ∷ [] } ∷ [] };
+      graph = record { blocks = 16; imbalance = 1000; totalWeight = 1; weights = 1 ∷ []; draft = 16 ∷ []; fixed = 0 ∷ []; nets = record { weight = 1000; pins = 1 ∷ [] } ∷ [] };
       marks = 1;
       calls = callM 999999999 0 ∷ callW 1 1 ∷ [];
     }))
-unfolding many digitsOf digits sum sumTo foldTo sumOver any all averageWeight nearest capacity above climb representative weight blockWeight bytes same parts isNumber onward value fields isLine saleLine overfull grown withLot lotLine mark marking withNet netRead buyLine asked withCall callLine line ending lines parse
+unfolding many digitsOf digits sum sumTo foldTo sumOver any all averageWeight nearest capacity above climb representative weight blockWeight bytes same parts isNumber onward value fields isLine saleLine overfull grown withLot endsInK beforeK lotLine mark marking withNet netRead buyLine asked withCall callLine line ending lines parse
 edges = (refl, refl, refl, refl, refl, refl, refl, refl, refl, refl, refl, refl, refl, refl, refl, refl, refl, refl, refl, refl, refl, refl, refl, refl, refl, refl, refl, refl, refl, refl, refl, refl, refl, refl, refl, refl, refl, refl, refl, refl, refl, refl, refl, refl, refl, refl, refl, refl, refl, refl, refl)
+
+-- M-104: a LOT line may end in `,K`. Any other end is 2, and so is `,K` on another line; the form of the whole line comes before its ranges
+pub kept-edges :
+    (says (bytes "SALE,2,0,2,1000\nLOT,7,1,K\nLOT,6,2\n") ≡ reading (record {
+      lots = 2;
+      buyers = 0;
+      graph = record { blocks = 2; imbalance = 1000; totalWeight = 13; weights = 7 ∷ 6 ∷ []; draft = 1 ∷ 2 ∷ []; fixed = 1 ∷ 0 ∷ []; nets = [] };
+      marks = 0;
+      calls = [];
+    }))
+    × (says (bytes "SALE,1,0,2,1000\nLOT,7,1,k\n") ≡ stopped 2 2)
+    × (says (bytes "SALE,1,0,2,1000\nLOT,7,1,K,\n") ≡ stopped 2 2)
+    × (says (bytes "SALE,1,0,2,1000\nLOT,7,1,KK\n") ≡ stopped 2 2)
+    × (says (bytes "SALE,1,0,2,1000\nLOT,7,1,K,K\n") ≡ stopped 2 2)
+    × (says (bytes "SALE,1,0,2,1000\nLOT,7,1,1\n") ≡ stopped 2 2)
+    × (says (bytes "SALE,1,0,2,1000\nLOT,7,1,1,K\n") ≡ stopped 2 2)
+    × (says (bytes "SALE,1,0,2,1000\nLOT,7,K\n") ≡ stopped 2 2)
+    × (says (bytes "SALE,1,0,2,1000\nLOT,7,1K\n") ≡ stopped 2 2)
+    × (says (bytes "SALE,1,0,2,1000\nLOT,K,7,1\n") ≡ stopped 2 2)
+    × (says (bytes "SALE,1,0,2,1000\n,K\n") ≡ stopped 2 2)
+    × (says (bytes "SALE,1,0,2,1000,K\n") ≡ stopped 2 1)
+    × (says (bytes "SALE,1,1,2,1000\nLOT,7,1,K\nBUY,1,1,K\n") ≡ stopped 2 3)
+    × (says (bytes "SALE,1,0,2,1000\nLOT,7,1,K\nP,K\n") ≡ stopped 2 3)
+    × (says (bytes "SALE,1,0,2,1000\nLOT,0,1,k\n") ≡ stopped 2 2)
+    × (says (bytes "SALE,1,0,2,1000\nLOT,0,1,K\n") ≡ stopped 3 2)
+    × (says (bytes "SALE,1,0,2,1000\nLOT,7,3,K\n") ≡ stopped 3 2)
+    × (says (bytes "SALE,1,0,2,0\nLOT,7,1,K\n") ≡ stopped 6 2)
+unfolding sum sumTo foldTo sumOver any all averageWeight nearest capacity above climb representative weight blockWeight bytes same parts isNumber onward value fields isLine saleLine overfull grown withLot endsInK beforeK lotLine mark marking withNet netRead buyLine asked withCall callLine line ending lines parse
+kept-edges = (refl, refl, refl, refl, refl, refl, refl, refl, refl, refl, refl, refl, refl, refl, refl, refl, refl, refl)
 
 -- M-102, the superfine desk's entry: 257 lots and 9 sessions are out of range; 256 and 8 are read, so that the first LOT line is missing
 pub fine-edges :
@@ -120,5 +149,5 @@ pub fine-edges :
     × (says (bytes "SALE,257,0,9,0\n") ≡ stopped 2 2)
     -- sessions of the draft go by the file's own count, not by the limit
     × (parse fineLimits (bytes "SALE,1,0,2,1000\nLOT,7,3\n") ≡ stopped 3 2)
-unfolding digitsOf digits sum sumTo foldTo sumOver any all averageWeight nearest capacity above climb representative weight blockWeight bytes same parts isNumber onward value fields isLine saleLine overfull grown withLot lotLine mark marking withNet netRead buyLine asked withCall callLine line ending lines parse
+unfolding digitsOf digits sum sumTo foldTo sumOver any all averageWeight nearest capacity above climb representative weight blockWeight bytes same parts isNumber onward value fields isLine saleLine overfull grown withLot endsInK beforeK lotLine mark marking withNet netRead buyLine asked withCall callLine line ending lines parse
 fine-edges = (refl, refl, refl, refl, refl)

@@ -6,7 +6,8 @@ use Prim.Native.Char.{code}
 use mathlib.Core.Bool.{Bool, true, false, not, _&&_, _||_, cond}
 use mathlib.Core.List.{List, [], _∷_, _++_}
 use lib.Dec.{eqb, leb, ltb}
-use lib.ListN.{length, getD, drop}
+use lib.ListN.{length, getD, drop, take}
+use Rattle.laws.specs.Choice.{one}
 use Rattle.laws.specs.Fold.{all, any}
 use Rattle.laws.specs.Sum.{foldTo}
 use Rattle.model.specs.Catalogue.{Limits, Hypergraph, vertices, isVertex, isBlock, capacity, drafted}
@@ -104,7 +105,7 @@ saleLine limits n fs =
     (reading (record {
       lots = at fs 1;
       buyers = at fs 2;
-      graph = record { blocks = at fs 3; imbalance = at fs 4; totalWeight = 0; weights = []; draft = []; nets = [] };
+      graph = record { blocks = at fs 3; imbalance = at fs 4; totalWeight = 0; weights = []; draft = []; fixed = []; nets = [] };
       marks = 0;
       calls = [];
     })))
@@ -121,19 +122,35 @@ overfull h = foldTo (h .blocks) (λ b s. b || ltb (capacity h) (blockWeight h []
 unfoldable pub grown : ℕ → Book → Reading
 grown n k = cond (whole k && overfull (k .graph)) (stopped 6 n) (reading k)
 
--- one lot more, with its bales
-unfoldable pub withLot : Hypergraph → ℕ → ℕ → Hypergraph
-withLot h w b = record { blocks = h .blocks; imbalance = h .imbalance; totalWeight = h .totalWeight + w; weights = h .weights ++ (w ∷ []); draft = h .draft ++ (b ∷ []); nets = h .nets }
+-- one lot more, with its bales, its session and whether it is kept
+unfoldable pub withLot : Hypergraph → ℕ → ℕ → Bool → Hypergraph
+withLot h w b fixed = record {
+  blocks = h .blocks;
+  imbalance = h .imbalance;
+  totalWeight = h .totalWeight + w;
+  weights = h .weights ++ (w ∷ []);
+  draft = h .draft ++ (b ∷ []);
+  fixed = h .fixed ++ (one fixed ∷ []);
+  nets = h .nets;
+}
 
--- LOT,bales,session
-unfoldable pub lotLine : ℕ → Book → Fields → Reading
-lotLine n k fs =
+-- a LOT line may end in `,K` (M-104)
+unfoldable pub endsInK : List ℕ → Bool
+endsInK l = leb 2 (length l) && eqb (getD l (length l - 2) 0) 44 && eqb (getD l (length l - 1) 0) 75
+
+-- what stands before that end, or the whole line where there is none
+unfoldable pub beforeK : List ℕ → List ℕ
+beforeK l = cond (endsInK l) (take (length l - 2) l) l
+
+-- LOT,bales,session, and whether `,K` stood behind it
+unfoldable pub lotLine : ℕ → Book → Bool → Fields → Reading
+lotLine n k fixed fs =
     cond (not (isLineOf "LOT" 2 fs)) (stopped 2 n)
     (cond (not (within 1 65535 (at fs 1) && isBlock (k .graph) (at fs 2))) (stopped 3 n)
     (grown n (record {
       lots = k .lots;
       buyers = k .buyers;
-      graph = withLot (k .graph) (at fs 1) (at fs 2);
+      graph = withLot (k .graph) (at fs 1) (at fs 2) fixed;
       marks = k .marks;
       calls = [];
     })))
@@ -158,7 +175,7 @@ marking h m (f ∷ fs) = marking h (mark h m (value f)) fs
 
 -- one buyer more
 unfoldable pub withNet : Hypergraph → ℕ → List ℕ → Hypergraph
-withNet h w vs = record { blocks = h .blocks; imbalance = h .imbalance; totalWeight = h .totalWeight; weights = h .weights; draft = h .draft; nets = h .nets ++ (record { weight = w; pins = vs } ∷ []) }
+withNet h w vs = record { blocks = h .blocks; imbalance = h .imbalance; totalWeight = h .totalWeight; weights = h .weights; draft = h .draft; fixed = h .fixed; nets = h .nets ++ (record { weight = w; pins = vs } ∷ []) }
 
 -- a buyer with its marks
 unfoldable pub netRead : ℕ → Book → ℕ → Marking → Reading
@@ -212,7 +229,7 @@ unfoldable pub line : Limits → ℕ → Reading → List ℕ → Reading
 line limits n (stopped q m) l = stopped q m
 line limits n unread l = saleLine limits n (fields l)
 line limits n (reading k) l =
-    cond (ltb (vertices (k .graph)) (k .lots)) (lotLine n k (fields l))
+    cond (ltb (vertices (k .graph)) (k .lots)) (lotLine n k (endsInK l) (fields (beforeK l)))
     (cond (ltb (length (k .graph .nets)) (k .buyers)) (buyLine n k (fields l))
     (callLine n k (fields l)))
 

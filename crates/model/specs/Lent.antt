@@ -11,20 +11,21 @@ use Rattle.model.specs.Grammar.{Asked, asks, nothing, callOf}
 use Rattle.model.specs.Memory.{Tables, Memory}
 
 -- ---- lent memory
--- the lent lists that loading writes. Lots: bales, session and the lot above. Marks: as loaded, and as they stand. Buyers: first place,
+-- the lent lists that loading writes. Lots: bales, session, the lot above and whether it is kept. Marks: as loaded, and as they stand. Buyers: first place,
 -- loaded marks and present marks
 pub record Lists : Type 0 where
   pub weights : List ℕ
   pub blocks : List ℕ
   pub aboves : List ℕ
+  pub fixed : List ℕ
   pub loadedPins : List ℕ
   pub presentPins : List ℕ
   pub firsts : List ℕ
   pub loadedSizes : List ℕ
   pub presentSizes : List ℕ
 
-abbrev pub lists : List ℕ → List ℕ → List ℕ → List ℕ → List ℕ → List ℕ → List ℕ → List ℕ → Lists
-lists w d a lp pp f c pc = record { weights = w; blocks = d; aboves = a; loadedPins = lp; presentPins = pp; firsts = f; loadedSizes = c; presentSizes = pc }
+abbrev pub lists : List ℕ → List ℕ → List ℕ → List ℕ → List ℕ → List ℕ → List ℕ → List ℕ → List ℕ → Lists
+lists w d a x lp pp f c pc = record { weights = w; blocks = d; aboves = a; fixed = x; loadedPins = lp; presentPins = pp; firsts = f; loadedSizes = c; presentSizes = pc }
 
 -- the lent tables: the lists that loading writes, and counts, gains and connectivity sets
 abbrev pub lent : Lists → List ℕ → List ℤ → List ℕ → Tables
@@ -32,6 +33,7 @@ lent t counts gains visited = record {
   weights = t .weights;
   blocks = t .blocks;
   aboves = t .aboves;
+  fixed = t .fixed;
   loadedPins = t .loadedPins;
   presentPins = t .presentPins;
   firsts = t .firsts;
@@ -53,6 +55,7 @@ others loadedPins presentPins firsts loadedSizes presentSizes counts gains visit
   weights = [];
   blocks = [];
   aboves = [];
+  fixed = [];
   loadedPins = loadedPins;
   presentPins = presentPins;
   firsts = firsts;
@@ -67,14 +70,15 @@ others loadedPins presentPins firsts loadedSizes presentSizes counts gains visit
 abbrev pub netTables : List ℕ → List ℕ → List ℕ → List ℕ → List ℕ → Tables
 netTables loadedPins presentPins firsts loadedSizes presentSizes = others loadedPins presentPins firsts loadedSizes presentSizes [] [] []
 
--- lent memory whose lots are three tables, and whose other tables are t's
-abbrev pub inTables : List ℕ → List ℕ → List ℕ → List ℕ → Tables → Memory
-inTables output weights blocks aboves t = record {
+-- lent memory whose lots are four tables, and whose other tables are t's
+abbrev pub inTables : List ℕ → List ℕ → List ℕ → List ℕ → List ℕ → Tables → Memory
+inTables output weights blocks aboves fixed t = record {
   output = output;
   tables = record {
     weights = weights;
     blocks = blocks;
     aboves = aboves;
+    fixed = fixed;
     loadedPins = t .loadedPins;
     presentPins = t .presentPins;
     firsts = t .firsts;
@@ -86,9 +90,9 @@ inTables output weights blocks aboves t = record {
   };
 }
 
--- lent memory whose lots are records: each of the three fields is a table
-abbrev pub inRecords : {A : Type 0} → (bales session above : A → ℕ) → List ℕ → List A → Tables → Memory
-inRecords bales session above output lots t = inTables output (map bales lots) (map session lots) (map above lots) t
+-- lent memory whose lots are records: each of the four fields is a table
+abbrev pub inRecords : {A : Type 0} → (bales session above kept : A → ℕ) → List ℕ → List A → Tables → Memory
+inRecords bales session above kept output lots t = inTables output (map bales lots) (map session lots) (map above lots) (map kept lots) t
 
 -- ---- calls, three numbers each
 -- a call as a list, which is empty where there is none

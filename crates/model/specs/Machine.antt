@@ -5,7 +5,7 @@ use mathlib.Core.List.{List, [], _∷_}
 use lib.Dec.{eqb}
 use Rattle.laws.specs.Place.{place}
 use Rattle.model.specs.Catalogue.{Hypergraph, drafted, isVertex, isBlock}
-use Rattle.model.specs.Measure.{Contraction, onBoard, weight, metric, freed, drawn, hasRoom}
+use Rattle.model.specs.Measure.{Contraction, onBoard, weight, isFixed, metric, freed, drawn, hasRoom}
 
 -- a call line
 pub data Call : Type 0 where
@@ -71,13 +71,14 @@ module _ (h : Hypergraph) (s : State) where
   unfoldable pub doesJ : ℕ → ℕ → Step
   doesJ u v = record { state = contract u v; answer = saysJ (weight h (contract u v .stack) u) }
 
--- M: 9, 10, 12, 14
+-- M: 9, 10, 12, 20, 14
 unfoldable pub refusesM : Hypergraph → (ℕ → ℕ) → State → ℕ → ℕ → ℕ
 refusesM h ceiling s v t =
     cond (not (isVertex h v && isBlock h t)) 9
     (cond (not (onBoard (s .stack) v)) 10
     (cond (eqb (s .block v) t) 12
-    (cond (not (hasRoom h ceiling (s .stack) (s .block) v t)) 14 0)))
+    (cond (isFixed h (s .stack) v) 20
+    (cond (not (hasRoom h ceiling (s .stack) (s .block) v t)) 14 0))))
 
 -- M accepted: the weights freed and newly drawn in are those before the move
 unfoldable pub doesM : Hypergraph → State → ℕ → ℕ → Step

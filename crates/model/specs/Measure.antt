@@ -1,13 +1,13 @@
 -- Document 01, "Measure, cap and gain": representative, present pins, weights, pin counts, connectivity and gain. Rests on Catalogue. Assumes nothing.
 use Prim.Native.Nat.{ℕ, zero, suc, _+_, _-_, _*_, max}
-use mathlib.Core.Bool.{Bool, cond, _&&_}
+use mathlib.Core.Bool.{Bool, not, cond, _&&_}
 use mathlib.Core.List.{List, [], _∷_}
 use lib.Dec.{eqb, leb, ltb}
 use lib.IntN.{ℤ, pos, _-ℤ_}
 use lib.ListN.{length}
 use Rattle.laws.specs.Sum.{sumTo, countTo, foldTo}
 use Rattle.laws.specs.Fold.{sumOver, any}
-use Rattle.model.specs.Catalogue.{Net, Hypergraph, vertices, loaded}
+use Rattle.model.specs.Catalogue.{Net, Hypergraph, vertices, loaded, fixedEntry}
 
 -- contraction: a join (u,v). `gone` is v, which left the board; `into` is u, which stands for it
 pub record Contraction : Type 0 where
@@ -47,6 +47,14 @@ module _ (h : Hypergraph) (cs : List Contraction) where
   -- a board lot's bales: the loaded bales of all lots it stands for
   unfoldable pub weight : ℕ → ℕ
   weight u = sumTo (vertices h) (λ v. cond (eqb (representative cs v) u) (loaded h v) 0)
+
+  -- kept (M-104): "a joined lot is kept while any lot it stands for is"
+  unfoldable pub isFixed : ℕ → Bool
+  isFixed u = ltb 0 (countTo (vertices h) (λ v. eqb (representative cs v) u && eqb (fixedEntry h v) 1))
+
+  -- the lots that W and P, and the joining in A, do not pass over: those on the board that are not kept
+  abbrev pub mayMove : ℕ → Bool
+  mayMove v = onBoard cs v && not (isFixed v)
 
   -- two board lots share a present mark set
   unfoldable pub adjacent : ℕ → ℕ → Bool

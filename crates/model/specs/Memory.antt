@@ -10,18 +10,19 @@ use lib.ListN.{length, getD, drop, take}
 use Rattle.laws.specs.Choice.{one}
 use Rattle.laws.specs.Sum.{sumTo}
 use Rattle.laws.specs.Occurrence.{occ}
-use Rattle.model.specs.Catalogue.{Limits, Net, Hypergraph, vertices}
+use Rattle.model.specs.Catalogue.{Limits, Net, Hypergraph, vertices, fixedEntry}
 use Rattle.model.specs.Measure.{Contraction, above, onBoard, pin, size, weight, pinCount, gain}
 use Rattle.model.specs.Machine.{State, fresh}
 use Rattle.model.specs.Grammar.{Reading, unread, reading, stopped, parse}
 use Rattle.model.specs.Engine.{after, outcome}
 
--- the lent tables, each as the list of its entries. Lots: bales, session and the lot above. Marks: as loaded, and as they stand.
+-- the lent tables, each as the list of its entries. Lots: bales, session, the lot above and whether it is kept. Marks: as loaded, and as they stand.
 -- Buyers: first place (from 0), loaded marks and present marks
 pub record Tables : Type 0 where
   pub weights : List ℕ
   pub blocks : List ℕ
   pub aboves : List ℕ
+  pub fixed : List ℕ
   pub loadedPins : List ℕ
   pub presentPins : List ℕ
   pub firsts : List ℕ
@@ -47,6 +48,7 @@ longLists t =
 unfoldable pub longTables : Limits → Tables → Bool
 longTables limits t =
     leb (limits .vertexLimit) (length (t .weights)) && leb (limits .vertexLimit) (length (t .blocks)) && leb (limits .vertexLimit) (length (t .aboves))
+    && leb (limits .vertexLimit) (length (t .fixed))
     && longLists t
     && leb 16384 (length (t .counts)) && leb (16 * limits .vertexLimit) (length (t .gains)) && leb 1024 (length (t .visited))
 
@@ -118,6 +120,7 @@ pub record Holds (h : Hypergraph) (s : State) (old new : Tables) : Type 0 where
   pub weights : Column (vertices h) (weightEntry h (s .stack) (s .block)) (old .weights) (new .weights)
   pub blocks : Column (vertices h) (blockEntry h (s .stack) (s .block)) (old .blocks) (new .blocks)
   pub aboves : Column (vertices h) (above (s .stack)) (old .aboves) (new .aboves)
+  pub fixed : Column (vertices h) (fixedEntry h) (old .fixed) (new .fixed)
   pub loadedPins : Filled 0 (λ i. ltb i (length (allPins (h .nets)))) (λ i. getD (allPins (h .nets)) i 0) (old .loadedPins) (new .loadedPins)
   pub presentPins : Pins h (s .stack) (old .presentPins) (new .presentPins)
   pub firsts : Column (length (h .nets)) (firstPlace h) (old .firsts) (new .firsts)

@@ -13,7 +13,7 @@ use Rattle.laws.specs.Sum.{countTo, foldTo}
 use Rattle.laws.specs.Fold.{sumOver, any}
 use Rattle.laws.specs.Place.{place}
 use Rattle.model.specs.Catalogue.{Hypergraph, vertices, isVertex, averageWeight, capacities}
-use Rattle.model.specs.Measure.{Contraction, onBoard, pin, size, weight, blockWeight, heaviest, metric, gain, hasRoom, adjacent}
+use Rattle.model.specs.Measure.{Contraction, onBoard, mayMove, pin, size, weight, blockWeight, heaviest, metric, gain, hasRoom, adjacent}
 use Rattle.model.specs.Machine.{Call, callJ, callS, callM, callB, callW, callP, callA, saysW, saysP, saysA, Move, State, Step, settle, refusesJ, doesJ, refusesM, doesM, uncontract, doesS, doesB}
 
 -- the best pair so far: two numbers and what they are valued at
@@ -72,10 +72,6 @@ abbrev pub patience : ℕ
 patience = 25
 
 module _ (h : Hypergraph) (cs : List Contraction) where
-  -- the lots that W and P may move: those on the board
-  abbrev pub mayMove : ℕ → Bool
-  mayMove v = onBoard cs v
-
   -- a partition's worth
   abbrev pub worthOf : (ℕ → ℕ) → Worth
   worthOf block = record { total = metric h cs block; heaviest = heaviest h cs block }
@@ -160,7 +156,7 @@ module _ (h : Hypergraph) (cs : List Contraction) where
   -- A: the pair may be joined
   unfoldable pub canJoin : (ℕ → ℕ) → ℕ → ℕ → Bool
   canJoin block u v =
-      ltb u v && onBoard cs u && onBoard cs v && eqb (block u) (block v)
+      ltb u v && mayMove h cs u && mayMove h cs v && eqb (block u) (block v)
       && adjacent h cs u v
       && leb (weight h cs u + weight h cs v) (averageWeight h)
 
@@ -263,7 +259,7 @@ call h s c = callUnder h (capacities h) s c
 abbrev pub WithinCeiling : Hypergraph → (ℕ → ℕ) → State → Type 0
 WithinCeiling h ceiling s = (b : ℕ) → 1 ≤ b → b ≤ h .blocks → blockWeight h (s .stack) (s .block) b ≤ ceiling b
 
--- no single move with space lowers the total
+-- no single move with space lowers the total, of lots not kept
 abbrev pub LocallyBest : Hypergraph → (ℕ → ℕ) → State → Type 0
 LocallyBest h ceiling s =
     (v t : ℕ) → 1 ≤ v → v ≤ vertices h → mayMove h (s .stack) v ≡ true → 1 ≤ t → t ≤ h .blocks → (s .block v ≡ t → ⊥)

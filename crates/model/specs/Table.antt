@@ -1,13 +1,14 @@
 -- The starred cases of document 01, one table proved by computing, and worked cases of the requests. Rests on Search, Clump and Order. Assumes nothing.
 use Prim.Native.Nat.{ℕ}
 use mathlib.Core.Path.{_≡_, refl}
-use mathlib.Core.List.{List, [], _∷_}
+use mathlib.Core.Bool.{true, false}
+use mathlib.Core.List.{List, [], _∷_, map}
 use lib.IntN.{pos, negsuc}
 use Rattle.laws.specs.Sum.{sum, sumTo}
 use Rattle.laws.specs.Fold.{sumOver, any}
 use Rattle.laws.specs.Place.{place}
 use Rattle.model.specs.Catalogue.{Hypergraph, averageWeight, nearest, capacity, drafted}
-use Rattle.model.specs.Measure.{Contraction, above, climb, representative, pin, size, pinCount, weight, blockWeight, connectivity, metric, freed, drawn, gain, hasRoom}
+use Rattle.model.specs.Measure.{Contraction, above, climb, representative, pin, size, pinCount, weight, isFixed, mayMove, blockWeight, connectivity, metric, freed, drawn, gain, hasRoom}
 use Rattle.model.specs.Machine.{callM, fresh, settle, refusesM, doesM}
 use Rattle.model.specs.Search.{rating, callUnder, call}
 use Rattle.model.specs.Report.{refusal}
@@ -22,6 +23,7 @@ five = record {
   totalWeight = 50;
   weights = 10 ∷ 10 ∷ 10 ∷ 10 ∷ 10 ∷ [];
   draft = 1 ∷ 1 ∷ 2 ∷ 2 ∷ 1 ∷ [];
+  fixed = 0 ∷ 0 ∷ 0 ∷ 0 ∷ 0 ∷ [];
   nets = record { weight = 3; pins = 1 ∷ 3 ∷ [] } ∷ record { weight = 2; pins = 2 ∷ 5 ∷ [] } ∷ record { weight = 1; pins = 3 ∷ 4 ∷ [] } ∷ [];
 }
 
@@ -31,22 +33,22 @@ joined = record { into = 2; gone = 5 } ∷ []
 
 -- W 51, k 2, slack 100
 abbrev pub fiftyOne : Hypergraph
-fiftyOne = record { blocks = 2; imbalance = 100; totalWeight = 51; weights = 50 ∷ 1 ∷ []; draft = 1 ∷ 2 ∷ []; nets = [] }
+fiftyOne = record { blocks = 2; imbalance = 100; totalWeight = 51; weights = 50 ∷ 1 ∷ []; draft = 1 ∷ 2 ∷ []; fixed = 0 ∷ 0 ∷ []; nets = [] }
 
 -- one lot of w bales in two sessions, and a slack
 abbrev pub lotOf : ℕ → ℕ → Hypergraph
-lotOf w slack = record { blocks = 2; imbalance = slack; totalWeight = w; weights = w ∷ []; draft = 1 ∷ []; nets = [] }
+lotOf w slack = record { blocks = 2; imbalance = slack; totalWeight = w; weights = w ∷ []; draft = 1 ∷ []; fixed = 0 ∷ []; nets = [] }
 
 -- a buyer with one mark
 abbrev pub oneMark : Hypergraph
-oneMark = record { blocks = 2; imbalance = 0; totalWeight = 1; weights = 1 ∷ []; draft = 1 ∷ []; nets = record { weight = 7; pins = 1 ∷ [] } ∷ [] }
+oneMark = record { blocks = 2; imbalance = 0; totalWeight = 1; weights = 1 ∷ []; draft = 1 ∷ []; fixed = 0 ∷ []; nets = record { weight = 7; pins = 1 ∷ [] } ∷ [] }
 
 -- lot i in session i, and a buyer of weight 1,000 with a mark at each
 abbrev sixteen : List ℕ
 sixteen = 1 ∷ 2 ∷ 3 ∷ 4 ∷ 5 ∷ 6 ∷ 7 ∷ 8 ∷ 9 ∷ 10 ∷ 11 ∷ 12 ∷ 13 ∷ 14 ∷ 15 ∷ 16 ∷ []
 
 abbrev pub spread : Hypergraph
-spread = record { blocks = 16; imbalance = 0; totalWeight = 136; weights = sixteen; draft = sixteen; nets = record { weight = 1000; pins = sixteen } ∷ [] }
+spread = record { blocks = 16; imbalance = 0; totalWeight = 136; weights = sixteen; draft = sixteen; fixed = map (λ v. 0) sixteen; nets = record { weight = 1000; pins = sixteen } ∷ [] }
 
 -- the starred cases in document 01's order
 pub table :
@@ -96,6 +98,7 @@ clumped = record {
   totalWeight = 5;
   weights = 1 ∷ 1 ∷ 1 ∷ 1 ∷ 1 ∷ [];
   draft = 1 ∷ 1 ∷ 1 ∷ 2 ∷ 1 ∷ [];
+  fixed = 0 ∷ 0 ∷ 0 ∷ 0 ∷ 0 ∷ [];
   nets = record { weight = 4; pins = 1 ∷ 2 ∷ 3 ∷ [] } ∷ record { weight = 2; pins = 3 ∷ 4 ∷ [] } ∷ record { weight = 3; pins = 2 ∷ 5 ∷ [] } ∷ [];
 }
 
@@ -124,7 +127,7 @@ pub order-table :
     × AcceptedMoves five (fresh five) (callM 1 2 ∷ callM 1 1 ∷ [])
     × AcceptedMoves five (fresh five) (callM 1 2 ∷ callM 3 1 ∷ [])
     × (refusal (call five (fresh five) (callM 3 1) .answer) ≡ 14)
-unfolding sum sumTo sumOver any averageWeight nearest capacity above climb representative pin pinCount weight blockWeight connectivity metric freed drawn gain hasRoom place
+unfolding sum sumTo sumOver any averageWeight nearest capacity above climb representative pin pinCount weight isFixed blockWeight connectivity metric freed drawn gain hasRoom place
     fresh settle refusesM doesM callUnder refusal isMove AcceptedMoves
 order-table = (refl, (refl, refl, (refl, refl, tt)), (refl, refl, (refl, refl, tt)), refl)
 
@@ -132,3 +135,28 @@ order-table = (refl, (refl, refl, (refl, refl, tt)), (refl, refl, (refl, refl, t
 pub climbs : representative (record { into = 1; gone = 2 } ∷ record { into = 2; gone = 3 } ∷ []) 3 ≡ 1
 unfolding above climb representative
 climbs = refl
+
+-- ---- M-104: lots that a grower has tied to a session
+-- the worked sale with lot 5 kept
+abbrev pub fiveKept : Hypergraph
+fiveKept = record {
+  blocks = five .blocks;
+  imbalance = five .imbalance;
+  totalWeight = five .totalWeight;
+  weights = five .weights;
+  draft = five .draft;
+  fixed = 0 ∷ 0 ∷ 0 ∷ 0 ∷ 1 ∷ [];
+  nets = five .nets;
+}
+
+-- 5 is kept by itself and 2 is not; joined, 2 is kept by the 5 that it stands for, and 5, off the board, stands for none
+pub fixed-table :
+    (isFixed fiveKept [] 5 ≡ true)
+    × (isFixed fiveKept [] 2 ≡ false)
+    × (isFixed fiveKept joined 2 ≡ true)
+    × (isFixed fiveKept joined 5 ≡ false)
+    × (mayMove fiveKept [] 2 ≡ true)
+    × (mayMove fiveKept joined 2 ≡ false)
+    × (mayMove fiveKept joined 5 ≡ false)
+unfolding sum sumTo above climb representative isFixed
+fixed-table = (refl, refl, refl, refl, refl, refl, refl)

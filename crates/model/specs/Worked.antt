@@ -6,10 +6,10 @@ use Rattle.laws.specs.Sum.{sum, sumTo, foldTo}
 use Rattle.laws.specs.Fold.{sumOver, any, all}
 use Rattle.laws.specs.Place.{place}
 use Rattle.model.specs.Catalogue.{mainLimits, averageWeight, nearest, capacity}
-use Rattle.model.specs.Measure.{above, climb, representative, pin, size, weight, blockWeight, heaviest, pinCount, connectivity, metric, freed, drawn, gain, hasRoom, adjacent}
+use Rattle.model.specs.Measure.{above, climb, representative, pin, size, weight, isFixed, blockWeight, heaviest, pinCount, connectivity, metric, freed, drawn, gain, hasRoom, adjacent}
 use Rattle.model.specs.Machine.{fresh, settle, refusesJ, contract, doesJ, refusesM, doesM, uncontract, doesS, doesB}
 use Rattle.model.specs.Search.{better, consider, bestPair, reversed, isKept, canGo, isOpen, walkBest, walkMove, walkTurn, walkOn, walk, walked, polishBest, polishTurn, polishOn, polish, rating, canJoin, joinBest, boardSize, joinTurn, coarsen, refine, refusesW, doesW, doesP, refusesA, doesA, callUnder}
-use Rattle.model.specs.Grammar.{bytes, same, parts, isNumber, onward, value, fields, isLine, saleLine, overfull, grown, withLot, lotLine, mark, marking, withNet, netRead, buyLine, asked, withCall, callLine, line, ending, lines, parse}
+use Rattle.model.specs.Grammar.{bytes, same, parts, isNumber, onward, value, fields, isLine, saleLine, overfull, grown, withLot, endsInK, beforeK, lotLine, mark, marking, withNet, netRead, buyLine, asked, withCall, callLine, line, ending, lines, parse}
 use Rattle.model.specs.Report.{digitsOf, digits, tail, row, answerRow, lotRows, buyRows, closing}
 use Rattle.model.specs.Engine.{after, answers, run, outcome, engine}
 
@@ -37,5 +37,7 @@ pub sales :
     × Gives "SALE,7,7,2,700\nLOT,3,1\nLOT,3,2\nLOT,5,1\nLOT,5,2\nLOT,5,1\nLOT,5,2\nLOT,6,1\nBUY,9,1,5\nBUY,6,3,1\nBUY,6,1,7,6,4\nBUY,9,6\nBUY,8,5,7,4,6\nBUY,2,1,7\nBUY,7,2\nS\nW,4,4\nP\nJ,2,6\nW,4,3\nW,4,6\nW,7,5\nW,4,4\nS\nS\nS\nS\nS\nS\nS\nS\nA\nW,1,2\n" "NO,15\nW,6,0,14\nP,0,14\nJ,8\nW,6,0,14\nNO,10\nW,6,0,14\nW,6,0,14\nS,2,6\nNO,15\nNO,15\nNO,15\nNO,15\nNO,15\nNO,15\nNO,15\nA,3,15,8,0,6\nW,7,0,6\nTOTAL,14,6\nLOT,1,1\nLOT,2,2\nLOT,3,2\nLOT,4,1\nLOT,5,1\nLOT,6,1\nLOT,7,1\nBUY,1,1\nBUY,2,2\nBUY,3,1\nBUY,4,1\nBUY,5,1\nBUY,6,1\nBUY,7,1\n"
     -- M-105: a walk of the same total is kept if its heaviest session is lighter, and not if that is equal or heavier
     × Gives "SALE,3,0,2,1000\nLOT,10,1\nLOT,10,1\nLOT,5,1\nW,1,1\nW,3,3\nW,1,1\n" "W,1,1,0\nW,1,0,0\nW,1,0,0\nTOTAL,0,0\nLOT,1,2\nLOT,2,1\nLOT,3,1\n"
-unfolding sum sumTo foldTo sumOver any all averageWeight nearest capacity above climb representative weight blockWeight heaviest bytes same parts isNumber onward value fields isLine saleLine overfull grown withLot lotLine mark marking withNet netRead buyLine asked withCall callLine line ending lines parse pin size pinCount connectivity metric freed drawn gain hasRoom adjacent place fresh settle refusesJ contract doesJ refusesM doesM uncontract doesS doesB better consider bestPair reversed isKept canGo isOpen walkBest walkMove walkTurn walkOn walk walked polishBest polishTurn polishOn polish rating canJoin joinBest boardSize joinTurn coarsen refine refusesW doesW doesP refusesA doesA callUnder digitsOf digits tail row answerRow lotRows buyRows closing after answers run outcome engine
-sales = (refl, refl, refl, refl, refl, refl, refl, refl)
+    -- M-104: the worked sale with lot 1 kept: M on it is 20 after 12, P and A leave it, W on it moves nothing; 2 is kept while 1 is joined into it
+    × Gives "SALE,5,3,2,200\nLOT,10,1,K\nLOT,10,1\nLOT,10,2\nLOT,10,2\nLOT,10,1\nBUY,3,1,3\nBUY,2,2,5\nBUY,1,3,4\nM,1,1\nM,1,2\nP\nW,1,1\nJ,2,1\nM,2,1\nM,2,2\nS\nM,2,2\nM,1,2\nB\nA\n" "NO,12\nNO,20\nP,0,3\nW,0,0,3\nJ,20\nNO,12\nNO,20\nS,2,1\nM,0,2,5\nNO,20\nB,2,1,3\nA,1,1,0,0,3\nTOTAL,3,3\nLOT,1,1\nLOT,2,1\nLOT,3,2\nLOT,4,2\nLOT,5,1\nBUY,1,2\nBUY,2,1\nBUY,3,1\n"
+unfolding sum sumTo foldTo sumOver any all averageWeight nearest capacity above climb representative weight isFixed blockWeight heaviest bytes same parts isNumber onward value fields isLine saleLine overfull grown withLot endsInK beforeK lotLine mark marking withNet netRead buyLine asked withCall callLine line ending lines parse pin size pinCount connectivity metric freed drawn gain hasRoom adjacent place fresh settle refusesJ contract doesJ refusesM doesM uncontract doesS doesB better consider bestPair reversed isKept canGo isOpen walkBest walkMove walkTurn walkOn walk walked polishBest polishTurn polishOn polish rating canJoin joinBest boardSize joinTurn coarsen refine refusesW doesW doesP refusesA doesA callUnder digitsOf digits tail row answerRow lotRows buyRows closing after answers run outcome engine
+sales = (refl, refl, refl, refl, refl, refl, refl, refl, refl)
