@@ -7,23 +7,24 @@ use mathlib.Core.Path.{_≡_, refl, sym, ap, _∙_, subst}
 use mathlib.Core.Logic.{_⊎_, inl, inr}
 use mathlib.Core.Bool.{Bool, true, false, not, _&&_, cond}
 use mathlib.Core.List.{List, [], _∷_}
-use borrow.Author.Tests.{eq-eqb, ne-eqb, eqb-true, eqb-false, ltb-true, le-ltb, not-false}
+use borrow.Author.Tests.{eq-eqb, ne-eqb, eqb-true, eqb-false, ltb-true, le-ltb, not-true, not-false}
 use lib.Dec.{eqb, ltb}
 use lib.IntN.{pos}
 use Rattle.laws.specs.Choice.{one, and-left, and-right, cond-zero}
 use Rattle.laws.specs.Sum.{sumTo-change, countTo-le}
 use Rattle.model.specs.Catalogue.{Hypergraph, vertices, drafted, isVertex, isBlock, capacities}
-use Rattle.model.specs.Measure.{Contraction, above, onBoard, blockWeight, metric}
+use Rattle.model.specs.Measure.{Contraction, above, onBoard, mayMove, isFixed, blockWeight, metric}
 use Rattle.model.specs.Machine.{Call, callJ, callS, callM, callB, callW, callP, callA, Move, State, Step, fresh, settle, refusesJ, contract, doesJ, refusesM, doesM, uncontract, doesS, doesB}
 use Rattle.model.specs.Search.{Best, none, best, Coarse, Fine, rating, canJoin, joinBest, joinTurn, boardSize, coarsen, refine, refusesW, doesW, doesP, refusesA, doesA, callUnder, call}
 use Rattle.model.specs.Engine.{after}
 use Rattle.guarantees.specs.Climbs.{Joins, Sound, above-gone, above-other}
+use Rattle.guarantees.specs.Fixed.{Free}
 use Rattle.guarantees.specs.Joins.{metric-join}
 use Rattle.guarantees.specs.Weights.{blockWeight-join}
 pub use Rattle.guarantees.specs.Reading.{vertex-range, block-range}
 pub use Rattle.guarantees.specs.Splits.{Inside, AllInside, placed-join, into-on, placed-split, metric-split}
 use Rattle.guarantees.specs.Tops.{Top, best-top}
-use Rattle.guarantees.specs.Ends.{Placed, placed-move, Polished, polish-ends}
+use Rattle.guarantees.specs.Ends.{Placed, may-on, placed-move, Polished, polish-ends}
 use Rattle.guarantees.specs.Walks.{walked-metric}
 
 module _ (h : Hypergraph) where
@@ -45,6 +46,7 @@ module _ (h : Hypergraph) where
     pub placed : Placed h (c .stack) (c .block)
     pub same : metric h (c .stack) (c .block) ≡ metric h [] p
     pub same-weights : (b : ℕ) → blockWeight h (c .stack) (c .block) b ≡ blockWeight h [] p b
+    pub free : Free h (c .stack)
 
   -- what a pair that A may contract is
   pub can-join : (cs : List Contraction) (p : ℕ → ℕ) (u v : ℕ) → 1 ≤ u → canJoin h cs p u v ≡ true → Joins cs (record { into = u; gone = v }) × (p u ≡ p v)
@@ -55,11 +57,21 @@ module _ (h : Hypergraph) where
       let q2 = and-left _ _ q3 in (
         record {
           real = l;
-          into-on = eqb-true (above cs u) 0 (and-right (ltb u v) _ q2);
-          gone-on = eqb-true (above cs v) 0 (and-right (ltb u v && onBoard cs u) _ q3);
+          into-on = may-on h cs u (and-right (ltb u v) _ q2);
+          gone-on = may-on h cs v (and-right (ltb u v && mayMove h cs u) _ q3);
           two = λ r. omega (arith, ltb-true u v (and-left _ _ q2));
         },
-        eqb-true (p u) (p v) (and-right (ltb u v && onBoard cs u && onBoard cs v) _ q4),
+        eqb-true (p u) (p v) (and-right (ltb u v && mayMove h cs u && mayMove h cs v) _ q4),
+      )
+
+  -- neither of the two is fixed
+  pub can-free : (cs : List Contraction) (p : ℕ → ℕ) (u v : ℕ) → canJoin h cs p u v ≡ true → (isFixed h cs u ≡ false) × (isFixed h cs v ≡ false)
+  unfolding canJoin
+  can-free cs p u v q =
+      let q3 = and-left _ _ (and-left _ _ (and-left _ _ q)) in
+      let q2 = and-left _ _ q3 in (
+        not-true _ (and-right (onBoard cs u) _ (and-right (ltb u v) _ q2)),
+        not-true _ (and-right (onBoard cs v) _ (and-right (ltb u v && mayMove h cs u) _ q3)),
       )
 
   join-turn : (p : ℕ → ℕ) (c : Coarse) (on : Coarse → Coarse) → Coarsened p c → ((c′ : Coarse) → Coarsened p c′ → Coarsened p (on c′))
@@ -75,6 +87,7 @@ module _ (h : Hypergraph) where
         placed = placed-join h (c .stack) (record { into = u; gone = v }) (c .block) (j .0) (k .placed);
         same = metric-join h (c .stack) (record { into = u; gone = v }) (j .0, k .sound) (c .block) (r .0) (r .1) (r .2) (r .3) (j .1) ∙ k .same;
         same-weights = λ b. blockWeight-join h (c .stack) (record { into = u; gone = v }) (j .0, k .sound) (c .block) (r .0) (r .1) (r .2) (r .3) (j .1) b ∙ k .same-weights b;
+        free = (can-free (c .stack) (c .block) u v (top .open-pair) .1, k .free);
       })
 
   pub coarsened : (n : ℕ) (p : ℕ → ℕ) (c : Coarse) → Coarsened p c → Coarsened p (coarsen h n c)
@@ -156,7 +169,7 @@ module _ (h : Hypergraph) where
     pub solves : (s : State) → Placed h [] (s .block) → Polished h ceiling [] (s .block) (doesA h ceiling s .state .block)
     unfolding doesA
     solves s ok =
-        let k = coarsened (vertices h) (s .block) (record { stack = []; block = s .block }) (record { sound = tt; inside = tt; placed = ok; same = refl; same-weights = λ b. refl }) in
+        let k = coarsened (vertices h) (s .block) (record { stack = []; block = s .block }) (record { sound = tt; inside = tt; placed = ok; same = refl; same-weights = λ b. refl; free = tt }) in
         let f = refined _ _ (k .sound) (k .inside) (k .placed) in
         let e = polish-ends h ceiling [] _ (f .0) in
         record { placed = e .placed; lower = omega (arith, e .lower, f .1, k .same); stuck = e .stuck }

@@ -15,8 +15,8 @@ use lib.Signed.{ltZ}
 use Rattle.laws.specs.Place.{place, place-back}
 use Rattle.laws.specs.Choice.{and-left, and-right, cond-zero}
 use Rattle.model.specs.Catalogue.{Hypergraph, vertices, isVertex, isBlock, capacities}
-use Rattle.model.specs.Measure.{Contraction, above, onBoard, weight, blockWeight, gain, metric, hasRoom}
-use Rattle.model.specs.Search.{Best, none, best, Walk, Polish, worthOf, mayMove, canGo, isOpen, walkBest, walkMove, walkTurn, walkOn, walk, walked, polishBest, polishTurn, polishOn, polish, Fine, refine, refusesW, doesW, doesP, refusesA, doesA, callUnder, call, patience}
+use Rattle.model.specs.Measure.{Contraction, above, onBoard, mayMove, isFixed, weight, blockWeight, gain, metric, hasRoom}
+use Rattle.model.specs.Search.{Best, none, best, Walk, Polish, worthOf, canGo, isOpen, walkBest, walkMove, walkTurn, walkOn, walk, walked, polishBest, polishTurn, polishOn, polish, Fine, refine, refusesW, doesW, doesP, refusesA, doesA, callUnder, call, patience}
 use Rattle.model.specs.Machine.{Call, callJ, callS, callM, callB, callW, callP, callA, Move, State, Step, settle, refusesJ, contract, doesJ, refusesM, doesM, uncontract, doesS, doesB}
 use Rattle.model.specs.Engine.{after as afterCalls}
 use Rattle.guarantees.specs.Tops.{Top, best-top}
@@ -148,7 +148,7 @@ module _ (h : Hypergraph) (ceiling : ℕ → ℕ) where
   capped-A : (s : State) → Placed h [] (s .block) → Capped h ceiling [] (s .block) → Capped h ceiling [] (doesA h ceiling s .state .block)
   unfolding doesA
   capped-A s placed ok =
-      let k = coarsened h (vertices h) (s .block) (record { stack = []; block = s .block }) (record { sound = tt; inside = tt; placed = placed; same = refl; same-weights = λ b. refl }) in
+      let k = coarsened h (vertices h) (s .block) (record { stack = []; block = s .block }) (record { sound = tt; inside = tt; placed = placed; same = refl; same-weights = λ b. refl; free = tt }) in
       polished-keeps h ceiling [] (Capped h ceiling []) (capped-go h ceiling []) _ (capped-refine _ _ (k .sound) (k .inside) (k .placed) (λ b l u. omega (arith, k .same-weights b, ok b l u)))
 
   -- ---- the states that calls reach: no block above its ceiling, and none after any reversals either
@@ -189,7 +189,8 @@ module _ (h : Hypergraph) (ceiling : ℕ → ℕ) where
       let a = cond-zero (not (isVertex h v && isBlock h t)) 9 _ (omega arith) q in
       let b = cond-zero (not (onBoard (s .stack) v)) 10 _ (omega arith) (a .1) in
       let c = cond-zero (eqb (s .block v) t) 12 _ (omega arith) (b .1) in
-      let d = cond-zero (not (hasRoom h ceiling (s .stack) (s .block) v t)) 14 0 (omega arith) (c .1) in
+      let x = cond-zero (isFixed h (s .stack) v) 20 _ (omega arith) (c .1) in
+      let d = cond-zero (not (hasRoom h ceiling (s .stack) (s .block) v t)) 14 0 (omega arith) (x .1) in
       let r = not-false _ (a .0) in
       let rv = vertex-range h v (and-left _ _ r) in
       let rt = block-range h t (and-right (isVertex h v) _ r) in

@@ -14,8 +14,8 @@ use Rattle.laws.specs.Choice.{and-left, and-right}
 use Rattle.laws.specs.Integer.{up, dn, le-by, pos-is, sub-is, lt-parts, ≤ℤ-trans}
 use Rattle.laws.specs.Place.{place, place-at, place-off}
 use Rattle.model.specs.Catalogue.{Hypergraph, vertices}
-use Rattle.model.specs.Measure.{Contraction, above, metric, gain}
-use Rattle.model.specs.Search.{Best, none, best, Polish, mayMove, canGo, polishBest, polishTurn, polishOn, polish}
+use Rattle.model.specs.Measure.{Contraction, above, mayMove, metric, gain}
+use Rattle.model.specs.Search.{Best, none, best, Polish, canGo, polishBest, polishTurn, polishOn, polish}
 use Rattle.guarantees.specs.Moves.{metric-gain}
 use Rattle.guarantees.specs.Tops.{Top, best-top}
 
@@ -30,7 +30,7 @@ module _ (h : Hypergraph) (cs : List Contraction) where
 
   -- a vertex that may move is on the board
   pub may-on : (v : ℕ) → mayMove h cs v ≡ true → above cs v ≡ 0
-  may-on v q = eqb-true (above cs v) 0 q
+  may-on v q = eqb-true (above cs v) 0 (and-left _ _ q)
 
   abbrev pub Pair : ℕ → ℕ → Type 0
   Pair v t = (1 ≤ v) × (v ≤ vertices h) × (1 ≤ t) × (t ≤ h .blocks)

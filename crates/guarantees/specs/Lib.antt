@@ -24,6 +24,7 @@
 pub mod Moves
 pub mod Commutes
 pub mod Climbs
+pub mod Fixed
 pub mod Joins
 pub mod Weights
 pub mod Splits

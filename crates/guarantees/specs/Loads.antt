@@ -13,7 +13,7 @@ use lib.ListN.{length, length-append}
 use Rattle.laws.specs.Fold.{sumOver, sumOver-more, All, all-map, all-more, all-get}
 use Rattle.laws.specs.Occurrence.{Distinct}
 use Rattle.laws.specs.Sum.{foldTo}
-use Rattle.laws.specs.Choice.{and-left, and-right, or-none}
+use Rattle.laws.specs.Choice.{one, one-le, and-left, and-right, or-none}
 use Rattle.model.specs.Catalogue.{Limits, Hypergraph, vertices, drafted, capacity, capacities}
 use Rattle.model.specs.Measure.{blockWeight}
 use Rattle.model.specs.Machine.{Call, fresh}
@@ -28,6 +28,8 @@ pub record Loaded (limits : Limits) (h : Hypergraph) : Type 0 where
   pub blocks-high : h .blocks ≤ limits .blockLimit
   pub draft-in : All (h .draft) (λ b. (1 ≤ b) × (b ≤ h .blocks))
   pub as-long : length (h .draft) ≡ length (h .weights)
+  pub fixed-long : length (h .fixed) ≡ length (h .weights)
+  pub fixed-in : All (h .fixed) (λ x. x ≤ 1)
   pub total-is : h .totalWeight ≡ sumOver (h .weights) (λ w. w)
   pub nets-in : All (h .nets) (Within (vertices h))
   pub nets-distinct : All (h .nets) (λ e. Distinct (e .pins) 0 (length (e .pins)))
@@ -57,14 +59,14 @@ module _ (limits : Limits) where
   read-first : (n m k s : ℕ) → 1 ≤ n → n ≤ limits .vertexLimit → m ≤ 1024 → 2 ≤ k → k ≤ limits .blockLimit → s ≤ 1000 → Read (blank n m k s)
   unfolding sumOver
   read-first n m k s nl nu mu kl ku su = record {
-    loads = record { blocks-low = kl; blocks-high = ku; draft-in = tt; as-long = refl; total-is = refl; nets-in = tt; nets-distinct = tt; nets-some = tt; weights-in = tt; net-weights = tt; imbalance-high = su };
+    loads = record { blocks-low = kl; blocks-high = ku; draft-in = tt; as-long = refl; fixed-long = refl; fixed-in = tt; total-is = refl; nets-in = tt; nets-distinct = tt; nets-some = tt; weights-in = tt; net-weights = tt; imbalance-high = su };
     even = λ w. absurd (omega (arith, eqb-true 0 n (and-left _ _ w)));
     sized = record { lots-low = nl; lots-high = nu; buyers-high = mu; lots-le = omega arith; nets-le = omega arith; marks-are = refl; marks-high = omega arith; calls-high = omega arith };
   }
 
-  read-vertex : (k : Book) (w b : ℕ) → Read k → vertices (k .graph) < k .lots → 1 ≤ w → w ≤ 65535 → 1 ≤ b → b ≤ k .graph .blocks → Even (lotted k w b) → Read (lotted k w b)
+  read-vertex : (k : Book) (w b : ℕ) (fixed : Bool) → Read k → vertices (k .graph) < k .lots → 1 ≤ w → w ≤ 65535 → 1 ≤ b → b ≤ k .graph .blocks → Even (lotted k w b fixed) → Read (lotted k w b fixed)
   unfolding withLot
-  read-vertex k w b r l wl wu bl bu e =
+  read-vertex k w b fixed r l wl wu bl bu e =
       let g = r .loads in
       let z = r .sized in
       let h = k .graph in
@@ -75,6 +77,8 @@ module _ (limits : Limits) where
           blocks-high = g .blocks-high;
           draft-in = all-more (h .draft) _ b (g .draft-in) (bl, bu);
           as-long = length-append (h .draft) (b ∷ []) ∙ ap (λ (n : ℕ). n + 1) (g .as-long) ∙ sym longer;
+          fixed-long = length-append (h .fixed) (one fixed ∷ []) ∙ ap (λ (n : ℕ). n + 1) (g .fixed-long) ∙ sym longer;
+          fixed-in = all-more (h .fixed) _ (one fixed) (g .fixed-in) (one-le fixed);
           total-is = ap (λ (n : ℕ). n + w) (g .total-is) ∙ sym (sumOver-more (h .weights) w (λ x. x));
           nets-in = all-map (h .nets) _ _ (λ e. all-map (e .pins) _ _ (λ x r. (r .0, omega (arith, r .1, longer)))) (g .nets-in);
           nets-distinct = g .nets-distinct;
@@ -100,6 +104,8 @@ module _ (limits : Limits) where
           blocks-high = g .blocks-high;
           draft-in = g .draft-in;
           as-long = g .as-long;
+          fixed-long = g .fixed-long;
+          fixed-in = g .fixed-in;
           total-is = g .total-is;
           nets-in = all-more ns _ _ (g .nets-in) (a .in-range);
           nets-distinct = all-more ns _ _ (g .nets-distinct) (a .distinct);

@@ -10,9 +10,9 @@ use lib.IntN.{pos}
 use Rattle.laws.specs.Integer.{up, dn, pos-is, sub-is, le-parts}
 use Rattle.laws.specs.Place.{place}
 use Rattle.model.specs.Catalogue.{Hypergraph, vertices}
-use Rattle.model.specs.Measure.{Contraction, metric, gain, hasRoom}
+use Rattle.model.specs.Measure.{Contraction, mayMove, metric, gain, hasRoom}
 use Rattle.model.specs.Machine.{callA, State, Step, settle}
-use Rattle.model.specs.Search.{mayMove, canGo, doesP, refusesA, doesA, callUnder, LocallyBest}
+use Rattle.model.specs.Search.{canGo, doesP, refusesA, doesA, callUnder, LocallyBest}
 use Rattle.model.specs.Report.{refusal}
 use Rattle.guarantees.specs.Ends.{Placed, Polished, metric-open, polish-ends}
 use Rattle.guarantees.specs.Calls.{Legal, solves}

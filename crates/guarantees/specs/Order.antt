@@ -130,6 +130,7 @@ holds-as {h} {s} {s′} {old} {t} e f x =
       weights = y .weights;
       blocks = y .blocks;
       aboves = y .aboves;
+      fixed = y .fixed;
       loadedPins = y .loadedPins;
       presentPins = y .presentPins;
       firsts = y .firsts;
@@ -147,7 +148,8 @@ filled-same {none = none} {new = new} {new′ = new′} f g = ext-getD none new�
 net-lengths : (limits : Limits) (t : Tables) → longTables limits t ≡ true → (1024 ≤ length (t .firsts)) × (1024 ≤ length (t .presentSizes))
 unfolding longTables longLists
 net-lengths limits t q =
-    let lots : Bool = leb (limits .vertexLimit) (length (t .weights)) && leb (limits .vertexLimit) (length (t .blocks)) && leb (limits .vertexLimit) (length (t .aboves)) in
+    let lots : Bool = leb (limits .vertexLimit) (length (t .weights)) && leb (limits .vertexLimit) (length (t .blocks)) && leb (limits .vertexLimit) (length (t .aboves))
+        && leb (limits .vertexLimit) (length (t .fixed)) in
     let counts : Bool = leb 16384 (length (t .counts)) in
     let gains : Bool = leb (16 * limits .vertexLimit) (length (t .gains)) in
     let pins : Bool = leb 8192 (length (t .loadedPins)) && leb 8192 (length (t .presentPins)) in
@@ -163,6 +165,7 @@ same-tables limits h s old t t′ long few x y = record {
   weights = filled-same (x .weights) (y .weights);
   blocks = filled-same (x .blocks) (y .blocks);
   aboves = filled-same (x .aboves) (y .aboves);
+  fixed = filled-same (x .fixed) (y .fixed);
   loadedPins = filled-same (x .loadedPins) (y .loadedPins);
   presentPins = record {
     as-long = y .presentPins .as-long ∙ sym (x .presentPins .as-long);

@@ -13,7 +13,7 @@ use Rattle.laws.specs.Occurrence.{Distinct, distinct-more}
 use Rattle.laws.specs.Choice.{and-left, and-right}
 use Rattle.model.specs.Catalogue.{Limits, Hypergraph, vertices, isVertex, isBlock}
 use Rattle.model.specs.Machine.{Call}
-use Rattle.model.specs.Grammar.{Fields, at, fields, isLineOf, isLine, within, Book, Reading, unread, reading, stopped, whole, full, overfull, saleLine, grown, withLot, lotLine, Marking, marked, wrong, mark, marking, withNet, netRead, buyLine, Asked, asks, nothing, asked, withCall, callLine, line, ending, lines, parse, onto, parts, value}
+use Rattle.model.specs.Grammar.{Fields, at, fields, isLineOf, isLine, within, Book, Reading, unread, reading, stopped, whole, full, overfull, saleLine, grown, withLot, endsInK, beforeK, lotLine, Marking, marked, wrong, mark, marking, withNet, netRead, buyLine, Asked, asks, nothing, asked, withCall, callLine, line, ending, lines, parse, onto, parts, value}
 
 -- ---- ranges
 pub vertex-range : (h : Hypergraph) (v : ℕ) → isVertex h v ≡ true → (1 ≤ v) × (v ≤ vertices h)
@@ -74,10 +74,10 @@ module _ (h : Hypergraph) (before : ℕ) where
 
 -- ---- the book after one line more
 abbrev pub blank : ℕ → ℕ → ℕ → ℕ → Book
-blank n m k s = record { lots = n; buyers = m; graph = record { blocks = k; imbalance = s; totalWeight = 0; weights = []; draft = []; nets = [] }; marks = 0; calls = [] }
+blank n m k s = record { lots = n; buyers = m; graph = record { blocks = k; imbalance = s; totalWeight = 0; weights = []; draft = []; fixed = []; nets = [] }; marks = 0; calls = [] }
 
-abbrev pub lotted : Book → ℕ → ℕ → Book
-lotted k w b = record { lots = k .lots; buyers = k .buyers; graph = withLot (k .graph) w b; marks = k .marks; calls = [] }
+abbrev pub lotted : Book → ℕ → ℕ → Bool → Book
+lotted k w b fixed = record { lots = k .lots; buyers = k .buyers; graph = withLot (k .graph) w b fixed; marks = k .marks; calls = [] }
 
 abbrev pub netted : Book → ℕ → List ℕ → ℕ → Book
 netted k w vs m = record { lots = k .lots; buyers = k .buyers; graph = withNet (k .graph) w vs; marks = m; calls = [] }
@@ -92,7 +92,7 @@ Even k = whole k ≡ true → overfull (k .graph) ≡ false
 -- what a fact about books must be kept by
 pub record Kept (limits : Limits) (P : Book → Type 0) : Type 0 where
   pub first : (n m k s : ℕ) → 1 ≤ n → n ≤ limits .vertexLimit → m ≤ 1024 → 2 ≤ k → k ≤ limits .blockLimit → s ≤ 1000 → P (blank n m k s)
-  pub vertex : (k : Book) (w b : ℕ) → P k → vertices (k .graph) < k .lots → 1 ≤ w → w ≤ 65535 → 1 ≤ b → b ≤ k .graph .blocks → Even (lotted k w b) → P (lotted k w b)
+  pub vertex : (k : Book) (w b : ℕ) (fixed : Bool) → P k → vertices (k .graph) < k .lots → 1 ≤ w → w ≤ 65535 → 1 ≤ b → b ≤ k .graph .blocks → Even (lotted k w b fixed) → P (lotted k w b fixed)
   pub net : (k : Book) (w : ℕ) (vs : List ℕ) (m : ℕ) → P k → length (k .graph .nets) < k .buyers → 1 ≤ w → w ≤ 1000 → 1 ≤ length vs → Marks (k .graph) (k .marks) vs m → Even (netted k w vs m) → P (netted k w vs m)
   pub asking : (k : Book) (c : Call) → P k → k .lots ≤ vertices (k .graph) → k .buyers ≤ length (k .graph .nets) → full k ≡ false → P (called k c)
 
@@ -144,12 +144,12 @@ module _ (limits : Limits) (P : Book → Type 0) (keeps : Kept limits P) where
           let s = within-range 0 1000 (at fs 4) (and-right (within 1 (limits .vertexLimit) (at fs 1) && within 0 1024 (at fs 2) && within 2 (limits .blockLimit) (at fs 3)) _ q4) in
           good-reading _ (keeps .first (at fs 1) (at fs 2) (at fs 3) (at fs 4) (n .0) (n .1) (m .1) (k .0) (k .1) (s .1))
 
-  good-lot : (n : ℕ) (k : Book) (fs : Fields) → P k → ltb (vertices (k .graph)) (k .lots) ≡ true → Good (lotLine n k fs)
+  good-lot : (n : ℕ) (k : Book) (fixed : Bool) (fs : Fields) → P k → ltb (vertices (k .graph)) (k .lots) ≡ true → Good (lotLine n k fixed fs)
   unfolding lotLine
-  good-lot n k fs g t = good-or (not (isLineOf "LOT" 2 fs)) 2 n _ (λ _. good-or (not (within 1 65535 (at fs 1) && isBlock (k .graph) (at fs 2))) 3 n _ (λ q.
+  good-lot n k fixed fs g t = good-or (not (isLineOf "LOT" 2 fs)) 2 n _ (λ _. good-or (not (within 1 65535 (at fs 1) && isBlock (k .graph) (at fs 2))) 3 n _ (λ q.
       let w = within-range 1 65535 (at fs 1) (and-left _ _ (not-false _ q)) in
       let b = block-range (k .graph) (at fs 2) (and-right (within 1 65535 (at fs 1)) _ (not-false _ q)) in
-      good-grown n (lotted k (at fs 1) (at fs 2)) (keeps .vertex k (at fs 1) (at fs 2) g (ltb-true _ _ t) (w .0) (w .1) (b .0) (b .1))))
+      good-grown n (lotted k (at fs 1) (at fs 2) fixed) (keeps .vertex k (at fs 1) (at fs 2) fixed g (ltb-true _ _ t) (w .0) (w .1) (b .0) (b .1))))
 
   good-net-read : (n : ℕ) (k : Book) (w i : ℕ) (m : Marking) → P k → ltb (length (k .graph .nets)) (k .buyers) ≡ true → 1 ≤ w → w ≤ 1000 → 1 ≤ i → Marked (k .graph) (k .marks) i m → Good (netRead n k w m)
   unfolding netRead
@@ -177,7 +177,7 @@ module _ (limits : Limits) (P : Book → Type 0) (keeps : Kept limits P) where
   good-line n (stopped q m) l g = good-stopped q m
   good-line n unread l g = good-sale n (fields l)
   good-line n (reading k) l g =
-      good-if (ltb (vertices (k .graph)) (k .lots)) _ _ (good-lot n k (fields l) (read-good k g))
+      good-if (ltb (vertices (k .graph)) (k .lots)) _ _ (good-lot n k (endsInK l) (fields (beforeK l)) (read-good k g))
       (λ lots. good-if (ltb (length (k .graph .nets)) (k .buyers)) _ _ (good-buy n k (fields l) (read-good k g))
       (λ nets. good-or (full k) 7 n _ (λ room. good-asked n k (asked (fields l)) (λ c. keeps .asking k c (read-good k g) (ltb-false _ _ lots) (ltb-false _ _ nets) room))))
 

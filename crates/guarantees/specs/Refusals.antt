@@ -10,7 +10,7 @@ use lib.Dec.{eqb, leb, ltb}
 use lib.ListN.{length, drop}
 use Rattle.laws.specs.Fold.{sumOver, any}
 use Rattle.model.specs.Catalogue.{Limits, Hypergraph, vertices, isVertex, isBlock}
-use Rattle.model.specs.Grammar.{Fields, at, fields, isLineOf, isLine, within, bytes, Book, Reading, unread, reading, stopped, whole, full, overfull, saleLine, grown, lotLine, Marking, marked, wrong, mark, marking, netRead, buyLine, Asked, asks, nothing, asked, withCall, callLine, line, ending, lines, parse, onto, parts, value}
+use Rattle.model.specs.Grammar.{Fields, at, fields, isLineOf, isLine, within, bytes, Book, Reading, unread, reading, stopped, whole, full, overfull, saleLine, grown, endsInK, beforeK, lotLine, Marking, marked, wrong, mark, marking, netRead, buyLine, Asked, asks, nothing, asked, withCall, callLine, line, ending, lines, parse, onto, parts, value}
 use Rattle.model.specs.Report.{digits, row}
 use Rattle.model.specs.Engine.{outcome, engine}
 use Rattle.guarantees.specs.Numbers.{digits-le}
@@ -63,9 +63,9 @@ module _ (limits : Limits) (n : ℕ) where
   unfolding saleLine
   stops-sale fs = or-2 (not (isLineOf "SALE" 4 fs)) _ (or-3 (not (within 1 (limits .vertexLimit) (at fs 1) && within 0 1024 (at fs 2) && within 2 (limits .blockLimit) (at fs 3) && within 0 1000 (at fs 4))) _ (stops-not n _))
 
-  stops-lot : (k : Book) (fs : Fields) → Stops n (lotLine n k fs)
+  stops-lot : (k : Book) (fixed : Bool) (fs : Fields) → Stops n (lotLine n k fixed fs)
   unfolding lotLine
-  stops-lot k fs = or-2 (not (isLineOf "LOT" 2 fs)) _ (or-3 (not (within 1 65535 (at fs 1) && isBlock (k .graph) (at fs 2))) _ (stops-grown _))
+  stops-lot k fixed fs = or-2 (not (isLineOf "LOT" 2 fs)) _ (or-3 (not (within 1 65535 (at fs 1) && isBlock (k .graph) (at fs 2))) _ (stops-grown _))
 
   -- a mark is refused by 3, 4 or 5
   abbrev Wrong : Marking → Type 0
@@ -112,7 +112,7 @@ module _ (limits : Limits) (n : ℕ) where
   stops-line (stopped q m) l s = s
   stops-line unread l s = stops-sale (fields l)
   stops-line (reading k) l s =
-      stops-if n (ltb (vertices (k .graph)) (k .lots)) _ _ (stops-lot k (fields l))
+      stops-if n (ltb (vertices (k .graph)) (k .lots)) _ _ (stops-lot k (endsInK l) (fields (beforeK l)))
       (stops-if n (ltb (length (k .graph .nets)) (k .buyers)) _ _ (stops-buy k (fields l)) (or-7 (full k) _ (stops-asked k (asked (fields l)))))
 
   stops-ending : (r : Reading) (l : List ℕ) → Stops n r → Stops n (ending n r l)

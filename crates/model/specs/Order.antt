@@ -32,6 +32,7 @@ pub record SameTables (h : Hypergraph) (t t′ : Tables) : Type 0 where
   pub weights : t′ .weights ≡ t .weights
   pub blocks : t′ .blocks ≡ t .blocks
   pub aboves : t′ .aboves ≡ t .aboves
+  pub fixed : t′ .fixed ≡ t .fixed
   pub loadedPins : t′ .loadedPins ≡ t .loadedPins
   pub presentPins : SamePins h t t′
   pub firsts : t′ .firsts ≡ t .firsts
