@@ -10,8 +10,8 @@ use lib.IntN.{ℤ}
 use Rattle.laws.specs.Choice.{and-left, and-right}
 use Rattle.laws.specs.Fold.{any}
 use Rattle.model.specs.Catalogue.{Hypergraph, vertices}
-use Rattle.model.specs.Measure.{Contraction, weight, blockWeight, gain, hasRoom}
-use Rattle.model.specs.Search.{bestPair, Walk, mayMove, canGo, isOpen, walkBest, polishBest}
+use Rattle.model.specs.Measure.{Contraction, weight, blockWeight, gain, hasRoom, mayMove}
+use Rattle.model.specs.Search.{bestPair, Walk, canGo, isOpen, walkBest, polishBest}
 use Rattle.guarantees.specs.Tops.{bestPair-ext}
 use Rattle.best_move.specs.Open.{gainIn, mayGo, isCandidate, openIn}
 

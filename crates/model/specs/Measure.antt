@@ -23,7 +23,7 @@ above (c ∷ cs) v = cond (eqb (c .gone) v) (c .into) (above cs v)
 abbrev pub onBoard : List Contraction → ℕ → Bool
 onBoard cs v = eqb (above cs v) 0
 
--- stand, by a climb of at most `edit_calls` joins
+-- stand, by a climb of at most `steps` joins
 unfoldable pub climb : ℕ → List Contraction → ℕ → ℕ
 climb zero cs v = v
 climb (suc steps) cs v =

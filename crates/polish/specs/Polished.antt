@@ -13,8 +13,8 @@ use lib.ListN.{length, getD, replicate, length-replicate}
 use lib.Signed.{ltZ}
 use Rattle.laws.specs.Place.{place}
 use Rattle.model.specs.Catalogue.{Hypergraph}
-use Rattle.model.specs.Measure.{Contraction, above, onBoard}
-use Rattle.model.specs.Search.{Best, none, best, Polish, polishBest, polishTurn, polishOn, polish, mayMove}
+use Rattle.model.specs.Measure.{Contraction, above, onBoard, mayMove}
+use Rattle.model.specs.Search.{Best, none, best, Polish, polishBest, polishTurn, polishOn, polish}
 use Rattle.guarantees.specs.Caps.{CeilingIs}
 use Rattle.guarantees.specs.Ends.{may-on}
 use Rattle.operations.specs.Tables.{Tables, Sound, Keeps}

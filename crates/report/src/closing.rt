@@ -41,7 +41,7 @@ fn join_place(gone: &[u16; 1024], depth: usize, v: usize) -> usize
     depth
 }
 
-// The vertex that stands for `v`, by a climb of at most `edit_calls` contractions.
+// The vertex that stands for `v`, by a climb of at most `steps` contractions.
 fn representative(aboves: &[u16], v: usize, steps: usize) -> usize
     requires { ⌜ Climbable (now aboves) v ⌝ }
     ensures { λ r. ⌜ ((cs : List Contraction) (n : ℕ) → Aboves cs n (now (aboves .entry)) → v ≤ n → r ≡ climb steps cs v) ⌝ }

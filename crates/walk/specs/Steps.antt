@@ -9,8 +9,8 @@ use lib.IntN.{ℤ}
 use lib.ListN.{length, getD}
 use Rattle.laws.specs.Place.{place}
 use Rattle.model.specs.Catalogue.{Hypergraph}
-use Rattle.model.specs.Measure.{Contraction}
-use Rattle.model.specs.Search.{Best, none, Worth, Walk, worthOf, bestPair, walkMove, walkOn, walk, walked, patience, mayMove}
+use Rattle.model.specs.Measure.{Contraction, mayMove}
+use Rattle.model.specs.Search.{Best, none, Worth, Walk, worthOf, bestPair, walkMove, walkOn, walk, walked, patience}
 use Rattle.model.specs.Lent.{journalOf}
 use Rattle.guarantees.specs.Caps.{CeilingIs}
 use Rattle.guarantees.specs.Walks.{moved}
@@ -88,7 +88,7 @@ pub record TurnOk (T : List ℕ → List ℕ → Tables) (L : Locals) (turn : �
   pub turn-to : turn < T aboves loaded .n
   pub tried-to : L .tried ≤ turn
 
--- `end` is what becomes, in `search_calls` turns more, of the walk that tables and variables now are
+-- `end` is what becomes, in so many turns more, of the walk that tables and variables now are
 pub record Onward (h : Hypergraph) (ceiling : ℕ → ℕ) (cs : List Contraction) (end : Walk) (turns : ℕ) (T : Tables) (L : Locals) : Type 0 where
   pub walk : Walk
   pub at : At h cs walk T L

@@ -11,8 +11,8 @@ use lib.IntN.{ℤ}
 use Rattle.laws.specs.Choice.{and-right}
 use Rattle.laws.specs.Place.{place}
 use Rattle.model.specs.Catalogue.{Hypergraph}
-use Rattle.model.specs.Measure.{Contraction, above}
-use Rattle.model.specs.Search.{Best, none, best, Walk, worthOf, bestPair, walkBest, walkMove, walkTurn, walkOn, walk, patience, mayMove}
+use Rattle.model.specs.Measure.{Contraction, above, mayMove}
+use Rattle.model.specs.Search.{Best, none, best, Walk, worthOf, bestPair, walkBest, walkMove, walkTurn, walkOn, walk, patience}
 use Rattle.guarantees.specs.Caps.{CeilingIs}
 use Rattle.guarantees.specs.Ends.{may-on}
 use Rattle.guarantees.specs.Walks.{moved}

@@ -1,0 +1,1 @@
+// Who is fixed, as marks that a search begins with.
