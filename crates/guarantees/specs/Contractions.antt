@@ -26,7 +26,7 @@ pub record Level (h : Hypergraph) (s s′ : State) : Type 0 where
 
 module _ (h : Hypergraph) (s : State) where
   -- J is accepted within one block
-  one-block : (u v : ℕ) → refusesJ h s u v ≡ 0 → s .block u ≡ s .block v
+  pub one-block : (u v : ℕ) → refusesJ h s u v ≡ 0 → s .block u ≡ s .block v
   unfolding refusesJ
   one-block u v q =
       let a = cond-zero (not (isVertex h u && isVertex h v)) 9 _ (omega arith) q in

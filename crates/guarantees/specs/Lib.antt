@@ -8,6 +8,7 @@
 --    uncontracted hypergraph: ClumpGain (clump-gain; clump-gains for the gain table's entries).
 -- 3. A call under a ceiling that the state is within leaves a state within it: Caps (held-call). From an accepted catalogue, after every list of
 --    calls, no block is above the capacity: Reached (within-capacity).
+--    A kept lot stays in its session of the draft: Stays (fixed-stays), by Fixed, which says who is fixed along a stack of contractions.
 -- 4. No W, P or A, under any ceiling, ends on a higher metric: NeverHigher (never-higher). A walk keeps the prefix of lowest metric,
 --    then of lightest heaviest block, then the first: Walks (first-lowest); so at the same metric no W ends with a heavier heaviest block:
 --    NeverHigher (W-level).
@@ -39,6 +40,7 @@ pub mod Clumps
 pub mod Caps
 pub mod Loads
 pub mod Reached
+pub mod Stays
 pub mod ClumpGain
 pub mod NeverHigher
 pub mod Fuel
