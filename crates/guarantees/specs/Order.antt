@@ -149,7 +149,7 @@ net-lengths : (limits : Limits) (t : Tables) → longTables limits t ≡ true �
 unfolding longTables longLists
 net-lengths limits t q =
     let lots : Bool = leb (limits .vertexLimit) (length (t .weights)) && leb (limits .vertexLimit) (length (t .blocks)) && leb (limits .vertexLimit) (length (t .aboves))
-        && leb (limits .vertexLimit) (length (t .fixed)) in
+    && leb (limits .vertexLimit) (length (t .fixed)) in
     let counts : Bool = leb 16384 (length (t .counts)) in
     let gains : Bool = leb (16 * limits .vertexLimit) (length (t .gains)) in
     let pins : Bool = leb 8192 (length (t .loadedPins)) && leb 8192 (length (t .presentPins)) in

@@ -158,8 +158,8 @@ module _ (h : Hypergraph) where
         let c = coarsened h (vertices h) (s .block) (record { stack = []; block = s .block }) (record { sound = tt; inside = tt; placed = placed; same = refl; same-weights = λ b. refl; free = tt }) in
         record {
           stays = polished-keeps h ceiling [] (Stays []) (stays-go []) _
-          (refine-stays _ _ (c .sound) (c .inside) (c .placed)
-          (coarsen-stays (vertices h) (record { stack = []; block = s .block }) tt (subst (λ (l : List Contraction). Stays l (s .block)) q (k .stays))));
+              (refine-stays _ _ (c .sound) (c .inside) (c .placed)
+              (coarsen-stays (vertices h) (record { stack = []; block = s .block }) tt (subst (λ (l : List Contraction). Stays l (s .block)) q (k .stays))));
           unfixed = tt;
         }
     kept-A s (c ∷ cs) q ok k e = absurd (omega arith)
