@@ -1,1 +1,2 @@
 // Who is fixed, as marks that a search begins with.
+pub mod starting;
