@@ -2,17 +2,18 @@
 -- Back, and on Kept for a prefix's worth. Assumes nothing.
 use Prim.Native.Nat.{ℕ, _+_, _-_, _<_, _≤_}
 use mathlib.Core.Path.{_≡_}
-use mathlib.Core.Bool.{not, _&&_, cond}
+use mathlib.Core.Bool.{not, _&&_, _||_, cond}
 use mathlib.Core.List.{List}
 use lib.Dec.{leb}
 use lib.IntN.{ℤ}
 use lib.ListN.{length, getD}
 use Rattle.laws.specs.Place.{place}
 use Rattle.model.specs.Catalogue.{Hypergraph}
-use Rattle.model.specs.Measure.{Contraction, mayMove}
+use Rattle.model.specs.Measure.{Contraction, isFixed, mayMove}
 use Rattle.model.specs.Search.{Best, none, Worth, Walk, worthOf, bestPair, walkMove, walkOn, walk, walked, patience}
 use Rattle.model.specs.Lent.{journalOf}
 use Rattle.guarantees.specs.Caps.{CeilingIs}
+use Rattle.fixed.specs.Starting.{FixedIs}
 use Rattle.guarantees.specs.Walks.{moved}
 use Rattle.operations.specs.Tables.{Tables, tables, Sound, Keeps}
 use Rattle.operations.specs.Move.{Open}
@@ -33,11 +34,12 @@ pub record Locals : Type 0 where
 abbrev pub locals : List ℕ → List ℕ → List ℕ → ℕ → ℕ → ℕ → ℕ → Locals
 locals marks vertices blocks tried kept low heaviest = record { marks = marks; vertices = vertices; blocks = blocks; tried = tried; kept = kept; worth = worth low heaviest }
 
--- tables and variables are those of the walk w. A candidate that has moved, or may not move, is not marked
+-- tables and variables are those of the walk w. A candidate that has moved, or may not move, is not marked; one that is fixed is marked as if it
+-- had moved
 pub record At (h : Hypergraph) (cs : List Contraction) (w : Walk) (T : Tables) (L : Locals) : Type 0 where
   pub sound : Sound h cs (w .block) T
   pub chosen : (x : ℕ) → x < T .n → candidateBit (L .marks) x ≡ (w .candidate (x + 1) && not (moved h cs w (x + 1)) && mayMove h cs (x + 1))
-  pub spent : (x : ℕ) → x < T .n → movedBit (L .marks) x ≡ moved h cs w (x + 1)
+  pub spent : (x : ℕ) → x < T .n → movedBit (L .marks) x ≡ (moved h cs w (x + 1) || isFixed h cs (x + 1))
   pub covered : Covered (L .marks) (T .pins) (T .firsts) (T .sizes)
   pub journal-is : w .journal ≡ journalOf (L .vertices) (L .blocks) (L .tried)
   pub tried-is : L .tried ≡ w .tried
@@ -104,22 +106,23 @@ pub record Turned (T : Tables) (L : Locals) (ceilings : List ℕ) (turn : ℕ) (
 
 -- ---- the whole walk
 
--- what `walk` asks: sound tables, and two vertices on the board, counted from 0
-pub record WalkOk (T : List ℕ → List ℕ → Tables) (u v : ℕ) : Type 0 where
+-- what `walk` asks: sound tables, the marks of who is fixed, and two vertices on the board, counted from 0
+pub record WalkOk (T : List ℕ → List ℕ → Tables) (fixedmarks : List ℕ) (u v : ℕ) : Type 0 where
   pub aboves : List ℕ
   pub loaded : List ℕ
   pub h : Hypergraph
   pub cs : List Contraction
   pub block : ℕ → ℕ
   pub sound : Sound h cs block (T aboves loaded)
+  pub fixed : FixedIs fixedmarks h cs
   pub u-in : u < T aboves loaded .n
   pub u-on : 1 ≤ getD (T aboves loaded .blocks) u 0
   pub v-in : v < T aboves loaded .n
   pub v-on : 1 ≤ getD (T aboves loaded .blocks) v 0
 
--- the walk after some turns
-pub record Going (T : Tables) (ceilings : List ℕ) (u v turn : ℕ) (T′ : Tables) (L : Locals) : Type 0 where
-  pub is : (h : Hypergraph) (ceiling : ℕ → ℕ) (cs : List Contraction) (block : ℕ → ℕ) → CeilingIs ceilings h ceiling → Sound h cs block T → Onward h ceiling cs (walk h ceiling cs block (u + 1) (v + 1)) (T .n - turn) T′ L
+-- the walk after some turns, from its first tables and variables on
+pub record Going (T : Tables) (L : Locals) (ceilings : List ℕ) (turn : ℕ) (T′ : Tables) (L′ : Locals) : Type 0 where
+  pub is : (h : Hypergraph) (ceiling : ℕ → ℕ) (cs : List Contraction) (w : Walk) → CeilingIs ceilings h ceiling → At h cs w T L → Onward h ceiling cs (walkOn h ceiling cs (T .n) w) (T .n - turn) T′ L′
   pub keeps : Keeps T T′
 
 -- tables and numbers at the end of W: the partition, tried and kept are those of model's walk
@@ -129,6 +132,6 @@ pub record Ended (h : Hypergraph) (cs : List Contraction) (w : Walk) (T : Tables
   pub kept-is : kept ≡ w .kept
 
 -- what `walk` does
-pub record Walks (T : Tables) (ceilings : List ℕ) (u v : ℕ) (T′ : Tables) (tried kept : ℕ) : Type 0 where
-  pub is : (h : Hypergraph) (ceiling : ℕ → ℕ) (cs : List Contraction) (block : ℕ → ℕ) → CeilingIs ceilings h ceiling → Sound h cs block T → Ended h cs (walk h ceiling cs block (u + 1) (v + 1)) T′ tried kept
+pub record Walks (T : Tables) (ceilings fixedmarks : List ℕ) (u v : ℕ) (T′ : Tables) (tried kept : ℕ) : Type 0 where
+  pub is : (h : Hypergraph) (ceiling : ℕ → ℕ) (cs : List Contraction) (block : ℕ → ℕ) → CeilingIs ceilings h ceiling → FixedIs fixedmarks h cs → Sound h cs block T → Ended h cs (walk h ceiling cs block (u + 1) (v + 1)) T′ tried kept
   pub keeps : Keeps T T′

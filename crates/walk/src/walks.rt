@@ -287,6 +287,7 @@ pub fn walk(
     netweights: &[u16],
     firsts: &[u16],
     ceilings: &[u64; 16],
+    fixedmarks: [u64; 48],
     n: usize,
     m: usize,
     k: usize,
@@ -296,14 +297,14 @@ pub fn walk(
 ) -> Walked
     requires { ⌜ WalkOk
         (lent (now counts) (now visited) (now gains) (now blocks) (now loads) (now presentpins) (now presentsizes) (now bits) (now weights) (now netweights) (now firsts) n m k total)
-        u v ⌝ }
+        fixedmarks u v ⌝ }
     ensures { λ r. ⌜ ((aboves loadedsizes : List ℕ) → Walks
         (lent (now (counts .entry)) (now (visited .entry)) (now (gains .entry)) (now (blocks .entry)) (now (loads .entry)) (now (presentpins .entry)) (now (presentsizes .entry)) (now (bits .entry)) (now (weights .entry)) (now (netweights .entry)) (now (firsts .entry)) n m k total aboves loadedsizes)
-        (now (ceilings .entry)) u v
+        (now (ceilings .entry)) fixedmarks u v
         (lent (now (counts .exit)) (now (visited .exit)) (now (gains .exit)) (now (blocks .exit)) (now (loads .exit)) (now (presentpins .exit)) (now (presentsizes .exit)) (now (bits .exit)) (now (weights .exit)) (now (netweights .exit)) (now (firsts .exit)) n m k (r .total) aboves loadedsizes)
         (r .tried) (r .kept)) ⌝ }
 {
-    let mut marks = [0u64; 48];
+    let mut marks = fixedmarks;
     mark_vertex(&mut marks, u);
     mark_vertex(&mut marks, v);
     let mut peaks = [0i32; 16];
