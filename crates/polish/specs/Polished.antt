@@ -17,6 +17,7 @@ use Rattle.model.specs.Measure.{Contraction, above, onBoard, mayMove}
 use Rattle.model.specs.Search.{Best, none, best, Polish, polishBest, polishTurn, polishOn, polish}
 use Rattle.guarantees.specs.Caps.{CeilingIs}
 use Rattle.guarantees.specs.Ends.{may-on}
+use Rattle.fixed.specs.Starting.{FixedIs}
 use Rattle.operations.specs.Tables.{Tables, Sound, Keeps}
 use Rattle.operations.specs.Move.{Open, CanGo, Went, on-board, own-block, in-range}
 use Rattle.best_move.specs.declared.open.Pick.{Pick}
@@ -59,18 +60,19 @@ pub record Passed (T : Tables) (marks ceilings : List ℕ) (left moves : ℕ) (T
   pub small : moves′ + left′ ≤ moves + left
   pub keeps : Keeps T T′
 
--- what `polish` asks: sound tables
-pub record PolishOk (T : List ℕ → List ℕ → Tables) : Type 0 where
+-- what `polish` asks: sound tables, and the marks of who is fixed
+pub record PolishOk (T : List ℕ → List ℕ → Tables) (fixedmarks : List ℕ) : Type 0 where
   pub aboves : List ℕ
   pub loaded : List ℕ
   pub h : Hypergraph
   pub cs : List Contraction
   pub block : ℕ → ℕ
   pub sound : Sound h cs block (T aboves loaded)
+  pub fixed : FixedIs fixedmarks h cs
 
--- the polish after some passes
+-- the polish after some passes, from its first tables on
 pub record Passing (T : Tables) (marks ceilings : List ℕ) (T′ : Tables) (left moves : ℕ) : Type 0 where
-  pub is : (h : Hypergraph) (ceiling : ℕ → ℕ) (cs : List Contraction) (block : ℕ → ℕ) → CeilingIs ceilings h ceiling → Sound h cs block T → Further h ceiling cs (polish h ceiling cs block) left T′ marks moves
+  pub is : (h : Hypergraph) (ceiling : ℕ → ℕ) (cs : List Contraction) (q : Polish) → CeilingIs ceilings h ceiling → PolishAt h cs q T marks 0 → Further h ceiling cs (polishOn h ceiling cs (T .total) q) left T′ marks moves
   pub keeps : Keeps T T′
 
 -- tables and number at the end of P: the partition and the number of moves are those of model's polish
@@ -79,8 +81,8 @@ pub record Smooth (h : Hypergraph) (cs : List Contraction) (q : Polish) (T : Tab
   pub moves-is : moves ≡ q .made
 
 -- what `polish` does
-pub record Polishes (T : Tables) (ceilings : List ℕ) (T′ : Tables) (moves : ℕ) : Type 0 where
-  pub is : (h : Hypergraph) (ceiling : ℕ → ℕ) (cs : List Contraction) (block : ℕ → ℕ) → CeilingIs ceilings h ceiling → Sound h cs block T → Smooth h cs (polish h ceiling cs block) T′ moves
+pub record Polishes (T : Tables) (ceilings fixedmarks : List ℕ) (T′ : Tables) (moves : ℕ) : Type 0 where
+  pub is : (h : Hypergraph) (ceiling : ℕ → ℕ) (cs : List Contraction) (block : ℕ → ℕ) → CeilingIs ceilings h ceiling → FixedIs fixedmarks h cs → Sound h cs block T → Smooth h cs (polish h ceiling cs block) T′ moves
   pub keeps : Keeps T T′
 
 -- ---- one turn of model's polish

@@ -1,4 +1,4 @@
-// P, a greedy polish: over all vertices on the board, the best open pair is moved while its gain is at least 1.
+// P, a greedy polish: over the vertices on the board that are not fixed, the best open pair is moved while its gain is at least 1.
 use best_move::open::Pick;
 use best_move::open::best_open;
 use best_move::peaks::survey;
@@ -38,7 +38,7 @@ fn above_zero(gain: i32) -> bool
     0 < gain
 }
 
-// Makes `x`, of block `b`, a candidate if it is on the board.
+// Makes `x`, of block `b`, a candidate if it is on the board, and not fixed.
 fn mark_placed(marks: &mut [u64; 48], x: usize, b: u16)
     requires { ⌜ (length (now marks) ≡ 48) × (x < 1024) ⌝ }
     ensures { λ _. ⌜ Marked (now (marks .entry)) (now (marks .exit)) (placed x b) ⌝ }
@@ -49,7 +49,7 @@ fn mark_placed(marks: &mut [u64; 48], x: usize, b: u16)
     mark_vertex(marks, x);
 }
 
-// Makes the vertices on the board candidates.
+// Makes the vertices on the board candidates, except those that are fixed.
 fn mark_board(marks: &mut [u64; 48], blocks: &[u16], n: usize)
     requires { ⌜ (length (now marks) ≡ 48) × (n ≤ 1024) × (n ≤ length (now blocks)) ⌝ }
     ensures { λ _. ⌜ Marked (now (marks .entry)) (now (marks .exit)) (sits (now (blocks .entry)) n) ⌝ }
@@ -182,20 +182,22 @@ pub fn polish(
     netweights: &[u16],
     firsts: &[u16],
     ceilings: &[u64; 16],
+    fixedmarks: [u64; 48],
     n: usize,
     m: usize,
     k: usize,
     total: u32,
 ) -> Polished
     requires { ⌜ PolishOk
-        (lent (now counts) (now visited) (now gains) (now blocks) (now loads) (now presentpins) (now presentsizes) (now bits) (now weights) (now netweights) (now firsts) n m k total) ⌝ }
+        (lent (now counts) (now visited) (now gains) (now blocks) (now loads) (now presentpins) (now presentsizes) (now bits) (now weights) (now netweights) (now firsts) n m k total)
+        fixedmarks ⌝ }
     ensures { λ r. ⌜ ((aboves loadedsizes : List ℕ) → Polishes
         (lent (now (counts .entry)) (now (visited .entry)) (now (gains .entry)) (now (blocks .entry)) (now (loads .entry)) (now (presentpins .entry)) (now (presentsizes .entry)) (now (bits .entry)) (now (weights .entry)) (now (netweights .entry)) (now (firsts .entry)) n m k total aboves loadedsizes)
-        (now (ceilings .entry))
+        (now (ceilings .entry)) fixedmarks
         (lent (now (counts .exit)) (now (visited .exit)) (now (gains .exit)) (now (blocks .exit)) (now (loads .exit)) (now (presentpins .exit)) (now (presentsizes .exit)) (now (bits .exit)) (now (weights .exit)) (now (netweights .exit)) (now (firsts .exit)) n m k (r .total) aboves loadedsizes)
         (r .moves)) ⌝ }
 {
-    let mut marks = [0u64; 48];
+    let mut marks = fixedmarks;
     mark_board(&mut marks, blocks, n);
     let mut peaks = [0i32; 16];
     survey(&mut peaks, gains, n, k);
