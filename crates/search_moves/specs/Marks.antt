@@ -1,5 +1,5 @@
--- The candidates of a search as three rows of bits: row 0 has the vertices that may be chosen, row 1 those that have moved, row 2 the nets
--- whose pins have been marked. What marking does to them. Vertices and nets count from 0. Rests on incidence's rows of bits and
+-- The candidates of a search as three rows of bits: row 0 has the vertices that may be chosen, row 1 those that have moved and those that
+-- are fixed, which count here as moved, row 2 the nets whose pins have been marked. What marking does to them. Vertices and nets count from 0. Rests on incidence's rows of bits and
 -- connectivity's pin stretches. Assumes nothing.
 use Prim.Native.Nat.{ℕ, zero, suc, _+_, _*_, _-_, _<_, _≤_}
 use native.Mathlib.Decide.{ℕ-discrete}
@@ -10,21 +10,17 @@ use mathlib.Core.Bool.{Bool, true, false, not, _&&_, _||_, cond, and-false, and-
 use mathlib.Core.List.{List}
 use borrow.Author.Tests.{eq-eqb, ne-eqb, eqb-true}
 use lib.Dec.{eqb}
-use lib.ListN.{length, getD, replicate}
-use Rattle.incidence.specs.On.{on, on-blank, Changed, Next}
+use lib.ListN.{length, getD}
+use Rattle.incidence.specs.On.{on, Changed, Next}
 use Rattle.connectivity.specs.Listed.{has}
 
 -- the vertex may be chosen
 abbrev pub candidateBit : List ℕ → ℕ → Bool
 candidateBit l x = eqb (on l 0 x) 1
 
--- the vertex has moved
+-- the vertex has moved, or is fixed
 abbrev pub movedBit : List ℕ → ℕ → Bool
 movedBit l x = eqb (on l 1 x) 1
-
--- a search begins with rows of zeros
-pub blank-bit : (r x : ℕ) → eqb (on (replicate 48 0) r x) 1 ≡ false
-blank-bit r x = ap (λ (z : ℕ). eqb z 1) (on-blank 48 r x)
 
 -- those that pass a test have become candidates, except where they have moved
 pub record Marked (l l′ : List ℕ) (p : ℕ → Bool) : Type 0 where
@@ -210,8 +206,9 @@ pub record Covered (l pins firsts sizes : List ℕ) : Type 0 where
   pub covers : (e : ℕ) → e < 1024 → on l 2 e ≡ 1 → (x : ℕ) → x < 1024 → has pins (getD firsts e 0) (getD sizes e 0) x ≡ true → (candidateBit l x || movedBit l x) ≡ true
 
 module _ {pins firsts sizes : List ℕ} where
-  pub covered-none : {l : List ℕ} → SameNets (replicate 48 0) l → Covered l pins firsts sizes
-  covered-none n = record { covers = λ e k o. absurd (omega (arith, n .same e k, on-blank 48 2 e)) }
+  -- a search begins with no net
+  pub covered-none : {l : List ℕ} → ((e : ℕ) → e < 1024 → on l 2 e ≡ 0) → Covered l pins firsts sizes
+  covered-none n = record { covers = λ e k o. absurd (omega (arith, n e k)) }
 
   -- the pins of a net are marked already
   pub net-again : {l : List ℕ} (e : ℕ) → e < 1024 → Covered l pins firsts sizes → eqb (on l 2 e) 1 ≡ true → Marked l l (has pins (getD firsts e 0) (getD sizes e 0))

@@ -20,6 +20,7 @@ use Rattle.connectivity.specs.Listed.{has}
 use Rattle.levels.specs.Running.{netAt}
 use Rattle.levels.specs.Reading.{has-pin, reads}
 use Rattle.guarantees.specs.Caps.{CeilingIs}
+use Rattle.guarantees.specs.Ends.{may-on}
 use Rattle.operations.specs.Tables.{Tables, Sound}
 use Rattle.operations.specs.Move.{back, Open, own-block, own-weight, in-range}
 use Rattle.best_move.specs.Open.{SearchOk, mayGo, roomFor, isCandidate, openIn}
@@ -90,7 +91,7 @@ module _ {h : Hypergraph} {cs : List Contraction} {block : ℕ → ℕ} {T : Tab
     k-is = s .follows .says .all-blocks;
     ceiling-is = λ b l u. q b l (omega (arith, s .follows .says .all-blocks));
     block-is = λ v l u o. own-block s (v - 1) (omega arith) ∙ ap block (back v l);
-    weight-is = λ v l u o. own-weight s (v - 1) (omega arith) (at-one v l (eqb-true _ _ o)) ∙ ap (weight h cs) (back v l);
+    weight-is = λ v l u o. own-weight s (v - 1) (omega arith) (at-one v l (may-on h cs v o)) ∙ ap (weight h cs) (back v l);
     load-is = λ b l u. s .bears (b - 1) (omega arith) ∙ ap (blockWeight h cs block) (back b l);
     gain-is = λ v b lv uv lb ub o.
         reads (s .follows) .gained (v - 1) (b - 1) (omega arith) (omega arith)

@@ -1,6 +1,6 @@
-// The candidates of a search as three rows of bits: row 0 has the vertices that may be chosen, row 1 those that have moved in this search,
-// row 2 the nets whose pins have been marked in it. Such pins stay candidates until they move, so that a net is marked only once: with
-// large nets most of a walk's time would go into marking. Vertices and nets count from 0.
+// The candidates of a search as three rows of bits: row 0 has the vertices that may be chosen, row 1 those that have moved in this search and
+// those that are fixed, row 2 the nets whose pins have been marked in it. Such pins stay candidates until they move, so that a net is marked
+// only once: with large nets most of a walk's time would go into marking. Vertices and nets count from 0.
 use incidence::is_pin;
 use incidence::next_net;
 use incidence::numbers::index;
@@ -13,7 +13,7 @@ ghost use lib.ListN.{length, getD};
 ghost use Rattle.connectivity.specs.Listed.{has};
 ghost use Rattle.search_moves.specs.Marks.{Marked, SameNets, PinsOk, Covered, near, NetsOk, Spread};
 
-// Makes `x` a candidate, unless it has moved.
+// Makes `x` a candidate, unless it has moved or is fixed.
 pub fn mark_vertex(marks: &mut [u64; 48], x: usize)
     requires { ⌜ (length (now marks) ≡ 48) × (x < 1024) ⌝ }
     ensures { λ _. ⌜ Marked (now (marks .entry)) (now (marks .exit)) (λ y. eqb y x) × SameNets (now (marks .entry)) (now (marks .exit)) ⌝ }

@@ -15,7 +15,7 @@ use Rattle.model.specs.Lent.{journalOf}
 use Rattle.guarantees.specs.Caps.{CeilingIs}
 use Rattle.fixed.specs.Starting.{FixedIs}
 use Rattle.guarantees.specs.Walks.{moved}
-use Rattle.operations.specs.Tables.{Tables, tables, Sound, Keeps}
+use Rattle.operations.specs.Tables.{Tables, Sound, Keeps}
 use Rattle.operations.specs.Move.{Open}
 use Rattle.best_move.specs.Open.{gainIn, openIn}
 use Rattle.search_moves.specs.Marks.{candidateBit, movedBit, Covered}

@@ -4,7 +4,7 @@ use Prim.Native.Nat.{ℕ, suc, _+_, _-_, _<_, _≤_}
 use native.Mathlib.Decide.{ℕ-discrete}
 use native.Mathlib.Omega.{arith}
 use mathlib.Core.Path.{_≡_, refl, sym, ap, ap₂, _∙_, subst}
-use mathlib.Core.Bool.{Bool, true, false, not, _&&_, _||_, cond, and-true, and-false, true≢false}
+use mathlib.Core.Bool.{Bool, true, false, not, _&&_, _||_, cond, and-true, and-false, or-false, or-assoc, true≢false}
 use mathlib.Core.List.{List, _∷_}
 use borrow.Author.Tests.{eq-eqb, ne-eqb}
 use lib.Dec.{eqb}
@@ -12,7 +12,7 @@ use lib.ListN.{length, getD, length-set}
 use Rattle.laws.specs.Fold.{any}
 use Rattle.laws.specs.Place.{place}
 use Rattle.model.specs.Catalogue.{Hypergraph}
-use Rattle.model.specs.Measure.{Contraction, above, onBoard, adjacent}
+use Rattle.model.specs.Measure.{Contraction, above, onBoard, isFixed, mayMove, adjacent}
 use Rattle.model.specs.Machine.{Move}
 use Rattle.model.specs.Search.{Walk, isKept, worthOf, walkMove}
 use Rattle.model.specs.Lent.{journalOf}
@@ -26,19 +26,15 @@ use Rattle.walk.specs.Back.{backs-more}
 use Rattle.walk.specs.Kept.{worth, heaviestIn, heaviest-is}
 use Rattle.walk.specs.Steps.{Locals, locals, At, TakeOk}
 
--- a candidate after a move, in truth values: it was one or shares a net with the moved vertex, has not moved, and is on the board
-spread-bool : (cand mv bd adj eq : Bool) → (adj ≡ true → bd ≡ true)
-    → (((cand && not mv && bd) && not eq) || (adj && not (eq || mv))) ≡ ((cand || adj) && not (eq || mv) && bd)
-spread-bool cand mv bd adj true f =
-    ap₂ (λ (a b : Bool). a || b) (and-false (cand && not mv && bd)) (and-false adj) ∙ sym (ap (λ (t : Bool). t && bd) (and-false (cand || adj)))
-spread-bool cand true bd adj false f =
-    ap₂ (λ (a b : Bool). a || b) (and-true (cand && false && bd) ∙ ap (λ (t : Bool). t && bd) (and-false cand)) (and-false adj) ∙ sym (ap (λ (t : Bool). t && bd) (and-false (cand || adj)))
-spread-bool true false true adj false f = refl
-spread-bool true false false true false f = absurd (true≢false (sym (f refl)))
-spread-bool true false false false false f = refl
-spread-bool false false true true false f = refl
-spread-bool false false false true false f = absurd (true≢false (sym (f refl)))
-spread-bool false false bd false false f = refl
+-- a candidate after a move, in truth values: it was one or shares a net with the moved vertex, has not moved, is on the board and not fixed
+spread-bool : (cand mv bd fx adj eq : Bool) → (adj ≡ true → bd ≡ true)
+    → (((cand && not mv && (bd && not fx)) && not eq) || (adj && not (eq || (mv || fx)))) ≡ ((cand || adj) && not (eq || mv) && (bd && not fx))
+spread-bool cand mv bd fx adj true f = simp (and-false, or-false)
+spread-bool cand true bd fx adj false f = simp (and-false, and-true, or-false)
+spread-bool cand false bd true adj false f = simp (and-false, and-true, or-false)
+spread-bool cand false true false adj false f = simp and-true
+spread-bool cand false false false true false f = absurd (true≢false (sym (f refl)))
+spread-bool cand false false false false false f = simp (and-false, and-true, or-false)
 
 eqb-next : (x y v : ℕ) → x + 1 ≡ v → eqb x y ≡ eqb v (y + 1)
 eqb-next x y v e = go (ℕ-discrete x y)
@@ -87,19 +83,22 @@ module _ {h : Hypergraph} {cs : List Contraction} {w : Walk} {T T′ : Tables} {
   small : T .n ≤ 1024
   small = A .sound .follows .room .few-vertices
 
-  spent : (y : ℕ) → y < T .n → movedBit marks′ y ≡ (eqb v (y + 1) || moved h cs w (y + 1))
-  spent y l = sp .moved y (omega (arith, small)) ∙ ap₂ (λ (s t : Bool). s || t) (eqb-next x y v e) (A .spent y l)
+  spent : (y : ℕ) → y < T .n → movedBit marks′ y ≡ ((eqb v (y + 1) || moved h cs w (y + 1)) || isFixed h cs (y + 1))
+  spent y l =
+      sp .moved y (omega (arith, small))
+      ∙ ap₂ (λ (s t : Bool). s || t) (eqb-next x y v e) (A .spent y l)
+      ∙ sym (or-assoc (eqb v (y + 1)) (moved h cs w (y + 1)) (isFixed h cs (y + 1)))
 
   beside : (y : ℕ) → near (T .bits) (T .pins) (T .firsts) (T .sizes) x (T .m) y ≡ adjacent h cs v (y + 1)
   beside y = near-is (A .sound) x y (o .u-in) on-x ∙ ap (λ (z : ℕ). adjacent h cs z (y + 1)) e
 
-  chosen : (y : ℕ) → y < T .n → candidateBit marks′ y ≡ ((w .candidate (y + 1) || adjacent h cs v (y + 1)) && not (eqb v (y + 1) || moved h cs w (y + 1)) && onBoard cs (y + 1))
+  chosen : (y : ℕ) → y < T .n → candidateBit marks′ y ≡ ((w .candidate (y + 1) || adjacent h cs v (y + 1)) && not (eqb v (y + 1) || moved h cs w (y + 1)) && mayMove h cs (y + 1))
   chosen y l =
       sp .marks y (omega (arith, small))
       ∙ ap₂ (λ (s t : Bool). s || t)
       (ap₂ (λ (s t : Bool). s && not t) (A .chosen y l) (eqb-next x y v e))
       (ap₂ (λ (s t : Bool). s && not t) (beside y) (ap₂ (λ (s t : Bool). s || t) (eqb-next x y v e) (A .spent y l)))
-      ∙ spread-bool (w .candidate (y + 1)) (moved h cs w (y + 1)) (onBoard cs (y + 1)) (adjacent h cs v (y + 1)) (eqb v (y + 1)) (λ q. eq-eqb (above cs (y + 1)) 0 (near-on (A .sound) v (y + 1) q))
+      ∙ spread-bool (w .candidate (y + 1)) (moved h cs w (y + 1)) (onBoard cs (y + 1)) (isFixed h cs (y + 1)) (adjacent h cs v (y + 1)) (eqb v (y + 1)) (λ q. eq-eqb (above cs (y + 1)) 0 (near-on (A .sound) v (y + 1) q))
 
   journaled : record { vertex = v; from = w .block v } ∷ w .journal ≡ journalOf vs′ bs′ tried′
   journaled =

@@ -4,28 +4,37 @@ use Prim.Native.Nat.{ℕ, _+_, _-_, _<_, _≤_}
 use native.Mathlib.Decide.{ℕ-discrete}
 use native.Mathlib.Omega.{arith}
 use mathlib.Core.Path.{_≡_, refl, sym, ap, ap₂, _∙_, subst}
-use mathlib.Core.Bool.{Bool, true, false, not, _&&_, _||_, and-true}
+use mathlib.Core.Bool.{Bool, true, false, not, _&&_, _||_, and-true, and-assoc}
 use mathlib.Core.List.{List, []}
 use borrow.Author.Tests.{eq-eqb, ne-eqb, eqb-true}
 use lib.Dec.{eqb}
-use lib.ListN.{length, getD, replicate, length-replicate}
+use lib.ListN.{length, getD}
 use Rattle.laws.specs.Fold.{any}
 use Rattle.model.specs.Catalogue.{Hypergraph, vertices}
-use Rattle.model.specs.Measure.{Contraction, above, onBoard}
+use Rattle.model.specs.Measure.{Contraction, above, onBoard, isFixed, mayMove}
 use Rattle.model.specs.Machine.{Move}
 use Rattle.model.specs.Search.{Walk, worthOf, walkOn, walk, walked, reversed}
 use Rattle.model.specs.Lent.{journalOf}
+use Rattle.fixed.specs.Starting.{FixedIs}
 use Rattle.operations.specs.Pairs.{pairs-none}
 use Rattle.operations.specs.Tables.{Tables, Sound}
 use Rattle.operations.specs.Move.{on-board}
-use Rattle.search_moves.specs.Marks.{candidateBit, movedBit, blank-bit, Marked, marked-more, SameNets, nets-then, covered-none}
+use Rattle.search_moves.specs.Marks.{candidateBit, movedBit, Marked, marked-more, SameNets, nets-then, covered-none}
 use Rattle.operations.specs.Keeping.{keeps-none, keeps-more}
 use Rattle.walk.specs.Back.{Backs, backs-none, RewindOk, Rewinds}
 use Rattle.walk.specs.Kept.{worth, heaviestIn, heaviest-is}
-use Rattle.walk.specs.Steps.{Locals, locals, At, TurnOk, Turned, WalkOk, Going, Ended, Walks}
+use Rattle.walk.specs.Steps.{Locals, locals, At, TurnOk, Onward, Turned, WalkOk, Going, Ended, Walks}
 use Rattle.walk.specs.Turning.{on-none}
 
 -- ---- the start
+
+-- model's walk before its first turn
+abbrev begun : (h : Hypergraph) (cs : List Contraction) (block : ℕ → ℕ) (u v : ℕ) → Walk
+begun h cs block u v = record { block = block; journal = []; candidate = λ x. eqb x u || eqb x v; tried = 0; kept = 0; worth = worthOf h cs block }
+
+-- tables and variables are those of the walk from u and v before its first turn
+pub record Started (T : Tables) (fixedmarks : List ℕ) (u v : ℕ) (L : Locals) : Type 0 where
+  pub at : (h : Hypergraph) (cs : List Contraction) (block : ℕ → ℕ) → FixedIs fixedmarks h cs → Sound h cs block T → At h cs (begun h cs block (u + 1) (v + 1)) T L
 
 -- u and v are candidates, and on the board
 module _ {h : Hypergraph} {cs : List Contraction} {block : ℕ → ℕ} {T : Tables} (s : Sound h cs block T) (u v : ℕ) (u-in : u < T .n) (u-on : 1 ≤ getD (T .blocks) u 0) (v-in : v < T .n) (v-on : 1 ≤ getD (T .blocks) v 0) where
@@ -47,63 +56,57 @@ eqb-up x y = go (ℕ-discrete x y)
     go (yes q) = eq-eqb x y q ∙ sym (eq-eqb (x + 1) (y + 1) (omega arith))
     go (no q) = ne-eqb x y q ∙ sym (ne-eqb (x + 1) (y + 1) (λ r. q (omega arith)))
 
-module _ {l l′ : List ℕ} (u v : ℕ) (a : Marked (replicate 48 0) l (λ y. eqb y u)) (b : Marked l l′ (λ y. eqb y v)) (na : SameNets (replicate 48 0) l) (nb : SameNets l l′) where
-  first-marks : (x : ℕ) → x < 1024 → candidateBit l′ x ≡ (eqb (x + 1) (u + 1) || eqb (x + 1) (v + 1))
-  first-marks x k =
-      marked-more a b .marks x k
-      ∙ ap₂ (λ (c m : Bool). c || ((eqb x u || eqb x v) && not m)) (blank-bit 0 x) (blank-bit 1 x)
-      ∙ and-true (eqb x u || eqb x v)
-      ∙ ap₂ (λ (s t : Bool). s || t) (eqb-up x u) (eqb-up x v)
+-- the first marks: u and v are candidates, unless they are fixed; who is fixed counts as moved
+module _ {fixedmarks l l′ : List ℕ} (u v : ℕ) (a : Marked fixedmarks l (λ y. eqb y u)) (b : Marked l l′ (λ y. eqb y v)) (na : SameNets fixedmarks l) (nb : SameNets l l′) where
+  module _ {h : Hypergraph} {cs : List Contraction} (f : FixedIs fixedmarks h cs) (few : vertices h ≤ 1024) where
+    first-marks : (x : ℕ) → x < vertices h → candidateBit l′ x ≡ ((eqb (x + 1) (u + 1) || eqb (x + 1) (v + 1)) && not (isFixed h cs (x + 1)))
+    first-marks x k =
+        marked-more a b .marks x (omega arith)
+        ∙ ap₂ (λ (c m : Bool). c || ((eqb x u || eqb x v) && not m)) (ap (λ (z : ℕ). eqb z 1) (f .no-candidate x (omega arith))) (f .fixed x k)
+        ∙ ap₂ (λ (s t : Bool). (s || t) && not (isFixed h cs (x + 1))) (eqb-up x u) (eqb-up x v)
 
-  first-moved : (x : ℕ) → x < 1024 → movedBit l′ x ≡ false
-  first-moved x k = marked-more a b .moved x k ∙ blank-bit 1 x
+    first-moved : (x : ℕ) → x < vertices h → movedBit l′ x ≡ isFixed h cs (x + 1)
+    first-moved x k = marked-more a b .moved x (omega arith) ∙ f .fixed x k
 
-  module _ (T : Tables) (ceilings : List ℕ) (u-in : u < T .n) (u-on : 1 ≤ getD (T .blocks) u 0) (v-in : v < T .n) (v-on : 1 ≤ getD (T .blocks) v 0) where
-    start-at : {h : Hypergraph} {cs : List Contraction} {block : ℕ → ℕ} {vs bs : List ℕ} {tried most : ℕ} → Sound h cs block T → length vs ≡ 1024 → length bs ≡ 1024 → tried ≡ 0 → most ≡ heaviestIn (T .loads) (T .k)
-        → At h cs (record { block = block; journal = []; candidate = λ x. eqb x (u + 1) || eqb x (v + 1); tried = 0; kept = 0; worth = worthOf h cs block }) T (locals l′ vs bs tried 0 (T .total) most)
+  module _ (T : Tables) (u-in : u < T .n) (u-on : 1 ≤ getD (T .blocks) u 0) (v-in : v < T .n) (v-on : 1 ≤ getD (T .blocks) v 0) where
+    pub started : {vs bs : List ℕ} {tried most : ℕ} → length vs ≡ 1024 → length bs ≡ 1024 → tried ≡ 0 → most ≡ heaviestIn (T .loads) (T .k) → Started T fixedmarks u v (locals l′ vs bs tried 0 (T .total) most)
     unfolding any
-    start-at {h} {cs} {block} {vs} {bs} s lv lb q e = record {
-      sound = s;
-      chosen = λ x k.
-          first-marks x (omega (arith, s .follows .room .few-vertices))
-          ∙ two-on s u v u-in u-on v-in v-on x (eqb (x + 1) (u + 1) || eqb (x + 1) (v + 1)) refl
-          ∙ ap (λ (t : Bool). t && onBoard cs (x + 1)) (sym (and-true (eqb (x + 1) (u + 1) || eqb (x + 1) (v + 1))));
-      spent = λ x k. first-moved x (omega (arith, s .follows .room .few-vertices));
-      covered = covered-none (nets-then na nb);
-      journal-is = sym (ap (journalOf vs bs) q ∙ pairs-none (λ v b. record { vertex = v; from = b }) vs bs);
-      tried-is = q;
-      kept-is = refl;
-      worth-is = ap₂ worth (s .total-is) (e ∙ heaviest-is s);
-      kept-to = omega arith;
-      backs = backs-none h cs block;
-      marks-fit = marked-more a b .len ∙ length-replicate {A = ℕ} 48 0;
-      vertices-fit = lv;
-      blocks-fit = lb;
-    }
-
-    pub going-none : {vs bs : List ℕ} {tried most : ℕ} → length vs ≡ 1024 → length bs ≡ 1024 → tried ≡ 0 → most ≡ heaviestIn (T .loads) (T .k) → Going T ceilings u v 0 T (locals l′ vs bs tried 0 (T .total) most)
-    unfolding walk
-    going-none lv lb q heavy = record {
-      is = λ h ceiling cs block e s. record {
-        walk = record { block = block; journal = []; candidate = λ x. eqb x (u + 1) || eqb x (v + 1); tried = 0; kept = 0; worth = worthOf h cs block };
-        at = start-at s lv lb q heavy;
-        same = ap (λ (i : ℕ). walkOn h ceiling cs i (record { block = block; journal = []; candidate = λ x. eqb x (u + 1) || eqb x (v + 1); tried = 0; kept = 0; worth = worthOf h cs block })) (let z : vertices h ≡ T .n - 0 = omega (arith, s .follows .says .all-vertices) in z);
-      };
-      keeps = keeps-none T;
+    started {vs} {bs} lv lb q e = record {
+      at = λ h cs block f s.
+          let few : vertices h ≤ 1024 = omega (arith, s .follows .room .few-vertices, s .follows .says .all-vertices) in
+          record {
+            sound = s;
+            chosen = λ x k.
+                first-marks f few x (omega (arith, s .follows .says .all-vertices))
+                ∙ ap (λ (t : Bool). t && not (isFixed h cs (x + 1))) (two-on s u v u-in u-on v-in v-on x (eqb (x + 1) (u + 1) || eqb (x + 1) (v + 1)) refl)
+                ∙ and-assoc (eqb (x + 1) (u + 1) || eqb (x + 1) (v + 1)) (onBoard cs (x + 1)) (not (isFixed h cs (x + 1)))
+                ∙ ap (λ (t : Bool). t && mayMove h cs (x + 1)) (sym (and-true (eqb (x + 1) (u + 1) || eqb (x + 1) (v + 1))));
+            spent = λ x k. first-moved f few x (omega (arith, s .follows .says .all-vertices));
+            covered = covered-none (λ i k. nets-then na nb .same i k ∙ f .no-net i k);
+            journal-is = sym (ap (journalOf vs bs) q ∙ pairs-none (λ v b. record { vertex = v; from = b }) vs bs);
+            tried-is = q;
+            kept-is = refl;
+            worth-is = ap₂ worth (s .total-is) (e ∙ heaviest-is s);
+            kept-to = omega arith;
+            backs = backs-none h cs block;
+            marks-fit = marked-more a b .len ∙ f .len;
+            vertices-fit = lv;
+            blocks-fit = lb;
+          };
     }
 
 -- ---- its turns
-pub turn-asks : {T T′ : List ℕ → List ℕ → Tables} {L : Locals} {ceilings : List ℕ} {u v turn : ℕ} (ok : WalkOk T u v) → ((aboves loaded : List ℕ) → Going (T aboves loaded) ceilings u v turn (T′ aboves loaded) L)
-    → turn < T′ (ok .aboves) (ok .loaded) .n → L .tried ≤ turn → TurnOk T′ L turn
-turn-asks {ceilings = ceilings} ok f on to =
-    let o = f (ok .aboves) (ok .loaded) .is (ok .h) (λ b. getD ceilings (b - 1) 0) (ok .cs) (ok .block) (λ b _ _. refl) (ok .sound) in
-    record { aboves = ok .aboves; loaded = ok .loaded; h = ok .h; cs = ok .cs; walk = o .walk; at = o .at; turn-to = on; tried-to = to }
+pub going-none : (T : Tables) (L : Locals) (ceilings : List ℕ) → Going T L ceilings 0 T L
+going-none T L ceilings = record {
+  is = λ h ceiling cs w q A. record { walk = w; at = A; same = ap (λ (i : ℕ). walkOn h ceiling cs i w) (let z : T .n ≡ T .n - 0 = omega arith in z) };
+  keeps = keeps-none T;
+}
 
-pub going-more : {T T′ T″ : Tables} {L L′ : Locals} {ceilings : List ℕ} {u v turn turn′ : ℕ} → T′ .n ≡ T .n → T′ .m ≡ T .m → T′ .k ≡ T .k → T′ .firsts ≡ T .firsts → T′ .loaded ≡ T .loaded
-    → Going T ceilings u v turn T′ L → Turned T′ L ceilings turn T″ L′ turn′ → Going T ceilings u v turn′ T″ L′
-going-more {T} {T′} {turn = turn} {turn′ = turn′} qn qm qk qf ql f k = record {
-  is = λ h ceiling cs block q s.
-      let o = f .is h ceiling cs block q s in
+pub going-more : {T T′ T″ : Tables} {L L′ L″ : Locals} {ceilings : List ℕ} {turn turn′ : ℕ} → T′ .n ≡ T .n → T′ .m ≡ T .m → T′ .k ≡ T .k → T′ .firsts ≡ T .firsts → T′ .loaded ≡ T .loaded
+    → Going T L ceilings turn T′ L′ → Turned T′ L′ ceilings turn T″ L″ turn′ → Going T L ceilings turn′ T″ L″
+going-more {turn = turn} {turn′ = turn′} qn qm qk qf ql f k = record {
+  is = λ h ceiling cs w q A.
+      let o = f .is h ceiling cs w q A in
       let t = k .is h ceiling cs (o .walk) q (o .at) in
       record {
         walk = t .walk;
@@ -113,25 +116,33 @@ going-more {T} {T′} {turn = turn} {turn′ = turn′} qn qm qk qf ql f k = rec
   keeps = keeps-more qn qm qk qf ql (f .keeps) (k .keeps);
 }
 
--- ---- its end
-pub end-asks : {T T′ : List ℕ → List ℕ → Tables} {L : Locals} {ceilings : List ℕ} {u v turn : ℕ} (ok : WalkOk T u v) → ((aboves loaded : List ℕ) → Going (T aboves loaded) ceilings u v turn (T′ aboves loaded) L)
-    → turn ≤ T (ok .aboves) (ok .loaded) .n → L .tried ≤ turn → RewindOk T′ (L .vertices) (L .blocks) (L .tried) (L .kept)
-end-asks {ceilings = ceilings} ok f on to =
-    let o = f (ok .aboves) (ok .loaded) .is (ok .h) (λ b. getD ceilings (b - 1) 0) (ok .cs) (ok .block) (λ b _ _. refl) (ok .sound) in
-    record {
-      aboves = ok .aboves;
-      loaded = ok .loaded;
-      h = ok .h;
-      cs = ok .cs;
-      block = o .walk .block;
-      sound = o .at .sound;
-      backs = subst (Backs (ok .h) (ok .cs) (o .walk .block)) (o .at .journal-is) (o .at .backs);
-      kept-to = o .at .kept-to;
-      tried-to = omega (arith, ok .sound .follows .room .few-vertices);
-      vs-fit = o .at .vertices-fit;
-      bs-fit = o .at .blocks-fit;
-    }
+-- what the walk is after some turns, for the sound tables that `walk` is lent
+module _ {T T′ : List ℕ → List ℕ → Tables} {fixedmarks : List ℕ} {u v : ℕ} {L L′ : Locals} {ceilings : List ℕ} {turn : ℕ} (ok : WalkOk T fixedmarks u v)
+    (start : Started (T (ok .aboves) (ok .loaded)) fixedmarks u v L)
+    (f : (aboves loaded : List ℕ) → Going (T aboves loaded) L ceilings turn (T′ aboves loaded) L′) where
+  now-at : Onward (ok .h) (λ b. getD ceilings (b - 1) 0) (ok .cs) (walkOn (ok .h) (λ b. getD ceilings (b - 1) 0) (ok .cs) (T (ok .aboves) (ok .loaded) .n) (begun (ok .h) (ok .cs) (ok .block) (u + 1) (v + 1)))
+      (T (ok .aboves) (ok .loaded) .n - turn) (T′ (ok .aboves) (ok .loaded)) L′
+  now-at = f (ok .aboves) (ok .loaded) .is (ok .h) (λ b. getD ceilings (b - 1) 0) (ok .cs) (begun (ok .h) (ok .cs) (ok .block) (u + 1) (v + 1)) (λ b _ _. refl) (start .at (ok .h) (ok .cs) (ok .block) (ok .fixed) (ok .sound))
 
+  pub turn-asks : turn < T′ (ok .aboves) (ok .loaded) .n → L′ .tried ≤ turn → TurnOk T′ L′ turn
+  turn-asks on to = record { aboves = ok .aboves; loaded = ok .loaded; h = ok .h; cs = ok .cs; walk = now-at .walk; at = now-at .at; turn-to = on; tried-to = to }
+
+  pub end-asks : turn ≤ T (ok .aboves) (ok .loaded) .n → L′ .tried ≤ turn → RewindOk T′ (L′ .vertices) (L′ .blocks) (L′ .tried) (L′ .kept)
+  end-asks on to = record {
+    aboves = ok .aboves;
+    loaded = ok .loaded;
+    h = ok .h;
+    cs = ok .cs;
+    block = now-at .walk .block;
+    sound = now-at .at .sound;
+    backs = subst (Backs (ok .h) (ok .cs) (now-at .walk .block)) (now-at .at .journal-is) (now-at .at .backs);
+    kept-to = now-at .at .kept-to;
+    tried-to = omega (arith, ok .sound .follows .room .few-vertices);
+    vs-fit = now-at .at .vertices-fit;
+    bs-fit = now-at .at .blocks-fit;
+  }
+
+-- ---- its end
 ended : {h : Hypergraph} {cs : List Contraction} {w : Walk} {T T′ : Tables} {L : Locals} → At h cs w T L → Rewinds T (L .vertices) (L .blocks) (L .tried) (L .kept) T′ → Ended h cs w T′ (L .tried) (L .kept)
 unfolding walked
 ended {h} {cs} {w} {T′ = T′} {L = L} A r = record {
@@ -142,12 +153,15 @@ ended {h} {cs} {w} {T′ = T′} {L = L} A r = record {
   kept-is = A .kept-is;
 }
 
-pub walks-all : {T T′ T″ : Tables} {L : Locals} {ceilings : List ℕ} {u v turn : ℕ} → T′ .n ≡ T .n → T′ .m ≡ T .m → T′ .k ≡ T .k → T′ .firsts ≡ T .firsts → T′ .loaded ≡ T .loaded
-    → Going T ceilings u v turn T′ L → T .n ≤ turn → Rewinds T′ (L .vertices) (L .blocks) (L .tried) (L .kept) T″ → Walks T ceilings u v T″ (L .tried) (L .kept)
-walks-all {T} {T″ = T″} {L = L} {turn = turn} qn qm qk qf ql f l r = record {
-  is = λ h ceiling cs block q s.
-      let o = f .is h ceiling cs block q s in
+pub walks-all : {T T′ T″ : Tables} {fixedmarks : List ℕ} {u v : ℕ} {L L′ : Locals} {ceilings : List ℕ} {turn : ℕ} → T′ .n ≡ T .n → T′ .m ≡ T .m → T′ .k ≡ T .k → T′ .firsts ≡ T .firsts → T′ .loaded ≡ T .loaded
+    → Started T fixedmarks u v L → Going T L ceilings turn T′ L′ → T .n ≤ turn → Rewinds T′ (L′ .vertices) (L′ .blocks) (L′ .tried) (L′ .kept) T″ → Walks T ceilings fixedmarks u v T″ (L′ .tried) (L′ .kept)
+unfolding walk
+walks-all {T} {T″ = T″} {u = u} {v = v} {L′ = L′} {turn = turn} qn qm qk qf ql start f l r = record {
+  is = λ h ceiling cs block q fixed s.
+      let w : Walk = begun h cs block (u + 1) (v + 1) in
+      let o = f .is h ceiling cs w q (start .at h cs block fixed s) in
       let e : T .n - turn ≡ 0 = omega arith in
-      subst (λ (w : Walk). Ended h cs w T″ (L .tried) (L .kept)) (sym (o .same ∙ ap (λ (i : ℕ). walkOn h ceiling cs i (o .walk)) e ∙ on-none h ceiling cs (o .walk))) (ended (o .at) r);
+      let n : T .n ≡ vertices h = omega (arith, s .follows .says .all-vertices) in
+      subst (λ (w : Walk). Ended h cs w T″ (L′ .tried) (L′ .kept)) (sym (o .same ∙ ap (λ (i : ℕ). walkOn h ceiling cs i (o .walk)) e ∙ on-none h ceiling cs (o .walk)) ∙ ap (λ (i : ℕ). walkOn h ceiling cs i w) n) (ended (o .at) r);
   keeps = keeps-more qn qm qk qf ql (f .keeps) (r .keeps);
 }
