@@ -116,31 +116,55 @@ going-more {turn = turn} {turn′ = turn′} qn qm qk qf ql f k = record {
   keeps = keeps-more qn qm qk qf ql (f .keeps) (k .keeps);
 }
 
--- what the walk is after some turns, for the sound tables that `walk` is lent
-module _ {T T′ : List ℕ → List ℕ → Tables} {fixedmarks : List ℕ} {u v : ℕ} {L L′ : Locals} {ceilings : List ℕ} {turn : ℕ} (ok : WalkOk T fixedmarks u v)
-    (start : Started (T (ok .aboves) (ok .loaded)) fixedmarks u v L)
-    (f : (aboves loaded : List ℕ) → Going (T aboves loaded) L ceilings turn (T′ aboves loaded) L′) where
-  now-at : Onward (ok .h) (λ b. getD ceilings (b - 1) 0) (ok .cs) (walkOn (ok .h) (λ b. getD ceilings (b - 1) 0) (ok .cs) (T (ok .aboves) (ok .loaded) .n) (begun (ok .h) (ok .cs) (ok .block) (u + 1) (v + 1)))
-      (T (ok .aboves) (ok .loaded) .n - turn) (T′ (ok .aboves) (ok .loaded)) L′
-  now-at = f (ok .aboves) (ok .loaded) .is (ok .h) (λ b. getD ceilings (b - 1) 0) (ok .cs) (begun (ok .h) (ok .cs) (ok .block) (u + 1) (v + 1)) (λ b _ _. refl) (start .at (ok .h) (ok .cs) (ok .block) (ok .fixed) (ok .sound))
+-- there is a walk that tables and variables are those of
+pub record HasWalk (T : List ℕ → List ℕ → Tables) (L : Locals) : Type 0 where
+  pub aboves : List ℕ
+  pub loaded : List ℕ
+  pub h : Hypergraph
+  pub cs : List Contraction
+  pub walk : Walk
+  pub at : At h cs walk (T aboves loaded) L
 
-  pub turn-asks : turn < T′ (ok .aboves) (ok .loaded) .n → L′ .tried ≤ turn → TurnOk T′ L′ turn
-  turn-asks on to = record { aboves = ok .aboves; loaded = ok .loaded; h = ok .h; cs = ok .cs; walk = now-at .walk; at = now-at .at; turn-to = on; tried-to = to }
+pub has-first : {T : List ℕ → List ℕ → Tables} {fixedmarks : List ℕ} {u v : ℕ} {L : Locals} (ok : WalkOk T fixedmarks u v) → Started (T (ok .aboves) (ok .loaded)) fixedmarks u v L → HasWalk T L
+has-first {u = u} {v = v} ok start = record {
+  aboves = ok .aboves;
+  loaded = ok .loaded;
+  h = ok .h;
+  cs = ok .cs;
+  walk = begun (ok .h) (ok .cs) (ok .block) (u + 1) (v + 1);
+  at = start .at (ok .h) (ok .cs) (ok .block) (ok .fixed) (ok .sound);
+}
 
-  pub end-asks : turn ≤ T (ok .aboves) (ok .loaded) .n → L′ .tried ≤ turn → RewindOk T′ (L′ .vertices) (L′ .blocks) (L′ .tried) (L′ .kept)
-  end-asks on to = record {
-    aboves = ok .aboves;
-    loaded = ok .loaded;
-    h = ok .h;
-    cs = ok .cs;
-    block = now-at .walk .block;
-    sound = now-at .at .sound;
-    backs = subst (Backs (ok .h) (ok .cs) (now-at .walk .block)) (now-at .at .journal-is) (now-at .at .backs);
-    kept-to = now-at .at .kept-to;
-    tried-to = omega (arith, ok .sound .follows .room .few-vertices);
-    vs-fit = now-at .at .vertices-fit;
-    bs-fit = now-at .at .blocks-fit;
-  }
+-- there is one after some turns, so that a turn, or the way back, has what it asks
+module _ {T T′ : List ℕ → List ℕ → Tables} {L L′ : Locals} {ceilings : List ℕ} {turn : ℕ} (first : HasWalk T L) (f : (aboves loaded : List ℕ) → Going (T aboves loaded) L ceilings turn (T′ aboves loaded) L′) where
+  has-later : HasWalk T′ L′
+  has-later =
+      let o = f (first .aboves) (first .loaded) .is (first .h) (λ b. getD ceilings (b - 1) 0) (first .cs) (first .walk) (λ b _ _. refl) (first .at) in
+      record { aboves = first .aboves; loaded = first .loaded; h = first .h; cs = first .cs; walk = o .walk; at = o .at }
+
+  pub turn-asks : turn < T′ (first .aboves) (first .loaded) .n → L′ .tried ≤ turn → TurnOk T′ L′ turn
+  unfolding has-later
+  turn-asks on to =
+      let w = has-later in
+      record { aboves = w .aboves; loaded = w .loaded; h = w .h; cs = w .cs; walk = w .walk; at = w .at; turn-to = on; tried-to = to }
+
+  pub end-asks : turn ≤ T′ (first .aboves) (first .loaded) .n → L′ .tried ≤ turn → RewindOk T′ (L′ .vertices) (L′ .blocks) (L′ .tried) (L′ .kept)
+  unfolding has-later
+  end-asks on to =
+      let w = has-later in
+      record {
+        aboves = w .aboves;
+        loaded = w .loaded;
+        h = w .h;
+        cs = w .cs;
+        block = w .walk .block;
+        sound = w .at .sound;
+        backs = subst (Backs (w .h) (w .cs) (w .walk .block)) (w .at .journal-is) (w .at .backs);
+        kept-to = w .at .kept-to;
+        tried-to = omega (arith, w .at .sound .follows .room .few-vertices);
+        vs-fit = w .at .vertices-fit;
+        bs-fit = w .at .blocks-fit;
+      }
 
 -- ---- its end
 ended : {h : Hypergraph} {cs : List Contraction} {w : Walk} {T T′ : Tables} {L : Locals} → At h cs w T L → Rewinds T (L .vertices) (L .blocks) (L .tried) (L .kept) T′ → Ended h cs w T′ (L .tried) (L .kept)

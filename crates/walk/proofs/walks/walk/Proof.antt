@@ -7,14 +7,17 @@ use lib.ListN.{length, length-replicate}
 use Rattle.best_move.specs.Peak.{Peaked}
 use Rattle.search_moves.specs.Lent.{lent}
 use Rattle.walk.specs.Steps.{locals, Going}
-use Rattle.walk.specs.Whole.{going-none, turn-asks, going-more, end-asks, walks-all}
+use Rattle.walk.specs.Whole.{HasWalk, started, has-first, going-none, turn-asks, going-more, end-asks, walks-all}
 use Rattle.walk.proofs.walks.walk.Statement.{statement}
 use Rattle.walk.proofs.walks.walk.Tie as tie
 
 abbrev Inv-loop : tie.InvT-loop
 Inv-loop counts₀ visited₀ gains₀ blocks₀ loads₀ pins sizes bits weights netweights firsts ceilings n m k total u v marks₀ peaks₀ movers₀ origins₀ s₀ counts visited gains blocks loads marks peaks movers origins s =
     (s .spent ≤ n) × (s .tried ≤ s .spent)
-    × ((aboves loaded : List ℕ) → Going (lent counts₀ visited₀ gains₀ blocks₀ loads₀ pins sizes bits weights netweights firsts n m k total aboves loaded) ceilings u v (s .spent) (lent counts visited gains blocks loads pins sizes bits weights netweights firsts n m k (s .total) aboves loaded) (locals marks movers origins (s .tried) (s .kept) (s .low) (s .heaviest)))
+    × HasWalk (lent counts₀ visited₀ gains₀ blocks₀ loads₀ pins sizes bits weights netweights firsts n m k total) (locals marks₀ movers₀ origins₀ (s₀ .tried) (s₀ .kept) (s₀ .low) (s₀ .heaviest))
+    × ((aboves loaded : List ℕ) → Going
+        (lent counts₀ visited₀ gains₀ blocks₀ loads₀ pins sizes bits weights netweights firsts n m k total aboves loaded) (locals marks₀ movers₀ origins₀ (s₀ .tried) (s₀ .kept) (s₀ .low) (s₀ .heaviest)) ceilings (s .spent)
+        (lent counts visited gains blocks loads pins sizes bits weights netweights firsts n m k (s .total) aboves loaded) (locals marks movers origins (s .tried) (s .kept) (s .low) (s .heaviest)))
     × Peaked gains peaks n k
     × (length counts ≡ length counts₀) × (length visited ≡ length visited₀) × (length gains ≡ length gains₀) × (length blocks ≡ length blocks₀)
 
@@ -24,12 +27,12 @@ abbrev μ-loop : tie.MeasureT-loop
 mark-vertex-requires : tie.Need-mark-vertex-requires Inv-loop μ-loop
 mark-vertex-requires c κs =
     let ok = c .before .before .before .before .before .before .before .before .before .before .pre in
-    (length-replicate {A = ℕ} 48 0, omega (arith, ok .u-in, ok .sound .follows .room .few-vertices))
+    (ok .fixed .len, omega (arith, ok .u-in, ok .sound .follows .room .few-vertices))
 
 mark-vertex-requires-2 : tie.Need-mark-vertex-requires-2 Inv-loop μ-loop
 mark-vertex-requires-2 c κs =
     let ok = c .before .before .before .before .before .before .before .before .before .before .before .before .pre in
-    (c .before .mark-vertex .ensures .0 .len ∙ length-replicate {A = ℕ} 48 0, omega (arith, ok .v-in, ok .sound .follows .room .few-vertices))
+    (c .before .mark-vertex .ensures .0 .len ∙ ok .fixed .len, omega (arith, ok .v-in, ok .sound .follows .room .few-vertices))
 
 survey-requires : tie.Need-survey-requires Inv-loop μ-loop
 survey-requires c κs =
@@ -53,7 +56,8 @@ loop-holds c =
     let fit = length-replicate {A = ℕ} 1024 0 in (
       omega arith,
       omega arith,
-      λ aboves loaded. going-none (a .u) (a .v) (one .0) (two .0) (one .1) (two .1) _ _ (ok .u-in) (ok .u-on) (ok .v-in) (ok .v-on) fit fit refl (c .heaviest .ensures),
+      has-first ok (started (a .u) (a .v) (one .0) (two .0) (one .1) (two .1) _ (ok .u-in) (ok .u-on) (ok .v-in) (ok .v-on) fit fit refl (c .heaviest .ensures)),
+      λ aboves loaded. going-none _ _ _,
       c .before .before .survey .ensures,
       refl,
       refl,
@@ -67,7 +71,7 @@ advance-requires c κs =
     let at-loop = at-if1 .before .before in
     let start = at-loop .before .before .before .before .before .before .before .before .before .before .before .before .before .before .before .before .before .before .before in
     let l = at-loop .loop in
-    (turn-asks (start .pre) (l .inv .2) (at-if1 .if1 .taken) (l .inv .1), l .inv .3)
+    (turn-asks (l .inv .2) (l .inv .3) (at-if1 .if1 .taken) (l .inv .1), l .inv .4)
 
 loop-less : tie.Need-loop-less Inv-loop μ-loop
 loop-less c =
@@ -86,7 +90,8 @@ loop-again c =
     let e = turned .0 (ok .aboves) (ok .loaded) in (
       e .to,
       e .tried-to,
-      λ aboves loaded. going-more refl refl refl refl refl (l .inv .2 aboves loaded) (turned .0 aboves loaded),
+      l .inv .2,
+      λ aboves loaded. going-more refl refl refl refl refl (l .inv .3 aboves loaded) (turned .0 aboves loaded),
       turned .1,
       omega (arith, l .inv, lengths),
       omega (arith, l .inv, lengths),
@@ -98,7 +103,7 @@ rewind-requires : tie.Need-rewind-requires Inv-loop μ-loop
 rewind-requires c κs =
     let at-loop = c .before .before .before .before .before .before .before .before .before in
     let start = at-loop .before .before .before .before .before .before .before .before .before .before .before .before .before .before .before .before .before .before .before in
-    let l = at-loop .loop in end-asks (start .pre) (l .inv .2) (l .inv .0) (l .inv .1)
+    let l = at-loop .loop in end-asks (l .inv .2) (l .inv .3) (l .inv .0) (l .inv .1)
 
 same-length : tie.Need-same-length Inv-loop μ-loop
 same-length c =
@@ -129,7 +134,18 @@ returns c =
     let at-rewind = c .before .before .before .before .before .before .before in
     let at-if1 = at-rewind .before .before .before .before .before .before .before .before in
     let at-loop = at-if1 .before .before in
-    λ aboves loaded. walks-all refl refl refl refl refl (at-loop .loop .inv .2 aboves loaded) (at-if1 .if1 .left) (at-rewind .rewind .ensures aboves loaded)
+    let at-heaviest = at-loop .before in
+    let at-mark-vertex2 = at-heaviest .before .before .before .before .before in
+    let at-mark-vertex = at-mark-vertex2 .before .before in
+    let start = at-heaviest .before .before .before .before .before .before .before .before .before .before .before .before .before .before .before .before .before .before in
+    let a = start .args in
+    let ok = start .pre in
+    let one = at-mark-vertex .mark-vertex .ensures in
+    let two = at-mark-vertex2 .mark-vertex2 .ensures in
+    let fit = length-replicate {A = ℕ} 1024 0 in
+    λ aboves loaded. walks-all refl refl refl refl refl
+    (started (a .u) (a .v) (one .0) (two .0) (one .1) (two .1) _ (ok .u-in) (ok .u-on) (ok .v-in) (ok .v-on) fit fit refl (at-heaviest .heaviest .ensures))
+    (at-loop .loop .inv .3 aboves loaded) (at-if1 .if1 .left) (at-rewind .rewind .ensures aboves loaded)
 
 pub walk-spec : {M : Type 1} → statement M
 walk-spec =
