@@ -4,16 +4,16 @@ use Prim.Native.Nat.{ℕ, suc, _+_, _-_, _<_, _≤_, _^_}
 use native.Mathlib.Decide.{ℕ-discrete}
 use native.Mathlib.Omega.{arith}
 use mathlib.Core.Path.{_≡_, refl, sym, ap, ap₂, _∙_, subst}
-use mathlib.Core.Bool.{Bool, true, false, not, _&&_, _||_, cond, and-true}
+use mathlib.Core.Bool.{Bool, true, false, not, _&&_, _||_, cond}
 use mathlib.Core.List.{List}
 use borrow.Author.Tests.{eq-eqb, ne-eqb, lt-ltb, le-ltb}
-use lib.Dec.{ltb}
+use lib.Dec.{eqb, ltb}
 use lib.IntN.{ℤ, pos}
-use lib.ListN.{length, getD, replicate, length-replicate}
+use lib.ListN.{length, getD}
 use lib.Signed.{ltZ}
 use Rattle.laws.specs.Place.{place}
 use Rattle.model.specs.Catalogue.{Hypergraph}
-use Rattle.model.specs.Measure.{Contraction, above, onBoard, mayMove}
+use Rattle.model.specs.Measure.{Contraction, above, onBoard, isFixed, mayMove}
 use Rattle.model.specs.Search.{Best, none, best, Polish, polishBest, polishTurn, polishOn, polish}
 use Rattle.guarantees.specs.Caps.{CeilingIs}
 use Rattle.guarantees.specs.Ends.{may-on}
@@ -24,7 +24,7 @@ use Rattle.best_move.specs.declared.open.Pick.{Pick}
 use Rattle.best_move.specs.declared.open.Pick.the-variants.{Move as Step, Nothing}
 use Rattle.best_move.specs.Open.{bestOf, gainIn, openIn, Chosen}
 use Rattle.best_move.specs.OpenLink.{polish-is}
-use Rattle.search_moves.specs.Marks.{candidateBit, blank-bit, Marked}
+use Rattle.search_moves.specs.Marks.{candidateBit, Marked}
 use Rattle.search_moves.specs.Tabled.{holds, pair-open}
 use Rattle.operations.specs.Keeping.{keeps-none, keeps-more}
 use Rattle.polish.specs.Polishing.{sits, rise, riseOf, rise-open}
@@ -72,7 +72,8 @@ pub record PolishOk (T : List ℕ → List ℕ → Tables) (fixedmarks : List �
 
 -- the polish after some passes, from its first tables on
 pub record Passing (T : Tables) (marks ceilings : List ℕ) (T′ : Tables) (left moves : ℕ) : Type 0 where
-  pub is : (h : Hypergraph) (ceiling : ℕ → ℕ) (cs : List Contraction) (q : Polish) → CeilingIs ceilings h ceiling → PolishAt h cs q T marks 0 → Further h ceiling cs (polishOn h ceiling cs (T .total) q) left T′ marks moves
+  pub is : (h : Hypergraph) (ceiling : ℕ → ℕ) (cs : List Contraction) (q : Polish) → CeilingIs ceilings h ceiling → PolishAt h cs q T marks 0
+      → Further h ceiling cs (polishOn h ceiling cs (T .total) q) left T′ marks moves
   pub keeps : Keeps T T′
 
 -- tables and number at the end of P: the partition and the number of moves are those of model's polish
@@ -82,7 +83,8 @@ pub record Smooth (h : Hypergraph) (cs : List Contraction) (q : Polish) (T : Tab
 
 -- what `polish` does
 pub record Polishes (T : Tables) (ceilings fixedmarks : List ℕ) (T′ : Tables) (moves : ℕ) : Type 0 where
-  pub is : (h : Hypergraph) (ceiling : ℕ → ℕ) (cs : List Contraction) (block : ℕ → ℕ) → CeilingIs ceilings h ceiling → FixedIs fixedmarks h cs → Sound h cs block T → Smooth h cs (polish h ceiling cs block) T′ moves
+  pub is : (h : Hypergraph) (ceiling : ℕ → ℕ) (cs : List Contraction) (block : ℕ → ℕ) → CeilingIs ceilings h ceiling → FixedIs fixedmarks h cs → Sound h cs block T
+      → Smooth h cs (polish h ceiling cs block) T′ moves
   pub keeps : Keeps T T′
 
 -- ---- one turn of model's polish
@@ -195,47 +197,52 @@ on-table {cs = cs} {T = T} s x l = go (ℕ-discrete (above cs (x + 1)) 0)
         off (yes z) = omega arith
         off (no z) = absurd (q (on-board s x l (omega (arith, z))))
 
-pub passing-none : (T : Tables) (ceilings : List ℕ) {marks : List ℕ} → Marked (replicate 48 0) marks (sits (T .blocks) (T .n)) → Passing T marks ceilings T (T .total) 0
-unfolding polish sits
-passing-none T ceilings {marks} m = record {
-  is = λ h ceiling cs block lim s. record {
-    polish = record { block = block; made = 0 };
-    at = record {
-      sound = s;
-      made-is = refl;
-      board = λ x l.
-          m .marks x (omega (arith, s .follows .room .few-vertices))
-          ∙ ap₂ (λ (c d : Bool). c || ((ltb x (T .n) && ltb 0 (getD (T .blocks) x 0)) && not d)) (blank-bit 0 x) (blank-bit 1 x)
-          ∙ and-true (ltb x (T .n) && ltb 0 (getD (T .blocks) x 0))
-          ∙ ap (λ (c : Bool). c && ltb 0 (getD (T .blocks) x 0)) (lt-ltb x (T .n) l)
-          ∙ on-table s x l;
-      marks-fit = m .len ∙ length-replicate {A = ℕ} 48 0;
-    };
-    same = ap (λ (i : ℕ). polishOn h ceiling cs i (record { block = block; made = 0 })) (sym (s .total-is));
-  };
-  keeps = keeps-none T;
+-- the polish before its first pass
+pub polish-first : {h : Hypergraph} {cs : List Contraction} {block : ℕ → ℕ} {T : Tables} {fixedmarks marks : List ℕ}
+    → FixedIs fixedmarks h cs → Sound h cs block T → Marked fixedmarks marks (sits (T .blocks) (T .n)) → PolishAt h cs (record { block = block; made = 0 }) T marks 0
+unfolding sits
+polish-first {h} {cs} {T = T} f s m = record {
+  sound = s;
+  made-is = refl;
+  board = λ x l.
+      let few : x < 1024 = omega (arith, s .follows .room .few-vertices) in
+      m .marks x few
+      ∙ ap₂ (λ (c d : Bool). c || ((ltb x (T .n) && ltb 0 (getD (T .blocks) x 0)) && not d)) (ap (λ (z : ℕ). eqb z 1) (f .no-candidate x few))
+      (f .fixed x (omega (arith, s .follows .says .all-vertices)))
+      ∙ ap₂ (λ (c d : Bool). c && d && not (isFixed h cs (x + 1))) (lt-ltb x (T .n) l) (on-table s x l);
+  marks-fit = m .len ∙ f .len;
 }
 
-pub pass-asks : {T T′ : List ℕ → List ℕ → Tables} {marks ceilings : List ℕ} {left moves : ℕ} (ok : PolishOk T) → ((aboves loaded : List ℕ) → Passing (T aboves loaded) marks ceilings (T′ aboves loaded) left moves) → 1 ≤ left → moves + left < 2 ^ 32 → PassOk T′ marks left moves
-pass-asks {ceilings = ceilings} ok f l k =
-    let o = f (ok .aboves) (ok .loaded) .is (ok .h) (λ b. getD ceilings (b - 1) 0) (ok .cs) (ok .block) (λ b _ _. refl) (ok .sound) in
+pub passing-none : (T : Tables) (marks ceilings : List ℕ) → Passing T marks ceilings T (T .total) 0
+passing-none T marks ceilings = record { is = λ h ceiling cs q lim A. record { polish = q; at = A; same = refl }; keeps = keeps-none T }
+
+pub pass-asks : {T T′ : List ℕ → List ℕ → Tables} {fixedmarks marks ceilings : List ℕ} {left moves : ℕ} (ok : PolishOk T fixedmarks)
+    → Marked fixedmarks marks (sits (T (ok .aboves) (ok .loaded) .blocks) (T (ok .aboves) (ok .loaded) .n))
+    → ((aboves loaded : List ℕ) → Passing (T aboves loaded) marks ceilings (T′ aboves loaded) left moves) → 1 ≤ left → moves + left < 2 ^ 32 → PassOk T′ marks left moves
+pass-asks {ceilings = ceilings} ok m f l k =
+    let o = f (ok .aboves) (ok .loaded) .is (ok .h) (λ b. getD ceilings (b - 1) 0) (ok .cs) (record { block = ok .block; made = 0 }) (λ b _ _. refl) (polish-first (ok .fixed) (ok .sound) m) in
     record { aboves = ok .aboves; loaded = ok .loaded; h = ok .h; cs = ok .cs; polish = o .polish; at = o .at; some = l; small = k }
 
 pub passing-more : {T T′ T″ : Tables} {marks ceilings : List ℕ} {left moves left′ moves′ : ℕ} → T′ .n ≡ T .n → T′ .m ≡ T .m → T′ .k ≡ T .k → T′ .firsts ≡ T .firsts → T′ .loaded ≡ T .loaded
     → Passing T marks ceilings T′ left moves → Passed T′ marks ceilings left moves T″ left′ moves′ → Passing T marks ceilings T″ left′ moves′
 passing-more qn qm qk qf ql f k = record {
-  is = λ h ceiling cs block lim s.
-      let o = f .is h ceiling cs block lim s in
+  is = λ h ceiling cs q lim A.
+      let o = f .is h ceiling cs q lim A in
       let t = k .is h ceiling cs (o .polish) lim (o .at) in
       record { polish = t .polish; at = t .at; same = o .same ∙ t .same };
   keeps = keeps-more qn qm qk qf ql (f .keeps) (k .keeps);
 }
 
-pub polishes-all : {T T′ : Tables} {marks ceilings : List ℕ} {left moves : ℕ} → Passing T marks ceilings T′ left moves → left ≤ 0 → Polishes T ceilings T′ moves
-polishes-all {T′ = T′} {left = left} {moves = moves} f l = record {
-  is = λ h ceiling cs block lim s.
-      let o = f .is h ceiling cs block lim s in
+pub polishes-all : {T T′ : Tables} {fixedmarks marks ceilings : List ℕ} {left moves : ℕ} → Marked fixedmarks marks (sits (T .blocks) (T .n)) → Passing T marks ceilings T′ left moves → left ≤ 0
+    → Polishes T ceilings fixedmarks T′ moves
+unfolding polish
+polishes-all {T′ = T′} {left = left} {moves = moves} m f l = record {
+  is = λ h ceiling cs block lim fixed s.
+      let q : Polish = record { block = block; made = 0 } in
+      let o = f .is h ceiling cs q lim (polish-first fixed s m) in
       let e : left ≡ 0 = omega arith in
-      subst (λ (q : Polish). Smooth h cs q T′ moves) (sym (o .same ∙ ap (λ (i : ℕ). polishOn h ceiling cs i (o .polish)) e ∙ polish-none h ceiling cs (o .polish))) (record { sound = o .at .sound; moves-is = o .at .made-is });
+      subst (λ (p : Polish). Smooth h cs p T′ moves)
+      (sym (o .same ∙ ap (λ (i : ℕ). polishOn h ceiling cs i (o .polish)) e ∙ polish-none h ceiling cs (o .polish)) ∙ ap (λ (i : ℕ). polishOn h ceiling cs i q) (s .total-is))
+      (record { sound = o .at .sound; moves-is = o .at .made-is });
   keeps = f .keeps;
 }

@@ -1,5 +1,5 @@
--- P: all vertices on the board are candidates, the best open pair is moved while its gain is above 0. What the code's variables are for
--- model's polish on its way, and what one move, and the whole, ask and do. Rests on Tabled. Assumes nothing.
+-- P: the vertices on the board that are not fixed are candidates, the best open pair is moved while its gain is above 0. What the code's
+-- variables are for model's polish on its way, and what one move, and the whole, ask and do. Rests on Tabled. Assumes nothing.
 use Prim.Native.Nat.{ℕ, _+_, _*_, _<_, _≤_, _^_}
 use native.Mathlib.Decide.{ℕ-discrete}
 use native.Mathlib.Omega.{arith}

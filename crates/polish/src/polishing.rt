@@ -168,7 +168,7 @@ fn pass(
     }
 }
 
-// P.
+// P. A fixed vertex is marked in `fixedmarks` as if it had moved, so that it is passed over.
 pub fn polish(
     counts: &mut [u16],
     visited: &mut [u16],

@@ -122,7 +122,8 @@ pub record WalkOk (T : List ℕ → List ℕ → Tables) (fixedmarks : List ℕ)
 
 -- the walk after some turns, from its first tables and variables on
 pub record Going (T : Tables) (L : Locals) (ceilings : List ℕ) (turn : ℕ) (T′ : Tables) (L′ : Locals) : Type 0 where
-  pub is : (h : Hypergraph) (ceiling : ℕ → ℕ) (cs : List Contraction) (w : Walk) → CeilingIs ceilings h ceiling → At h cs w T L → Onward h ceiling cs (walkOn h ceiling cs (T .n) w) (T .n - turn) T′ L′
+  pub is : (h : Hypergraph) (ceiling : ℕ → ℕ) (cs : List Contraction) (w : Walk) → CeilingIs ceilings h ceiling → At h cs w T L
+      → Onward h ceiling cs (walkOn h ceiling cs (T .n) w) (T .n - turn) T′ L′
   pub keeps : Keeps T T′
 
 -- tables and numbers at the end of W: the partition, tried and kept are those of model's walk
@@ -133,5 +134,6 @@ pub record Ended (h : Hypergraph) (cs : List Contraction) (w : Walk) (T : Tables
 
 -- what `walk` does
 pub record Walks (T : Tables) (ceilings fixedmarks : List ℕ) (u v : ℕ) (T′ : Tables) (tried kept : ℕ) : Type 0 where
-  pub is : (h : Hypergraph) (ceiling : ℕ → ℕ) (cs : List Contraction) (block : ℕ → ℕ) → CeilingIs ceilings h ceiling → FixedIs fixedmarks h cs → Sound h cs block T → Ended h cs (walk h ceiling cs block (u + 1) (v + 1)) T′ tried kept
+  pub is : (h : Hypergraph) (ceiling : ℕ → ℕ) (cs : List Contraction) (block : ℕ → ℕ) → CeilingIs ceilings h ceiling → FixedIs fixedmarks h cs → Sound h cs block T
+      → Ended h cs (walk h ceiling cs block (u + 1) (v + 1)) T′ tried kept
   pub keeps : Keeps T T′

@@ -23,7 +23,7 @@ use Rattle.search_moves.specs.Marks.{candidateBit, movedBit, Marked, marked-mor
 use Rattle.operations.specs.Keeping.{keeps-none, keeps-more}
 use Rattle.walk.specs.Back.{Backs, backs-none, RewindOk, Rewinds}
 use Rattle.walk.specs.Kept.{worth, heaviestIn, heaviest-is}
-use Rattle.walk.specs.Steps.{Locals, locals, At, TurnOk, Onward, Turned, WalkOk, Going, Ended, Walks}
+use Rattle.walk.specs.Steps.{Locals, locals, At, TurnOk, Turned, WalkOk, Going, Ended, Walks}
 use Rattle.walk.specs.Turning.{on-none}
 
 -- ---- the start
@@ -69,7 +69,8 @@ module _ {fixedmarks l l′ : List ℕ} (u v : ℕ) (a : Marked fixedmarks l (λ
     first-moved x k = marked-more a b .moved x (omega arith) ∙ f .fixed x k
 
   module _ (T : Tables) (u-in : u < T .n) (u-on : 1 ≤ getD (T .blocks) u 0) (v-in : v < T .n) (v-on : 1 ≤ getD (T .blocks) v 0) where
-    pub started : {vs bs : List ℕ} {tried most : ℕ} → length vs ≡ 1024 → length bs ≡ 1024 → tried ≡ 0 → most ≡ heaviestIn (T .loads) (T .k) → Started T fixedmarks u v (locals l′ vs bs tried 0 (T .total) most)
+    pub started : {vs bs : List ℕ} {tried most : ℕ} → length vs ≡ 1024 → length bs ≡ 1024 → tried ≡ 0 → most ≡ heaviestIn (T .loads) (T .k)
+        → Started T fixedmarks u v (locals l′ vs bs tried 0 (T .total) most)
     unfolding any
     started {vs} {bs} lv lb q e = record {
       at = λ h cs block f s.
@@ -136,7 +137,8 @@ has-first {u = u} {v = v} ok start = record {
 }
 
 -- there is one after some turns, so that a turn, or the way back, has what it asks
-module _ {T T′ : List ℕ → List ℕ → Tables} {L L′ : Locals} {ceilings : List ℕ} {turn : ℕ} (first : HasWalk T L) (f : (aboves loaded : List ℕ) → Going (T aboves loaded) L ceilings turn (T′ aboves loaded) L′) where
+module _ {T T′ : List ℕ → List ℕ → Tables} {L L′ : Locals} {ceilings : List ℕ} {turn : ℕ} (first : HasWalk T L)
+    (f : (aboves loaded : List ℕ) → Going (T aboves loaded) L ceilings turn (T′ aboves loaded) L′) where
   has-later : HasWalk T′ L′
   has-later =
       let o = f (first .aboves) (first .loaded) .is (first .h) (λ b. getD ceilings (b - 1) 0) (first .cs) (first .walk) (λ b _ _. refl) (first .at) in
@@ -178,7 +180,8 @@ ended {h} {cs} {w} {T′ = T′} {L = L} A r = record {
 }
 
 pub walks-all : {T T′ T″ : Tables} {fixedmarks : List ℕ} {u v : ℕ} {L L′ : Locals} {ceilings : List ℕ} {turn : ℕ} → T′ .n ≡ T .n → T′ .m ≡ T .m → T′ .k ≡ T .k → T′ .firsts ≡ T .firsts → T′ .loaded ≡ T .loaded
-    → Started T fixedmarks u v L → Going T L ceilings turn T′ L′ → T .n ≤ turn → Rewinds T′ (L′ .vertices) (L′ .blocks) (L′ .tried) (L′ .kept) T″ → Walks T ceilings fixedmarks u v T″ (L′ .tried) (L′ .kept)
+    → Started T fixedmarks u v L → Going T L ceilings turn T′ L′ → T .n ≤ turn → Rewinds T′ (L′ .vertices) (L′ .blocks) (L′ .tried) (L′ .kept) T″
+    → Walks T ceilings fixedmarks u v T″ (L′ .tried) (L′ .kept)
 unfolding walk
 walks-all {T} {T″ = T″} {u = u} {v = v} {L′ = L′} {turn = turn} qn qm qk qf ql start f l r = record {
   is = λ h ceiling cs block q fixed s.
@@ -186,6 +189,8 @@ walks-all {T} {T″ = T″} {u = u} {v = v} {L′ = L′} {turn = turn} qn qm qk
       let o = f .is h ceiling cs w q (start .at h cs block fixed s) in
       let e : T .n - turn ≡ 0 = omega arith in
       let n : T .n ≡ vertices h = omega (arith, s .follows .says .all-vertices) in
-      subst (λ (w : Walk). Ended h cs w T″ (L′ .tried) (L′ .kept)) (sym (o .same ∙ ap (λ (i : ℕ). walkOn h ceiling cs i (o .walk)) e ∙ on-none h ceiling cs (o .walk)) ∙ ap (λ (i : ℕ). walkOn h ceiling cs i w) n) (ended (o .at) r);
+      subst (λ (w : Walk). Ended h cs w T″ (L′ .tried) (L′ .kept))
+      (sym (o .same ∙ ap (λ (i : ℕ). walkOn h ceiling cs i (o .walk)) e ∙ on-none h ceiling cs (o .walk)) ∙ ap (λ (i : ℕ). walkOn h ceiling cs i w) n)
+      (ended (o .at) r);
   keeps = keeps-more qn qm qk qf ql (f .keeps) (r .keeps);
 }

@@ -273,7 +273,7 @@ fn rewind(
     t
 }
 
-// W,u,v. Vertices count from 0.
+// W,u,v. Vertices count from 0. A fixed vertex is marked in `fixedmarks` as if it had moved, so that it is passed over.
 pub fn walk(
     counts: &mut [u16],
     visited: &mut [u16],

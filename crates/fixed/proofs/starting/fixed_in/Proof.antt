@@ -45,7 +45,8 @@ loop-again : tie.Need-loop-again Inv-loop μ-loop
 loop-again c =
     let at-loop = c .before .before .before .before .before in
     let start = at-loop .before in
-    (omega arith, c .join-fixed .ensures .len ∙ at-loop .loop .inv .1, stacked-more (now (start .args .into)) (now (start .args .gone)) (at-loop .loop .i) (at-loop .loop .inv .2) (c .join-fixed .ensures))
+    let one-more = stacked-more (now (start .args .into)) (now (start .args .gone)) (at-loop .loop .i) (at-loop .loop .inv .2) (c .join-fixed .ensures) in
+    (omega arith, c .join-fixed .ensures .len ∙ at-loop .loop .inv .1, one-more)
 
 returns : tie.Need-returns Inv-loop μ-loop
 returns c =

@@ -35,7 +35,8 @@ returns c =
     let at-is-pin = taken .before in
     let at-index = at-is-pin .before .before .before in
     let start = at-index .before in
-    joined-fixed (start .args .into) (start .args .gone) (at-index2 .index2 .result - 1) (at-index .index .result - 1) (ap (λ (z : ℕ). z - 1) (at-index2 .index2 .ensures)) (ap (λ (z : ℕ). z - 1) (at-index .index .ensures))
+    joined-fixed (start .args .into) (start .args .gone) (at-index2 .index2 .result - 1) (at-index .index .result - 1)
+    (ap (λ (z : ℕ). z - 1) (at-index2 .index2 .ensures)) (ap (λ (z : ℕ). z - 1) (at-index .index .ensures))
     (sym (at-is-pin .is-pin .ensures) ∙ taken .if1 .taken) (at-take .take .ensures) (c .put .ensures)
 
 returns-2 : tie.Need-returns-2
@@ -43,7 +44,8 @@ returns-2 c =
     let at-is-pin = c .before in
     let at-index = at-is-pin .before .before .before in
     let start = at-index .before in
-    joined-free (now (start .args .marks)) (start .args .into) (start .args .gone) (at-index .index .result - 1) (ap (λ (z : ℕ). z - 1) (at-index .index .ensures)) (sym (at-is-pin .is-pin .ensures) ∙ c .if1 .left)
+    joined-free (now (start .args .marks)) (start .args .into) (start .args .gone) (at-index .index .result - 1)
+    (ap (λ (z : ℕ). z - 1) (at-index .index .ensures)) (sym (at-is-pin .is-pin .ensures) ∙ c .if1 .left)
 
 pub join-fixed-spec : {M : Type 1} → statement M
 join-fixed-spec =

@@ -24,7 +24,7 @@ mark-board-requires : tie.Need-mark-board-requires Inv-loop μ-loop
 mark-board-requires c κs =
     let start = c .before .before .before .before .before .before .before .before .before .before .before in
     let follows = start .pre .sound .follows in
-    (length-replicate {A = ℕ} 48 0, follows .room .few-vertices, follows .world .lists .blocks-fit)
+    (start .pre .fixed .len, follows .room .few-vertices, follows .world .lists .blocks-fit)
 
 survey-requires : tie.Need-survey-requires Inv-loop μ-loop
 survey-requires c κs =
@@ -33,16 +33,15 @@ survey-requires c κs =
     (length-replicate {A = ℤ} 16 (pos 0), frame .few-vertices, frame .few, frame .gains-fit)
 
 loop-holds : tie.Need-loop-holds Inv-loop μ-loop
-loop-holds c =
-    let at-mark-board = c .before .before .before in
-    (omega arith, λ aboves loaded. passing-none _ _ (at-mark-board .mark-board .ensures), c .survey .ensures, refl, refl, refl, refl)
+loop-holds c = (omega arith, λ aboves loaded. passing-none _ _ _, c .survey .ensures, refl, refl, refl, refl)
 
 pass-requires : tie.Need-pass-requires Inv-loop μ-loop
 pass-requires c κs =
     let at-if1 = c .before .before .before .before .before .before .before in
-    let start = at-if1 .before .before .before .before .before .before .before .before .before .before .before .before .before .before .before .before .before .before in
+    let at-mark-board = at-if1 .before .before .before .before .before .before in
+    let start = at-mark-board .before .before .before .before .before .before .before .before .before .before .before .before in
     let l = c .before .before .before .before .before .before .before .before .before .loop in
-    (pass-asks (start .pre) (l .inv .1) (at-if1 .if1 .taken) (omega (arith, l .inv .0, start .fits .total)), l .inv .2)
+    (pass-asks (start .pre) (at-mark-board .mark-board .ensures) (l .inv .1) (at-if1 .if1 .taken) (omega (arith, l .inv .0, start .fits .total)), l .inv .2)
 
 loop-less : tie.Need-loop-less Inv-loop μ-loop
 loop-less c =
@@ -79,7 +78,9 @@ same-length-4 : tie.Need-same-length-4 Inv-loop μ-loop
 same-length-4 c = omega (arith, c .before .before .loop .inv)
 
 returns : tie.Need-returns Inv-loop μ-loop
-returns c = λ aboves loaded. polishes-all (c .before .before .loop .inv .1 aboves loaded) (c .if1 .left)
+returns c =
+    let at-mark-board = c .before .before .before .before .before .before in
+    λ aboves loaded. polishes-all (at-mark-board .mark-board .ensures) (c .before .before .loop .inv .1 aboves loaded) (c .if1 .left)
 
 pub polish-spec : {M : Type 1} → statement M
 polish-spec =

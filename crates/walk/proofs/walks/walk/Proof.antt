@@ -14,10 +14,13 @@ use Rattle.walk.proofs.walks.walk.Tie as tie
 abbrev Inv-loop : tie.InvT-loop
 Inv-loop counts₀ visited₀ gains₀ blocks₀ loads₀ pins sizes bits weights netweights firsts ceilings n m k total u v marks₀ peaks₀ movers₀ origins₀ s₀ counts visited gains blocks loads marks peaks movers origins s =
     (s .spent ≤ n) × (s .tried ≤ s .spent)
-    × HasWalk (lent counts₀ visited₀ gains₀ blocks₀ loads₀ pins sizes bits weights netweights firsts n m k total) (locals marks₀ movers₀ origins₀ (s₀ .tried) (s₀ .kept) (s₀ .low) (s₀ .heaviest))
+    × HasWalk (lent counts₀ visited₀ gains₀ blocks₀ loads₀ pins sizes bits weights netweights firsts n m k total)
+    (locals marks₀ movers₀ origins₀ (s₀ .tried) (s₀ .kept) (s₀ .low) (s₀ .heaviest))
     × ((aboves loaded : List ℕ) → Going
-        (lent counts₀ visited₀ gains₀ blocks₀ loads₀ pins sizes bits weights netweights firsts n m k total aboves loaded) (locals marks₀ movers₀ origins₀ (s₀ .tried) (s₀ .kept) (s₀ .low) (s₀ .heaviest)) ceilings (s .spent)
-        (lent counts visited gains blocks loads pins sizes bits weights netweights firsts n m k (s .total) aboves loaded) (locals marks movers origins (s .tried) (s .kept) (s .low) (s .heaviest)))
+    (lent counts₀ visited₀ gains₀ blocks₀ loads₀ pins sizes bits weights netweights firsts n m k total aboves loaded)
+    (locals marks₀ movers₀ origins₀ (s₀ .tried) (s₀ .kept) (s₀ .low) (s₀ .heaviest)) ceilings (s .spent)
+    (lent counts visited gains blocks loads pins sizes bits weights netweights firsts n m k (s .total) aboves loaded)
+    (locals marks movers origins (s .tried) (s .kept) (s .low) (s .heaviest)))
     × Peaked gains peaks n k
     × (length counts ≡ length counts₀) × (length visited ≡ length visited₀) × (length gains ≡ length gains₀) × (length blocks ≡ length blocks₀)
 
