@@ -94,7 +94,7 @@ module _ (fs : Fields) where
 -- ---- SALE
 module _ (limits : Limits) (n : ℕ) (fs : Fields) where
   sale-is : (f r : Bool) → isLineOf "SALE" 4 fs ≡ f → (within 1 (limits .vertexLimit) (at fs 1) && within 0 1024 (at fs 2) && within 2 (limits .blockLimit) (at fs 3) && within 0 1000 (at fs 4)) ≡ r
-      → saleLine limits n fs ≡ cond (not f) (stopped 2 n) (cond (not r) (stopped 3 n) (reading (book (at fs 1) (at fs 2) (record { blocks = at fs 3; imbalance = at fs 4; totalWeight = 0; weights = []; draft = []; nets = [] }) 0 [])))
+      → saleLine limits n fs ≡ cond (not f) (stopped 2 n) (cond (not r) (stopped 3 n) (reading (book (at fs 1) (at fs 2) (record { blocks = at fs 3; imbalance = at fs 4; totalWeight = 0; weights = []; draft = []; fixed = []; nets = [] }) 0 [])))
   unfolding saleLine
   sale-is f r p q = rw (← p, ← q)
 
@@ -132,40 +132,40 @@ module _ (limits : Limits) (n : ℕ) (fs : Fields) where
               and3 : (x y z u : Bool) → x ≡ true → y ≡ true → z ≡ true → u ≡ false → (x && y && z && u) ≡ false
               and3 x y z u b c d e = rw (b, c, d, e)
 
-          pub sale-read : within 0 1000 t ≡ true → reading (book l b (record { blocks = k; imbalance = t; totalWeight = 0; weights = []; draft = []; nets = [] }) 0 []) ≡ saleLine limits n fs
+          pub sale-read : within 0 1000 t ≡ true → reading (book l b (record { blocks = k; imbalance = t; totalWeight = 0; weights = []; draft = []; fixed = []; nets = [] }) 0 []) ≡ saleLine limits n fs
           sale-read e = rw (el, eb, ek, et) (sym (sale-is true true is (rw (← el, ← eb, ← ek, ← et) (and3 _ _ _ _ e1 e2 e3 e))))
             where
               and3 : (x y z u : Bool) → x ≡ true → y ≡ true → z ≡ true → u ≡ true → (x && y && z && u) ≡ true
               and3 x y z u b c d e = rw (b, c, d, e)
 
 -- ---- LOT
-module _ (n : ℕ) (k : Book) (fs : Fields) where
+module _ (n : ℕ) (k : Book) (fixed : Bool) (fs : Fields) where
   lot-is : (f r : Bool) → isLineOf "LOT" 2 fs ≡ f → (within 1 65535 (at fs 1) && isBlock (k .graph) (at fs 2)) ≡ r
-      → lotLine n k fs ≡ cond (not f) (stopped 2 n) (cond (not r) (stopped 3 n) (grown n (book (k .lots) (k .buyers) (withLot (k .graph) (at fs 1) (at fs 2)) (k .marks) [])))
+      → lotLine n k fixed fs ≡ cond (not f) (stopped 2 n) (cond (not r) (stopped 3 n) (grown n (book (k .lots) (k .buyers) (withLot (k .graph) (at fs 1) (at fs 2) fixed) (k .marks) [])))
   unfolding lotLine
   lot-is f r p q = rw (← p, ← q)
 
-  pub lot-form : isLineOf "LOT" 2 fs ≡ false → stopped 2 n ≡ lotLine n k fs
+  pub lot-form : isLineOf "LOT" 2 fs ≡ false → stopped 2 n ≡ lotLine n k fixed fs
   lot-form e = sym (lot-is false _ e refl)
 
   module _ (is : isLineOf "LOT" 2 fs ≡ true) (w b m : ℕ) (ew : w ≡ at fs 1) (eb : b ≡ at fs 2) (em : k .graph .blocks ≡ m) where
     lot-ranges : (r : Bool) → (within 1 65535 w && within 1 m b) ≡ r → (within 1 65535 (at fs 1) && isBlock (k .graph) (at fs 2)) ≡ r
     lot-ranges r e = rw (← ew, ← eb, em) e
 
-    pub lot-1 : within 1 65535 w ≡ false → stopped 3 n ≡ lotLine n k fs
+    pub lot-1 : within 1 65535 w ≡ false → stopped 3 n ≡ lotLine n k fixed fs
     lot-1 e = sym (lot-is true false is (lot-ranges false (and1 _ _ e)))
       where
         and1 : (x y : Bool) → x ≡ false → (x && y) ≡ false
         and1 x y e = rw e
 
     module _ (e1 : within 1 65535 w ≡ true) where
-      pub lot-2 : within 1 m b ≡ false → stopped 3 n ≡ lotLine n k fs
+      pub lot-2 : within 1 m b ≡ false → stopped 3 n ≡ lotLine n k fixed fs
       lot-2 e = sym (lot-is true false is (lot-ranges false (and1 _ _ e1 e)))
         where
           and1 : (x y : Bool) → x ≡ true → y ≡ false → (x && y) ≡ false
           and1 x y d e = rw (d, e)
 
-      pub lot-read : within 1 m b ≡ true → grown n (book (k .lots) (k .buyers) (withLot (k .graph) w b) (k .marks) []) ≡ lotLine n k fs
+      pub lot-read : within 1 m b ≡ true → grown n (book (k .lots) (k .buyers) (withLot (k .graph) w b fixed) (k .marks) []) ≡ lotLine n k fixed fs
       lot-read e = rw (ew, eb) (sym (lot-is true true is (lot-ranges true (and1 _ _ e1 e))))
         where
           and1 : (x y : Bool) → x ≡ true → y ≡ true → (x && y) ≡ true

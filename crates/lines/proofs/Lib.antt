@@ -1,4 +1,5 @@
 pub mod Asks
+pub mod Ends
 pub mod Stamps
 pub mod Fields
 pub mod Bids

@@ -2,10 +2,12 @@
 use Prim.Native.Nat.{ℕ, _-_, _≤_}
 use mathlib.Core.Path.{_≡_}
 use mathlib.Core.List.{List, []}
+use lib.Dec.{ltb}
 use lib.ListN.{getD}
+use lib.Seq.{slice}
 use Rattle.model.specs.Catalogue.{Limits, Hypergraph}
 use Rattle.model.specs.Machine.{Call}
-use Rattle.model.specs.Grammar.{Fields, Book, Reading, reading, stopped, asks, nothing, asked, callOf, grown, withLot, saleLine, lotLine}
+use Rattle.model.specs.Grammar.{Fields, Book, Reading, reading, stopped, asks, nothing, asked, callOf, grown, withLot, endsInK, beforeK, fields, saleLine, lotLine}
 use Rattle.lines.specs.declared.Ask.{Ask}
 use Rattle.lines.specs.declared.Ask.the-variants.{Asks, Nothing}
 use Rattle.lines.specs.declared.Head.{Head}
@@ -47,7 +49,7 @@ pub record InRange (limits : Limits) (l b k t : ℕ) : Type 0 where
   pub t-high : t ≤ 1000
 
 abbrev pub opened : ℕ → Head → Reading
-opened n (Sale lots buyers blocks imbalance) = reading (book lots buyers (record { blocks = blocks; imbalance = imbalance; totalWeight = 0; weights = []; draft = []; nets = [] }) 0 [])
+opened n (Sale lots buyers blocks imbalance) = reading (book lots buyers (record { blocks = blocks; imbalance = imbalance; totalWeight = 0; weights = []; draft = []; fixed = []; nets = [] }) 0 [])
 opened n (NoSale q) = stopped q n
 
 pub record SaleRead (limits : Limits) (fs : Fields) (r : Head) : Type 0 where
@@ -55,10 +57,17 @@ pub record SaleRead (limits : Limits) (fs : Fields) (r : Head) : Type 0 where
   pub ranges : (l b k t : ℕ) → r ≡ Sale l b k t → InRange limits l b k t
 
 -- ---- the lots
+-- r is where the fields of a line that may end in `,K` end
+pub record FieldsEnd (s : List ℕ) (at end r : ℕ) : Type 0 where
+  pub low : at ≤ r
+  pub high : r ≤ end
+  pub before : slice at r s ≡ beforeK (slice at end s)
+  pub fixed : ltb r end ≡ endsInK (slice at end s)
+
 -- a lot line, after a book
 abbrev pub lotted : ℕ → Book → Lot → Reading
-lotted n k (Of w b) = grown n (book (k .lots) (k .buyers) (withLot (k .graph) w b) (k .marks) [])
+lotted n k (Of w b fixed) = grown n (book (k .lots) (k .buyers) (withLot (k .graph) w b fixed) (k .marks) [])
 lotted n k (NoLot q) = stopped q n
 
-abbrev pub LotRead : ℕ → Fields → Lot → Type 0
-LotRead blocks fs r = (n : ℕ) (k : Book) → k .graph .blocks ≡ blocks → lotted n k r ≡ lotLine n k fs
+abbrev pub LotRead : ℕ → List ℕ → Lot → Type 0
+LotRead blocks l r = (n : ℕ) (k : Book) → k .graph .blocks ≡ blocks → lotted n k r ≡ lotLine n k (endsInK l) (fields (beforeK l))

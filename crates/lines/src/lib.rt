@@ -7,7 +7,7 @@ ghost use lib.ListN.{length};
 ghost use lib.Seq.{slice};
 ghost use Rattle.laws.specs.Fold.{all};
 ghost use Rattle.model.specs.Grammar.{parts, fields, isNumber};
-ghost use Rattle.lines.specs.Line.{limitsOf, CallRead, SaleRead, LotRead};
+ghost use Rattle.lines.specs.Line.{limitsOf, CallRead, SaleRead, FieldsEnd, LotRead};
 ghost use Rattle.lines.specs.Mark.{Fresh, MarkOne, MarksRead, BuyRead};
 
 // A call line's call: the byte of its letter and its numbers.
@@ -22,9 +22,9 @@ pub enum Head {
     NoSale(u8),
 }
 
-// A lot line: bales and session.
+// A lot line: bales, session and whether the lot is kept.
 pub enum Lot {
-    Of(u32, u16),
+    Of(u32, u16, bool),
     NoLot(u8),
 }
 
@@ -108,23 +108,41 @@ pub fn sale_line(s: &[u8], at: usize, end: usize, vmax: u32, bmax: u32) -> Head
     Head::Sale(vertices, nets, blocks, imbalance)
 }
 
+// Where the fields of a lot line end: before a `,K` at its end, or at the end itself.
+fn before_k(s: &[u8], at: usize, end: usize) -> usize
+    requires { ⌜ (at ≤ end) × (end ≤ length (now s)) ⌝ }
+    ensures { λ r. ⌜ FieldsEnd (now (s .entry)) at end r ⌝ }
+{
+    if end - at < 2 {
+        return end;
+    }
+    if s[end - 1] != b'K' {
+        return end;
+    }
+    if s[end - 2] != b',' {
+        return end;
+    }
+    end - 2
+}
+
 // A lot line.
 pub fn lot_line(s: &[u8], at: usize, end: usize, blocks: u16) -> Lot
     requires { ⌜ (at ≤ end) × (end ≤ length (now s)) ⌝ }
-    ensures { λ r. ⌜ LotRead blocks (fields (slice at end (now (s .entry)))) r ⌝ }
+    ensures { λ r. ⌜ LotRead blocks (slice at end (now (s .entry))) r ⌝ }
 {
-    if text::form(s, at, end, b"LOT") != 3 {
+    let last = before_k(s, at, end);
+    if text::form(s, at, last, b"LOT") != 3 {
         return Lot::NoLot(2);
     }
-    let weight = text::get(s, at, end, 1);
-    let block = text::get(s, at, end, 2);
+    let weight = text::get(s, at, last, 1);
+    let block = text::get(s, at, last, 2);
     if !between(1, 65535, weight) {
         return Lot::NoLot(3);
     }
     if !between(1, blocks as u32, block) {
         return Lot::NoLot(3);
     }
-    Lot::Of(weight, block as u16)
+    Lot::Of(weight, block as u16, last < end)
 }
 
 // One mark more of buyer j: 0, or the refusal.
