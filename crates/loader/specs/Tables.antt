@@ -4,7 +4,7 @@ use mathlib.Core.Path.{_≡_}
 use mathlib.Core.List.{List, []}
 use lib.Dec.{ltb}
 use lib.ListN.{length, getD}
-use Rattle.model.specs.Catalogue.{Limits, Hypergraph, vertices, drafted, averageWeight, capacity, capacities}
+use Rattle.model.specs.Catalogue.{Limits, Hypergraph, vertices, fixedEntry, drafted, averageWeight, capacity, capacities}
 use Rattle.model.specs.Measure.{above, size}
 use Rattle.model.specs.Grammar.{Reading, reading, stopped, parse}
 use Rattle.model.specs.Memory.{Filled, Column, Pins, net, allPins, firstPlace, weightEntry, blockEntry}
@@ -21,6 +21,7 @@ pub record LongLists (v : ℕ) (t : Lists) : Type 0 where
   pub weights : v ≤ length (t .weights)
   pub blocks : v ≤ length (t .blocks)
   pub aboves : v ≤ length (t .aboves)
+  pub fixed : v ≤ length (t .fixed)
   pub loadedPins : 8192 ≤ length (t .loadedPins)
   pub presentPins : 8192 ≤ length (t .presentPins)
   pub firsts : 1024 ≤ length (t .firsts)
@@ -33,6 +34,7 @@ pub record Started (h : Hypergraph) (old new : Lists) : Type 0 where
   pub weights : Column (vertices h) (weightEntry h [] (drafted h)) (old .weights) (new .weights)
   pub blocks : Column (vertices h) (blockEntry h [] (drafted h)) (old .blocks) (new .blocks)
   pub aboves : Column (vertices h) (above []) (old .aboves) (new .aboves)
+  pub fixed : Column (vertices h) (fixedEntry h) (old .fixed) (new .fixed)
   pub loadedPins : Filled 0 (λ i. ltb i (length (allPins (h .nets)))) (λ i. getD (allPins (h .nets)) i 0) (old .loadedPins) (new .loadedPins)
   pub copiedPins : Filled 0 (λ i. ltb i (length (allPins (h .nets)))) (λ i. getD (allPins (h .nets)) i 0) (old .presentPins) (new .presentPins)
   pub presentPins : Pins h [] (old .presentPins) (new .presentPins)
@@ -46,7 +48,7 @@ sizesOf l b k t m n a c = record { vertices = l; nets = b; blocks = k; imbalance
 
 -- the catalogue that sizes, lists and net weights show
 abbrev pub graph : Sizes → Lists → List ℕ → Hypergraph
-graph z t nw = graphOf (z .vertices) (z .nets) (z .blocks) (z .imbalance) (t .weights) (t .blocks) nw (t .firsts) (t .loadedSizes) (t .loadedPins)
+graph z t nw = graphOf (z .vertices) (z .nets) (z .blocks) (z .imbalance) (t .weights) (t .blocks) (t .fixed) nw (t .firsts) (t .loadedSizes) (t .loadedPins)
 
 -- what the loader's answer and the tables say
 abbrev pub seen : Loaded → Lists → List ℕ → List ℕ → Reading

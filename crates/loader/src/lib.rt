@@ -111,6 +111,7 @@ pub fn load(
     weights: &mut [u32],
     blocks: &mut [u16],
     aboves: &mut [u16],
+    fixed: &mut [u16],
     loadedpins: &mut [u16],
     presentpins: &mut [u16],
     firsts: &mut [u16],
@@ -120,10 +121,10 @@ pub fn load(
     calls: &mut [u32],
 ) -> Loaded
     requires { ⌜ (vmax ≤ 1024) × (bmax ≤ 16) × (length (now netweights) ≡ 1024) × (1536 ≤ length (now calls)) × LongLists vmax
-        (lists (now weights) (now blocks) (now aboves) (now loadedpins) (now presentpins) (now firsts) (now loadedsizes) (now presentsizes)) ⌝ }
+        (lists (now weights) (now blocks) (now aboves) (now fixed) (now loadedpins) (now presentpins) (now firsts) (now loadedsizes) (now presentsizes)) ⌝ }
     ensures { λ r. ⌜ Loads (limitsOf vmax bmax) (now (s .entry)) r
-        (lists (now (weights .entry)) (now (blocks .entry)) (now (aboves .entry)) (now (loadedpins .entry)) (now (presentpins .entry)) (now (firsts .entry)) (now (loadedsizes .entry)) (now (presentsizes .entry)))
-        (lists (now (weights .exit)) (now (blocks .exit)) (now (aboves .exit)) (now (loadedpins .exit)) (now (presentpins .exit)) (now (firsts .exit)) (now (loadedsizes .exit)) (now (presentsizes .exit)))
+        (lists (now (weights .entry)) (now (blocks .entry)) (now (aboves .entry)) (now (fixed .entry)) (now (loadedpins .entry)) (now (presentpins .entry)) (now (firsts .entry)) (now (loadedsizes .entry)) (now (presentsizes .entry)))
+        (lists (now (weights .exit)) (now (blocks .exit)) (now (aboves .exit)) (now (fixed .exit)) (now (loadedpins .exit)) (now (presentpins .exit)) (now (firsts .exit)) (now (loadedsizes .exit)) (now (presentsizes .exit)))
         (now (netweights .exit)) (now (calls .exit)) ⌝ }
 {
     match reader::read(
@@ -132,6 +133,7 @@ pub fn load(
         bmax,
         weights,
         blocks,
+        fixed,
         netweights,
         firsts,
         loadedsizes,

@@ -19,7 +19,7 @@ netsOf (suc j) w f c marks = netsOf j w f c marks ++ (record { weight = getD w j
 
 -- a catalogue with other buyers
 abbrev pub withNets : Hypergraph → List Net → Hypergraph
-withNets h ns = record { blocks = h .blocks; imbalance = h .imbalance; totalWeight = h .totalWeight; weights = h .weights; draft = h .draft; nets = ns }
+withNets h ns = record { blocks = h .blocks; imbalance = h .imbalance; totalWeight = h .totalWeight; weights = h .weights; draft = h .draft; fixed = h .fixed; nets = ns }
 
 -- the marks of j buyers, m in all, lie one buyer's after another's, and what lies behind them is kept
 pub record Laid (j m : ℕ) (f₀ c₀ marks₀ f c marks : List ℕ) : Type 0 where

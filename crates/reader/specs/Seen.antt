@@ -24,17 +24,18 @@ pub record CallsRead (s : List ℕ) (at n : ℕ) (r : Ended) (t : List ℕ) : Ty
   pub known : (c : ℕ) → r ≡ Up c → (c ≤ 512) × (length (callsOf c t) ≡ c)
   pub says : (limits : Limits) (l b m : ℕ) (h : Hypergraph) → whole (book l b h m []) ≡ true → called l b h m r t ≡ lines limits n (reading (book l b h m [])) (parts 10 (slice at (length s) s))
 
--- the catalogue with no buyer yet: the first k lots of the tables, and their bales
-abbrev pub lotsGraph : ℕ → ℕ → ℕ → List ℕ → List ℕ → Hypergraph
-lotsGraph blocks imbalance k w d = record { blocks = blocks; imbalance = imbalance; totalWeight = sumOver (take k w) (λ x. x); weights = take k w; draft = take k d; nets = [] }
+-- the catalogue with no buyer yet: the first k lots of the tables, by their bales, sessions and whether they are kept
+abbrev pub lotsGraph : ℕ → ℕ → ℕ → List ℕ → List ℕ → List ℕ → Hypergraph
+lotsGraph blocks imbalance k w d fx = record { blocks = blocks; imbalance = imbalance; totalWeight = sumOver (take k w) (λ x. x); weights = take k w; draft = take k d; fixed = take k fx; nets = [] }
 
 -- the lot lines of a file whose first line is read: what is left to read, from the place where they end
-abbrev pub lotsSeen : Limits → List ℕ → ℕ → ℕ → ℕ → ℕ → Ended → List ℕ → List ℕ → Reading
-lotsSeen limits s l b blocks imbalance (Up i) w d = lines limits (l + 2) (grown (l + 1) (book l b (lotsGraph blocks imbalance l w d) 0 [])) (parts 10 (slice i (length s) s))
-lotsSeen limits s l b blocks imbalance (Stop q n) w d = stopped q n
+abbrev pub lotsSeen : Limits → List ℕ → ℕ → ℕ → ℕ → ℕ → Ended → List ℕ → List ℕ → List ℕ → Reading
+lotsSeen limits s l b blocks imbalance (Up i) w d fx = lines limits (l + 2) (grown (l + 1) (book l b (lotsGraph blocks imbalance l w d fx) 0 [])) (parts 10 (slice i (length s) s))
+lotsSeen limits s l b blocks imbalance (Stop q n) w d fx = stopped q n
 
-pub record LotsRead (s : List ℕ) (at l blocks : ℕ) (r : Ended) (w₀ d₀ w d : List ℕ) : Type 0 where
+pub record LotsRead (s : List ℕ) (at l blocks : ℕ) (r : Ended) (w₀ d₀ fx₀ w d fx : List ℕ) : Type 0 where
   pub inside : (i : ℕ) → r ≡ Up i → i ≤ length s
   pub w-past : Past l w₀ w
   pub d-past : Past l d₀ d
-  pub says : (limits : Limits) (b imbalance : ℕ) → lotsSeen limits s l b blocks imbalance r w d ≡ lines limits 2 (reading (book l b (lotsGraph blocks imbalance 0 w d) 0 [])) (parts 10 (slice at (length s) s))
+  pub fx-past : Past l fx₀ fx
+  pub says : (limits : Limits) (b imbalance : ℕ) → lotsSeen limits s l b blocks imbalance r w d fx ≡ lines limits 2 (reading (book l b (lotsGraph blocks imbalance 0 w d fx) 0 [])) (parts 10 (slice at (length s) s))

@@ -48,19 +48,19 @@ averageOf k ws = (sumOver ws (λ w. w) + (k - 1)) / k
 abbrev pub blockTerm : ℕ → List ℕ → List ℕ → ℕ → ℕ
 blockTerm b w d i = cond (eqb (getD d i 0) b) (getD w i 0) 0
 
--- a session of the draft is above its cap, whoever the buyers are
+-- a session of the draft is above its cap, whichever lots are kept and whoever the buyers are
 abbrev pub overfullIs : ℕ → ℕ → ℕ → List ℕ → List ℕ → Bool → Type 0
-overfullIs l k t w d r = (ns : List Net) → r ≡ overfull (withNets (lotsGraph k t l w d) ns)
+overfullIs l k t w d r = (fx : List ℕ) (ns : List Net) → r ≡ overfull (withNets (lotsGraph k t l w d fx) ns)
 
 -- what follows the catalogue's last line
 pub record LastRead (s : List ℕ) (at l b k t m : ℕ) (r : Ended) (w d calls : List ℕ) : Type 0 where
   pub known : (c : ℕ) → r ≡ Up c → (c ≤ 512) × (length (callsOf c calls) ≡ c)
-  pub says : (limits : Limits) (ns : List Net) → length ns ≡ b → called l b (withNets (lotsGraph k t l w d) ns) m r calls
-      ≡ lines limits (l + 2 + b) (grown (l + 1 + b) (book l b (withNets (lotsGraph k t l w d) ns) m [])) (parts 10 (slice at (length s) s))
+  pub says : (limits : Limits) (fx : List ℕ) (ns : List Net) → length ns ≡ b → called l b (withNets (lotsGraph k t l w d fx) ns) m r calls
+      ≡ lines limits (l + 2 + b) (grown (l + 1 + b) (book l b (withNets (lotsGraph k t l w d fx) ns) m [])) (parts 10 (slice at (length s) s))
 
 -- the whole catalogue of the tables
-abbrev pub graphOf : ℕ → ℕ → ℕ → ℕ → List ℕ → List ℕ → List ℕ → List ℕ → List ℕ → List ℕ → Hypergraph
-graphOf l b k t w d nw f c marks = withNets (lotsGraph k t l w d) (netsOf b nw f c marks)
+abbrev pub graphOf : ℕ → ℕ → ℕ → ℕ → List ℕ → List ℕ → List ℕ → List ℕ → List ℕ → List ℕ → List ℕ → Hypergraph
+graphOf l b k t w d fx nw f c marks = withNets (lotsGraph k t l w d fx) (netsOf b nw f c marks)
 
 abbrev pub restSeen : ℕ → ℕ → Hypergraph → Rest → List ℕ → List ℕ → List ℕ → List ℕ → List ℕ → Reading
 restSeen l b h (Kept m n) nw f c marks calls = reading (book l b (withNets h (netsOf b nw f c marks)) m (callsOf n calls))
@@ -76,30 +76,32 @@ pub record Settled (b m n : ℕ) (f₀ c₀ marks₀ f c marks calls : List ℕ)
 pub record NetsRead (s : List ℕ) (at l b k t : ℕ) (r : Rest) (w d f₀ c₀ marks₀ nw f c marks calls : List ℕ) : Type 0 where
   pub nw-len : (m n : ℕ) → r ≡ Kept m n → length nw ≡ 1024
   pub settled : (m n : ℕ) → r ≡ Kept m n → Settled b m n f₀ c₀ marks₀ f c marks calls
-  pub says : (limits : Limits) → restSeen l b (lotsGraph k t l w d) r nw f c marks calls ≡ lines limits (l + 2) (grown (l + 1) (book l b (lotsGraph k t l w d) 0 [])) (parts 10 (slice at (length s) s))
+  pub says : (limits : Limits) (fx : List ℕ) → restSeen l b (lotsGraph k t l w d fx) r nw f c marks calls ≡ lines limits (l + 2) (grown (l + 1) (book l b (lotsGraph k t l w d fx) 0 [])) (parts 10 (slice at (length s) s))
 
 -- what follows the first line
-pub record CatalogueRead (s : List ℕ) (at l b k t : ℕ) (r : Rest) (w₀ d₀ f₀ c₀ marks₀ w d nw f c marks calls : List ℕ) : Type 0 where
+pub record CatalogueRead (s : List ℕ) (at l b k t : ℕ) (r : Rest) (w₀ d₀ fx₀ f₀ c₀ marks₀ w d fx nw f c marks calls : List ℕ) : Type 0 where
   pub w-past : Past l w₀ w
   pub d-past : Past l d₀ d
+  pub fx-past : Past l fx₀ fx
   pub nw-len : (m n : ℕ) → r ≡ Kept m n → length nw ≡ 1024
   pub settled : (m n : ℕ) → r ≡ Kept m n → Settled b m n f₀ c₀ marks₀ f c marks calls
-  pub says : (limits : Limits) → restSeen l b (lotsGraph k t l w d) r nw f c marks calls ≡ lines limits 2 (reading (book l b (lotsGraph k t 0 w d) 0 [])) (parts 10 (slice at (length s) s))
+  pub says : (limits : Limits) → restSeen l b (lotsGraph k t l w d fx) r nw f c marks calls ≡ lines limits 2 (reading (book l b (lotsGraph k t 0 w d fx) 0 [])) (parts 10 (slice at (length s) s))
 
 -- what an outcome and the tables say
-abbrev pub seen : Outcome → List ℕ → List ℕ → List ℕ → List ℕ → List ℕ → List ℕ → List ℕ → Reading
-seen (Taken l b k t m n) w d nw f c marks calls = reading (book l b (graphOf l b k t w d nw f c marks) m (callsOf n calls))
-seen (Refused q n) w d nw f c marks calls = stopped q n
+abbrev pub seen : Outcome → List ℕ → List ℕ → List ℕ → List ℕ → List ℕ → List ℕ → List ℕ → List ℕ → Reading
+seen (Taken l b k t m n) w d fx nw f c marks calls = reading (book l b (graphOf l b k t w d fx nw f c marks) m (callsOf n calls))
+seen (Refused q n) w d fx nw f c marks calls = stopped q n
 
 -- of an accepted file: sizes in range, entries past those in use kept
-pub record Fitted (limits : Limits) (l b k t m n : ℕ) (w₀ d₀ f₀ c₀ marks₀ w d f c marks calls : List ℕ) : Type 0 where
+pub record Fitted (limits : Limits) (l b k t m n : ℕ) (w₀ d₀ fx₀ f₀ c₀ marks₀ w d fx f c marks calls : List ℕ) : Type 0 where
   pub range : InRange limits l b k t
   pub w-past : Past l w₀ w
   pub d-past : Past l d₀ d
+  pub fx-past : Past l fx₀ fx
   pub settled : Settled b m n f₀ c₀ marks₀ f c marks calls
 
 -- a whole file
-pub record FileRead (limits : Limits) (s : List ℕ) (r : Outcome) (w₀ d₀ f₀ c₀ marks₀ w d nw f c marks calls : List ℕ) : Type 0 where
-  pub says : seen r w d nw f c marks calls ≡ parse limits s
+pub record FileRead (limits : Limits) (s : List ℕ) (r : Outcome) (w₀ d₀ fx₀ f₀ c₀ marks₀ w d fx nw f c marks calls : List ℕ) : Type 0 where
+  pub says : seen r w d fx nw f c marks calls ≡ parse limits s
   pub nw-len : (l b k t m n : ℕ) → r ≡ Taken l b k t m n → length nw ≡ 1024
-  pub fitted : (l b k t m n : ℕ) → r ≡ Taken l b k t m n → Fitted limits l b k t m n w₀ d₀ f₀ c₀ marks₀ w d f c marks calls
+  pub fitted : (l b k t m n : ℕ) → r ≡ Taken l b k t m n → Fitted limits l b k t m n w₀ d₀ fx₀ f₀ c₀ marks₀ w d fx f c marks calls

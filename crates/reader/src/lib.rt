@@ -81,9 +81,10 @@ fn read_vertices(
     blocks: u16,
     weights: &mut [u32],
     draft: &mut [u16],
+    fixed: &mut [u16],
 ) -> Ended
-    requires { ⌜ (at ≤ length (now s)) × (1 ≤ vertices) × (vertices ≤ 1024) × (vertices ≤ length (now weights)) × (vertices ≤ length (now draft)) ⌝ }
-    ensures { λ r. ⌜ LotsRead (now (s .entry)) at vertices blocks r (now (weights .entry)) (now (draft .entry)) (now (weights .exit)) (now (draft .exit)) ⌝ }
+    requires { ⌜ (at ≤ length (now s)) × (1 ≤ vertices) × (vertices ≤ 1024) × (vertices ≤ length (now weights)) × (vertices ≤ length (now draft)) × (vertices ≤ length (now fixed)) ⌝ }
+    ensures { λ r. ⌜ LotsRead (now (s .entry)) at vertices blocks r (now (weights .entry)) (now (draft .entry)) (now (fixed .entry)) (now (weights .exit)) (now (draft .exit)) (now (fixed .exit)) ⌝ }
 {
     let len = s.len();
     let mut i = at;
@@ -97,9 +98,10 @@ fn read_vertices(
             Lot::NoLot(q) => {
                 return Ended::Stop(q, k + 2);
             }
-            Lot::Of(w, b) => {
+            Lot::Of(w, b, f) => {
                 weights[k] = w;
                 draft[k] = b;
+                fixed[k] = f as u16;
             }
         }
         k += 1;
@@ -319,6 +321,7 @@ fn after_head(
     imbalance: u32,
     weights: &mut [u32],
     draft: &mut [u16],
+    fixed: &mut [u16],
     netweights: &mut [u16; 1024],
     firsts: &mut [u16],
     loadedsizes: &mut [u16],
@@ -326,11 +329,19 @@ fn after_head(
     calls: &mut [u32],
 ) -> Rest
     requires { ⌜ (at ≤ length (now s)) × InRange mainLimits vertices nets blocks imbalance
-        × Long vertices (now weights) (now draft) (now netweights) (now firsts) (now loadedsizes) (now loadedpins) (now calls) ⌝ }
-    ensures { λ r. ⌜ CatalogueRead (now (s .entry)) at vertices nets blocks imbalance r (now (weights .entry)) (now (draft .entry)) (now (firsts .entry)) (now (loadedsizes .entry)) (now (loadedpins .entry)) (now (weights .exit)) (now (draft .exit)) (now (netweights .exit)) (now (firsts .exit)) (now (loadedsizes .exit)) (now (loadedpins .exit)) (now (calls .exit)) ⌝ }
+        × (vertices ≤ length (now fixed)) × Long vertices (now weights) (now draft) (now netweights) (now firsts) (now loadedsizes) (now loadedpins) (now calls) ⌝ }
+    ensures { λ r. ⌜ CatalogueRead (now (s .entry)) at vertices nets blocks imbalance r (now (weights .entry)) (now (draft .entry)) (now (fixed .entry)) (now (firsts .entry)) (now (loadedsizes .entry)) (now (loadedpins .entry)) (now (weights .exit)) (now (draft .exit)) (now (fixed .exit)) (now (netweights .exit)) (now (firsts .exit)) (now (loadedsizes .exit)) (now (loadedpins .exit)) (now (calls .exit)) ⌝ }
 {
     let mut stamps = [0u16; 1024];
-    match read_vertices(s, at, vertices as usize, blocks as u16, weights, draft) {
+    match read_vertices(
+        s,
+        at,
+        vertices as usize,
+        blocks as u16,
+        weights,
+        draft,
+        fixed,
+    ) {
         Ended::Stop(q, n) => Rest::Not(q, n),
         Ended::Up(i) => after_vertices(
             s,
@@ -358,14 +369,15 @@ pub fn read(
     bmax: u32,
     weights: &mut [u32],
     draft: &mut [u16],
+    fixed: &mut [u16],
     netweights: &mut [u16; 1024],
     firsts: &mut [u16],
     loadedsizes: &mut [u16],
     loadedpins: &mut [u16],
     calls: &mut [u32],
 ) -> Outcome
-    requires { ⌜ (bmax ≤ 16) × Long vmax (now weights) (now draft) (now netweights) (now firsts) (now loadedsizes) (now loadedpins) (now calls) ⌝ }
-    ensures { λ r. ⌜ FileRead (limitsOf vmax bmax) (now (s .entry)) r (now (weights .entry)) (now (draft .entry)) (now (firsts .entry)) (now (loadedsizes .entry)) (now (loadedpins .entry)) (now (weights .exit)) (now (draft .exit)) (now (netweights .exit)) (now (firsts .exit)) (now (loadedsizes .exit)) (now (loadedpins .exit)) (now (calls .exit)) ⌝ }
+    requires { ⌜ (bmax ≤ 16) × (vmax ≤ length (now fixed)) × Long vmax (now weights) (now draft) (now netweights) (now firsts) (now loadedsizes) (now loadedpins) (now calls) ⌝ }
+    ensures { λ r. ⌜ FileRead (limitsOf vmax bmax) (now (s .entry)) r (now (weights .entry)) (now (draft .entry)) (now (fixed .entry)) (now (firsts .entry)) (now (loadedsizes .entry)) (now (loadedpins .entry)) (now (weights .exit)) (now (draft .exit)) (now (fixed .exit)) (now (netweights .exit)) (now (firsts .exit)) (now (loadedsizes .exit)) (now (loadedpins .exit)) (now (calls .exit)) ⌝ }
 {
     let len = s.len();
     if 60000 < len {
@@ -386,6 +398,7 @@ pub fn read(
             imbalance,
             weights,
             draft,
+            fixed,
             netweights,
             firsts,
             loadedsizes,
