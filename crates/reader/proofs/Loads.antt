@@ -38,10 +38,10 @@ module _ (x : ℕ) where
   unfolding nearest
   nearest-up l n = rw (le-ltb (x % 1000) 500 l, ne-eqb (x % 1000) 500 n)
 
--- the catalogue that the tables show, whoever its buyers are
-module _ (l k t : ℕ) (w d : List ℕ) (ns : List Net) where
+-- the catalogue that the tables show, whichever lots are kept and whoever its buyers are
+module _ (l k t : ℕ) (w d fx : List ℕ) (ns : List Net) where
   abbrev graph : Hypergraph
-  graph = withNets (lotsGraph k t l w d) ns
+  graph = withNets (lotsGraph k t l w d fx) ns
 
   pub average-is : averageWeight graph ≡ averageOf k (take l w)
   unfolding averageWeight

@@ -12,8 +12,8 @@ cast-read-vertices c = search needs
 
 read-vertices-requires : tie.Need-read-vertices-requires
 read-vertices-requires c κs =
-    let start = c .before .before .before .before .before .before .before .before .before in
-    let p = start .pre in (p .0, p .1 .l-low, p .2 .l-le, p .2 .w-len, p .2 .d-len)
+    let start = c .before .before .before .before .before .before .before .before .before .before .before in
+    let p = start .pre in (p .0, p .1 .l-low, p .3 .l-le, p .3 .w-len, p .3 .d-len, p .2)
 
 enum-known-q : tie.Need-enum-known-q
 enum-known-q c = search needs
@@ -24,9 +24,9 @@ enum-known-i c = search needs
 after-vertices-requires : tie.Need-after-vertices-requires
 after-vertices-requires c κs =
     let at-i = c .before .before .before .before .before .before .before .before .before in
-    let at-read-vertices = at-i .before .before .before .before .before .before in
-    let start = at-read-vertices .before .before .before .before .before .before .before .before .before .before in
-    let p = start .pre in record { at-le = at-read-vertices .read-vertices .ensures .inside (at-i .i .given .0 .0) (at-i .i .given .1); range = p .1; long = record { l-le = p .2 .l-le; w-len = omega (arith, p .2 .w-len, at-read-vertices .read-vertices .kept .1 .1 .1 .1 .0); d-len = omega (arith, p .2 .d-len, at-read-vertices .read-vertices .kept .1 .1 .1 .1 .1 .0); nw-len = p .2 .nw-len; f-len = p .2 .f-len; c-len = p .2 .c-len; wide = p .2 .wide; calls-len = p .2 .calls-len }; slen = refl; fresh = fresh-start }
+    let at-read-vertices = at-i .before .before .before .before .before .before .before .before in
+    let start = at-read-vertices .before .before .before .before .before .before .before .before .before .before .before .before in
+    let p = start .pre in record { at-le = at-read-vertices .read-vertices .ensures .inside (at-i .i .given .0 .0) (at-i .i .given .1); range = p .1; long = record { l-le = p .3 .l-le; w-len = omega (arith, p .3 .w-len, at-read-vertices .read-vertices .kept .1 .1 .1 .1 .0); d-len = omega (arith, p .3 .d-len, at-read-vertices .read-vertices .kept .1 .1 .1 .1 .1 .0); nw-len = p .3 .nw-len; f-len = p .3 .f-len; c-len = p .3 .c-len; wide = p .3 .wide; calls-len = p .3 .calls-len }; slen = refl; fresh = fresh-start }
 
 same-length : tie.Need-same-length
 same-length c = search needs
@@ -34,14 +34,14 @@ same-length c = search needs
 same-length-2 : tie.Need-same-length-2
 same-length-2 c = search needs
 
-returns : tie.Need-returns
-returns c =
-    let at-read-vertices = c .before .before .before .before .before .before .before in
-    let start = at-read-vertices .before .before .before .before .before .before .before .before .before .before in
-    let a = start .args in lots-cut (now (a .s)) (a .at) (a .vertices) (a .nets) (a .blocks) (a .imbalance) (now (a .weights)) (now (a .draft)) (now (a .firsts)) (now (a .loadedsizes)) (now (a .loadedpins)) _ _ (at-read-vertices .read-vertices .result) (at-read-vertices .read-vertices .ensures) (c .before .q .given .0 .0) (c .before .q .given .0 .1 .0) (c .before .q .given .1) (now (a .netweights)) (now (a .firsts)) (now (a .loadedsizes)) (now (a .loadedpins)) (now (a .calls))
-
 same-length-3 : tie.Need-same-length-3
 same-length-3 c = search needs
+
+returns : tie.Need-returns
+returns c =
+    let at-read-vertices = c .before .before .before .before .before .before .before .before .before in
+    let start = at-read-vertices .before .before .before .before .before .before .before .before .before .before .before .before in
+    let a = start .args in lots-cut (now (a .s)) (a .at) (a .vertices) (a .nets) (a .blocks) (a .imbalance) (now (a .weights)) (now (a .draft)) (now (a .fixed)) (now (a .firsts)) (now (a .loadedsizes)) (now (a .loadedpins)) _ _ _ (at-read-vertices .read-vertices .result) (at-read-vertices .read-vertices .ensures) (c .before .q .given .0 .0) (c .before .q .given .0 .1 .0) (c .before .q .given .1) (now (a .netweights)) (now (a .firsts)) (now (a .loadedsizes)) (now (a .loadedpins)) (now (a .calls))
 
 same-length-4 : tie.Need-same-length-4
 same-length-4 c = search needs
@@ -58,13 +58,19 @@ same-length-7 c = search needs
 same-length-8 : tie.Need-same-length-8
 same-length-8 c = search needs
 
+same-length-9 : tie.Need-same-length-9
+same-length-9 c = search needs
+
+same-length-10 : tie.Need-same-length-10
+same-length-10 c = search needs
+
 returns-2 : tie.Need-returns-2
 returns-2 c =
     let at-after-vertices = c .before .before .before .before .before .before .before .before in
     let at-i = at-after-vertices .before .before .before .before .before .before .before .before .before .before in
-    let at-read-vertices = at-i .before .before .before .before .before .before in
-    let start = at-read-vertices .before .before .before .before .before .before .before .before .before .before in
-    let a = start .args in lots-go (now (a .s)) (a .at) (a .vertices) (a .nets) (a .blocks) (a .imbalance) (now (a .weights)) (now (a .draft)) (now (a .firsts)) (now (a .loadedsizes)) (now (a .loadedpins)) _ _ (at-read-vertices .read-vertices .result) (at-read-vertices .read-vertices .ensures) (at-i .i .given .0 .0) (at-i .i .given .1) (at-after-vertices .after-vertices .result) _ _ _ _ _ (at-after-vertices .after-vertices .ensures)
+    let at-read-vertices = at-i .before .before .before .before .before .before .before .before in
+    let start = at-read-vertices .before .before .before .before .before .before .before .before .before .before .before .before in
+    let a = start .args in lots-go (now (a .s)) (a .at) (a .vertices) (a .nets) (a .blocks) (a .imbalance) (now (a .weights)) (now (a .draft)) (now (a .fixed)) (now (a .firsts)) (now (a .loadedsizes)) (now (a .loadedpins)) _ _ _ (at-read-vertices .read-vertices .result) (at-read-vertices .read-vertices .ensures) (at-i .i .given .0 .0) (at-i .i .given .1) (at-after-vertices .after-vertices .result) _ _ _ _ _ (at-after-vertices .after-vertices .ensures)
 
 pub after-head-spec : {M : Type 1} → statement M
 after-head-spec =
@@ -77,11 +83,13 @@ after-head-spec =
     after-vertices-requires
     same-length
     same-length-2
-    returns
     same-length-3
+    returns
     same-length-4
     same-length-5
     same-length-6
     same-length-7
     same-length-8
+    same-length-9
+    same-length-10
     returns-2)

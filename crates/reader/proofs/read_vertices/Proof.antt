@@ -8,21 +8,21 @@ use Rattle.reader.proofs.read_vertices.Statement.{statement}
 use Rattle.reader.proofs.read_vertices.Tie as tie
 
 abbrev Inv-loop : tie.InvT-loop
-Inv-loop s at vertices blocks weights₀ draft₀ len i₀ k₀ weights draft i k = OnLots s at vertices blocks weights₀ draft₀ weights draft i k
+Inv-loop s at vertices blocks weights₀ draft₀ fixed₀ len i₀ k₀ weights draft fixed i k = OnLots s at vertices blocks weights₀ draft₀ fixed₀ weights draft fixed i k
 
 abbrev μ-loop : tie.MeasureT-loop
-μ-loop s at vertices blocks weights₀ draft₀ len i₀ k₀ weights draft i k = vertices - k
+μ-loop s at vertices blocks weights₀ draft₀ fixed₀ len i₀ k₀ weights draft fixed i k = vertices - k
 
 loop-holds : tie.Need-loop-holds Inv-loop μ-loop
 loop-holds c =
-    let start = c .before .before .before in
-    let a = start .args in lots-start (now (a .s)) (a .at) (a .vertices) (a .blocks) (now (a .weights)) (now (a .draft)) (omega arith) (omega arith) (omega arith) (start .pre .3) (start .pre .4)
+    let start = c .before .before .before .before in
+    let a = start .args in lots-start (now (a .s)) (a .at) (a .vertices) (a .blocks) (now (a .weights)) (now (a .draft)) (now (a .fixed)) (omega arith) (omega arith) (omega arith) (start .pre .3) (start .pre .4) (start .pre .5)
 
 line-end-requires : tie.Need-line-end-requires Inv-loop μ-loop
 line-end-requires c κs = search needs
 
-add-t15 : tie.Need-add-t15 Inv-loop μ-loop
-add-t15 c = omega arith
+add-t17 : tie.Need-add-t17 Inv-loop μ-loop
+add-t17 c = omega arith
 
 same-length : tie.Need-same-length Inv-loop μ-loop
 same-length c =
@@ -34,11 +34,16 @@ same-length-2 c =
     let at-loop = c .before .before .before in
     at-loop .loop .inv .d-same
 
+same-length-3 : tie.Need-same-length-3 Inv-loop μ-loop
+same-length-3 c =
+    let at-loop = c .before .before .before in
+    at-loop .loop .inv .fx-same
+
 returns : tie.Need-returns Inv-loop μ-loop
 returns c =
     let at-loop = c .before .before .before in
-    let start = at-loop .before .before .before .before in
-    let a = start .args in let l = at-loop .loop in lots-none (now (a .s)) (a .at) (a .vertices) (a .blocks) (now (a .weights)) (now (a .draft)) (l .weights) (l .draft) (l .i) (l .k) (l .inv) (omega arith) (c .before .line-end .result) (c .before .line-end .ensures) (omega arith)
+    let start = at-loop .before .before .before .before .before in
+    let a = start .args in let l = at-loop .loop in lots-none (now (a .s)) (a .at) (a .vertices) (a .blocks) (now (a .weights)) (now (a .draft)) (now (a .fixed)) (l .weights) (l .draft) (l .fixed) (l .i) (l .k) (l .inv) (omega arith) (c .before .line-end .result) (c .before .line-end .ensures) (omega arith)
 
 lot-line-requires : tie.Need-lot-line-requires Inv-loop μ-loop
 lot-line-requires c κs = search needs
@@ -46,26 +51,31 @@ lot-line-requires c κs = search needs
 enum-known-q : tie.Need-enum-known-q Inv-loop μ-loop
 enum-known-q c = search needs
 
-add-t17 : tie.Need-add-t17 Inv-loop μ-loop
-add-t17 c = omega arith
-
-same-length-3 : tie.Need-same-length-3 Inv-loop μ-loop
-same-length-3 c =
-    let at-loop = c .before .before .before .before .before .before .before in
-    at-loop .loop .inv .w-same
+add-t19 : tie.Need-add-t19 Inv-loop μ-loop
+add-t19 c = omega arith
 
 same-length-4 : tie.Need-same-length-4 Inv-loop μ-loop
 same-length-4 c =
     let at-loop = c .before .before .before .before .before .before .before in
+    at-loop .loop .inv .w-same
+
+same-length-5 : tie.Need-same-length-5 Inv-loop μ-loop
+same-length-5 c =
+    let at-loop = c .before .before .before .before .before .before .before in
     at-loop .loop .inv .d-same
+
+same-length-6 : tie.Need-same-length-6 Inv-loop μ-loop
+same-length-6 c =
+    let at-loop = c .before .before .before .before .before .before .before in
+    at-loop .loop .inv .fx-same
 
 returns-2 : tie.Need-returns-2 Inv-loop μ-loop
 returns-2 c =
     let at-lot-line = c .before .before .before in
     let at-line-end = at-lot-line .before .before in
     let at-loop = at-line-end .before .before in
-    let start = at-loop .before .before .before .before in
-    let a = start .args in let l = at-loop .loop in lots-stop (now (a .s)) (a .at) (a .vertices) (a .blocks) (now (a .weights)) (now (a .draft)) (l .weights) (l .draft) (l .i) (l .k) (l .inv) (omega arith) (at-line-end .line-end .result) (at-line-end .line-end .ensures) (omega arith) (at-lot-line .lot-line .result) (at-lot-line .lot-line .ensures) (c .before .q .given .0 .0) (c .before .q .given .1)
+    let start = at-loop .before .before .before .before .before in
+    let a = start .args in let l = at-loop .loop in lots-stop (now (a .s)) (a .at) (a .vertices) (a .blocks) (now (a .weights)) (now (a .draft)) (now (a .fixed)) (l .weights) (l .draft) (l .fixed) (l .i) (l .k) (l .inv) (omega arith) (at-line-end .line-end .result) (at-line-end .line-end .ensures) (omega arith) (at-lot-line .lot-line .result) (at-lot-line .lot-line .ensures) (c .before .q .given .0 .0) (c .before .q .given .1)
 
 enum-known-w : tie.Need-enum-known-w Inv-loop μ-loop
 enum-known-w c = search needs
@@ -82,6 +92,15 @@ mul-draft c = omega arith
 slice-write-draft : tie.Need-slice-write-draft Inv-loop μ-loop
 slice-write-draft c = omega arith
 
+cast-fixed : tie.Need-cast-fixed Inv-loop μ-loop
+cast-fixed c = omega arith
+
+mul-fixed : tie.Need-mul-fixed Inv-loop μ-loop
+mul-fixed c = omega arith
+
+slice-write-fixed : tie.Need-slice-write-fixed Inv-loop μ-loop
+slice-write-fixed c = omega arith
+
 add-k : tie.Need-add-k Inv-loop μ-loop
 add-k c = omega arith
 
@@ -96,19 +115,22 @@ loop-again c =
     let at-lot-line = c .before .before .before in
     let at-line-end = at-lot-line .before .before in
     let at-loop = at-line-end .before .before in
-    let start = at-loop .before .before .before .before in
-    let a = start .args in let l = at-loop .loop in lots-on (now (a .s)) (a .at) (a .vertices) (a .blocks) (now (a .weights)) (now (a .draft)) (l .weights) (l .draft) (l .i) (l .k) (l .inv) (omega arith) (at-line-end .line-end .result) (at-line-end .line-end .ensures) (omega arith) (at-lot-line .lot-line .result) (at-lot-line .lot-line .ensures) (c .before .w .given .0 .0) (c .before .w .given .0 .1 .0) (c .before .w .given .1)
+    let start = at-loop .before .before .before .before .before in
+    let a = start .args in let l = at-loop .loop in lots-on (now (a .s)) (a .at) (a .vertices) (a .blocks) (now (a .weights)) (now (a .draft)) (now (a .fixed)) (l .weights) (l .draft) (l .fixed) (l .i) (l .k) (l .inv) (omega arith) (at-line-end .line-end .result) (at-line-end .line-end .ensures) (omega arith) (at-lot-line .lot-line .result) (at-lot-line .lot-line .ensures) (c .before .w .given .0 .0) (c .before .w .given .0 .1 .0) (c .before .w .given .0 .1 .1 .0) (c .before .w .given .1)
 
-same-length-5 : tie.Need-same-length-5 Inv-loop μ-loop
-same-length-5 c = c .before .loop .inv .w-same
+same-length-7 : tie.Need-same-length-7 Inv-loop μ-loop
+same-length-7 c = c .before .loop .inv .w-same
 
-same-length-6 : tie.Need-same-length-6 Inv-loop μ-loop
-same-length-6 c = c .before .loop .inv .d-same
+same-length-8 : tie.Need-same-length-8 Inv-loop μ-loop
+same-length-8 c = c .before .loop .inv .d-same
+
+same-length-9 : tie.Need-same-length-9 Inv-loop μ-loop
+same-length-9 c = c .before .loop .inv .fx-same
 
 returns-3 : tie.Need-returns-3 Inv-loop μ-loop
 returns-3 c =
-    let start = c .before .before .before .before .before in
-    let a = start .args in let l = c .before .loop in lots-done (now (a .s)) (a .at) (a .vertices) (a .blocks) (now (a .weights)) (now (a .draft)) (l .weights) (l .draft) (l .i) (l .k) (l .inv) (omega arith)
+    let start = c .before .before .before .before .before .before in
+    let a = start .args in let l = c .before .loop in lots-done (now (a .s)) (a .at) (a .vertices) (a .blocks) (now (a .weights)) (now (a .draft)) (now (a .fixed)) (l .weights) (l .draft) (l .fixed) (l .i) (l .k) (l .inv) (omega arith)
 
 pub read-vertices-spec : {M : Type 1} → statement M
 read-vertices-spec =
@@ -118,25 +140,31 @@ read-vertices-spec =
     μ-loop
     loop-holds
     line-end-requires
-    add-t15
+    add-t17
     same-length
     same-length-2
+    same-length-3
     returns
     lot-line-requires
     enum-known-q
-    add-t17
-    same-length-3
+    add-t19
     same-length-4
+    same-length-5
+    same-length-6
     returns-2
     enum-known-w
     mul-weights
     slice-write-weights
     mul-draft
     slice-write-draft
+    cast-fixed
+    mul-fixed
+    slice-write-fixed
     add-k
     add-i
     loop-less
     loop-again
-    same-length-5
-    same-length-6
+    same-length-7
+    same-length-8
+    same-length-9
     returns-3)
