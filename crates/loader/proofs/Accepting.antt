@@ -11,7 +11,7 @@ use lib.Seq.{length-take-le, getD-take}
 use Rattle.laws.specs.Fold.{sumOver, sumOver-le}
 use Rattle.laws.specs.Occurrence.{occ}
 use Rattle.laws.specs.Choice.{one}
-use Rattle.model.specs.Catalogue.{Limits, Hypergraph, vertices, drafted, nearest, capacity, capacities}
+use Rattle.model.specs.Catalogue.{Limits, Hypergraph, vertices, fixedEntry, drafted, nearest, capacity, capacities}
 use Rattle.model.specs.Measure.{pin, size, weight}
 use Rattle.model.specs.Machine.{fresh}
 use Rattle.model.specs.Grammar.{Book, reading, parse}
@@ -36,9 +36,9 @@ refused-accepted : {A : Type 0} {q n : ℕ} {z : Sizes} → Refused q n ≡ Acce
 refused-accepted e = absurd (let z : _≡_ {A = ℕ} 0 1 = cc in omega arith)
 
 -- a refused file
-pub refused : (limits : Limits) (file : List ℕ) (r : Outcome) (q n : ℕ) (w₀ d₀ a pp pc f₀ c₀ lp₀ w d nw f c lp calls : List ℕ) → FileRead limits file r w₀ d₀ f₀ c₀ lp₀ w d nw f c lp calls → r ≡ Stopped q n
-    → Loads limits file (Refused q n) (lists w₀ d₀ a lp₀ pp f₀ c₀ pc) (lists w d a lp pp f c pc) nw calls
-refused limits file r q n w₀ d₀ a pp pc f₀ c₀ lp₀ w d nw f c lp calls read is = record { says = ap (λ (x : Outcome). told x w d nw f c lp calls) (sym is) ∙ read .says; accepts = λ z y. refused-accepted y }
+pub refused : (limits : Limits) (file : List ℕ) (r : Outcome) (q n : ℕ) (w₀ d₀ fx₀ a pp pc f₀ c₀ lp₀ w d fx nw f c lp calls : List ℕ) → FileRead limits file r w₀ d₀ fx₀ f₀ c₀ lp₀ w d fx nw f c lp calls → r ≡ Stopped q n
+    → Loads limits file (Refused q n) (lists w₀ d₀ a fx₀ lp₀ pp f₀ c₀ pc) (lists w d a fx lp pp f c pc) nw calls
+refused limits file r q n w₀ d₀ fx₀ a pp pc f₀ c₀ lp₀ w d fx nw f c lp calls read is = record { says = ap (λ (x : Outcome). told x w d fx nw f c lp calls) (sym is) ∙ read .says; accepts = λ z y. refused-accepted y }
 
 -- ---- weights are small
 pub small-average : (limits : Limits) (h : Hypergraph) → Good limits h → vertices h ≤ 1024 → (k : ℕ) → averageOf k (h .weights) ≤ 67107855 + k
@@ -46,20 +46,20 @@ small-average limits h g l k =
     let s = sumOver-le (h .weights) (λ w. (1 ≤ w) × (w ≤ 65535)) (λ w. w) 65535 (g .weights-in) (λ w r. r .1) in
     omega (arith, div-le-self (sumOver (h .weights) (λ w. w) + (k - 1)) k)
 
-module _ (limits : Limits) (file : List ℕ) (l b k t m n : ℕ) (w₀ d₀ a₀ lp₀ pp₀ f₀ c₀ pc₀ w d a lp pp f c pc nw calls : List ℕ) where
+module _ (limits : Limits) (file : List ℕ) (l b k t m n : ℕ) (w₀ d₀ a₀ fx₀ lp₀ pp₀ f₀ c₀ pc₀ w d a fx lp pp f c pc nw calls : List ℕ) where
   abbrev h : Hypergraph
-  h = graphOf l b k t w d nw f c lp
+  h = graphOf l b k t w d fx nw f c lp
 
   abbrev k′ : Book
   k′ = book l b h m (callsOf n calls)
 
-  module _ (r : Outcome) (read : FileRead limits file r w₀ d₀ f₀ c₀ lp₀ w d nw f c lp calls) (is : r ≡ Taken l b k t m n) (v-le : limits .vertexLimit ≤ 1024)
-      (w-len : length w ≡ length w₀) (d-len : length d ≡ length d₀) (lp-len : length lp ≡ length lp₀) (f-len : length f ≡ length f₀) (c-len : length c ≡ length c₀)
+  module _ (r : Outcome) (read : FileRead limits file r w₀ d₀ fx₀ f₀ c₀ lp₀ w d fx nw f c lp calls) (is : r ≡ Taken l b k t m n) (v-le : limits .vertexLimit ≤ 1024)
+      (w-len : length w ≡ length w₀) (d-len : length d ≡ length d₀) (fx-len : length fx ≡ length fx₀) (lp-len : length lp ≡ length lp₀) (f-len : length f ≡ length f₀) (c-len : length c ≡ length c₀)
       (w-long : limits .vertexLimit ≤ length w₀) (d-long : limits .vertexLimit ≤ length d₀) (lp-long : 8192 ≤ length lp₀) (pp-long : 8192 ≤ length pp₀) where
     says : reading k′ ≡ parse limits file
-    says = ap (λ (x : Outcome). told x w d nw f c lp calls) (sym is) ∙ read .says
+    says = ap (λ (x : Outcome). told x w d fx nw f c lp calls) (sym is) ∙ read .says
 
-    fit : Fitted limits l b k t m n w₀ d₀ f₀ c₀ lp₀ w d f c lp calls
+    fit : Fitted limits l b k t m n w₀ d₀ fx₀ f₀ c₀ lp₀ w d fx f c lp calls
     fit = read .fitted l b k t m n is
 
     good : Good limits h
@@ -95,6 +95,11 @@ module _ (limits : Limits) (file : List ℕ) (l b k t m n : ℕ) (w₀ d₀ a₀
           ∙ ap (λ (j : ℕ). getD (take l d) j 0) z
           ∙ getD-take l d i 0 u)
 
+      fixed-at : (i : ℕ) → i < l → i < length fx₀ → getD fx i 0 ≡ fixedEntry h (suc i)
+      fixed-at i u _ =
+          let z : suc i - 1 ≡ i = omega arith in
+          sym (ap (λ (j : ℕ). getD (take l fx) j 0) z ∙ getD-take l fx i 0 u)
+
       abbrev laid : Laid b m f₀ c₀ lp₀ f c lp
       laid = fit .settled .laid
 
@@ -124,11 +129,12 @@ module _ (limits : Limits) (file : List ℕ) (l b k t m n : ℕ) (w₀ d₀ a₀
           ∙ ap (λ (x : ℕ). occ pp (getD f y 0) x v) (present-at y z)
           ∙ sets-is h b m f₀ c₀ lp₀ nw f c lp refl laid wide (good .nets-in) (good .nets-distinct) pp copied y v z
 
-      pub started : Started h (lists w₀ d₀ a₀ lp₀ pp₀ f₀ c₀ pc₀) (lists w d a lp pp f c pc)
+      pub started : Started h (lists w₀ d₀ a₀ fx₀ lp₀ pp₀ f₀ c₀ pc₀) (lists w d a fx lp pp f c pc)
       started = record {
         weights = filled-as l (vertices h) _ _ w₀ w (filled l (λ i. weightEntry h [] (drafted h) (suc i)) w₀ w w-len weight-at (fit .w-past)) (sym count) (λ i u. refl);
         blocks = filled-as l (vertices h) _ _ d₀ d (filled l (λ i. blockEntry h [] (drafted h) (suc i)) d₀ d d-len block-at (fit .d-past)) (sym count) (λ i u. refl);
         aboves = filled-as l (vertices h) (λ i. 0) _ a₀ a fa (sym count) (λ i u. sym (above-none (suc i)));
+        fixed = filled-as l (vertices h) _ _ fx₀ fx (filled l (λ i. fixedEntry h (suc i)) fx₀ fx fx-len fixed-at (fit .fx-past)) (sym count) (λ i u. refl);
         loadedPins = filled-as m (length (allPins (h .nets))) (λ i. getD lp i 0) _ lp₀ lp (filled m (λ i. getD lp i 0) lp₀ lp lp-len (λ i u v. refl) (laid .past)) (sym total) pin-at;
         copiedPins = filled-as m (length (allPins (h .nets))) (λ i. getD lp i 0) _ pp₀ pp fp (sym total) pin-at;
         presentPins = record { as-long = fp .as-long; sets = sets-at; past = λ i u v. filled-out m (λ i. getD lp i 0) pp₀ pp fp i (omega (arith, total)) v };
@@ -142,7 +148,7 @@ module _ (limits : Limits) (file : List ℕ) (l b k t m n : ℕ) (w₀ d₀ a₀
       capped = held-start limits file k′ (sym says) .capped
 
       pub accepted : (s : Sizes) → s ≡ sizesOf l b k t m n (averageOf k (take l w)) (nearest ((1000 + t) * averageOf k (take l w)))
-          → Loads limits file (Accepted s) (lists w₀ d₀ a₀ lp₀ pp₀ f₀ c₀ pc₀) (lists w d a lp pp f c pc) nw calls
+          → Loads limits file (Accepted s) (lists w₀ d₀ a₀ fx₀ lp₀ pp₀ f₀ c₀ pc₀) (lists w d a fx lp pp f c pc) nw calls
       accepted s e = record {
         says = rw e says;
         accepts = λ z q.
@@ -153,8 +159,8 @@ module _ (limits : Limits) (file : List ℕ) (l b k t m n : ℕ) (w₀ d₀ a₀
               calls-le = fit .settled .n-le;
               costs = read .nw-len l b k t m n is;
               known = fit .settled .known;
-              average = sym (average-is l k t w d (netsOf b nw f c lp));
-              capacity = sym (capacity-is l k t w d (netsOf b nw f c lp));
+              average = sym (average-is l k t w d fx (netsOf b nw f c lp));
+              capacity = sym (capacity-is l k t w d fx (netsOf b nw f c lp));
               capped = capped;
               started = started;
             });
