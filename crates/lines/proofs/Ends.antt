@@ -1,7 +1,7 @@
 -- A line that may end in `,K`: where its fields end, by its last two bytes; and what a lot line says then. Rests on Line of specs.
 use Prim.Native.Nat.{ℕ, _+_, _-_, _≤_, _<_}
-use mathlib.Core.Path.{_≡_, refl, ap, sym, _∙_}
-use mathlib.Core.Bool.{Bool, true, false, _&&_, cond}
+use mathlib.Core.Path.{_≡_, ap, sym, _∙_}
+use mathlib.Core.Bool.{Bool, true, false, _&&_, cond, and-false}
 use mathlib.Core.List.{List}
 use native.Mathlib.Omega.{arith}
 use lib.Dec.{eqb, leb, ltb}
@@ -39,11 +39,7 @@ module _ (s : List ℕ) (at end : ℕ) (le : at ≤ end) (within : end ≤ lengt
     ends-is = rw (le-leb 2 (length whole) (omega (arith, size)), byte 2 (omega arith) long, byte 1 (omega arith) (omega arith))
 
     pub ends-other : (getD s (end - 1) 0 ≡ 75 → ⊥) → FieldsEnd s at end end
-    ends-other n = plain (ends-is ∙ ap (λ (t : Bool). eqb (getD s (end - 2) 0) 44 && t) (ne-eqb _ _ n) ∙ none (eqb (getD s (end - 2) 0) 44))
-      where
-        none : (t : Bool) → (t && false) ≡ false
-        none true = refl
-        none false = refl
+    ends-other n = plain (ends-is ∙ ap (λ (t : Bool). eqb (getD s (end - 2) 0) 44 && t) (ne-eqb _ _ n) ∙ and-false (eqb (getD s (end - 2) 0) 44))
 
     pub ends-joined : (getD s (end - 2) 0 ≡ 44 → ⊥) → FieldsEnd s at end end
     ends-joined n = plain (ends-is ∙ ap (λ (t : Bool). t && eqb (getD s (end - 1) 0) 75) (ne-eqb _ _ n))

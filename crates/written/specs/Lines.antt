@@ -1,10 +1,11 @@
--- One line of each kind, written and read: SALE begins a book (sale-line), LOT and BUY add to it what was written (lot-line, buy-line).
+-- One line of each kind, written and read: SALE begins a book (sale-line), LOT and BUY add to it what was written (lot-line, buy-line);
+-- a LOT line is written without `,K`.
 -- Rests on Rows, Numbers and Marks. Assumes nothing.
 use Prim.Native.Nat.{ℕ, suc, _+_, _≤_, _<_}
 use Prim.Native.String.{String}
 use native.Mathlib.Omega.{arith}
 use mathlib.Core.Path.{_≡_, refl, ap}
-use mathlib.Core.Bool.{Bool, true, not, cond}
+use mathlib.Core.Bool.{Bool, true, false, not, cond}
 use mathlib.Core.List.{List, [], _∷_}
 use borrow.Author.Tests.{lt-ltb, le-ltb, le-leb}
 use lib.ListN.{length}
@@ -17,7 +18,7 @@ use Rattle.guarantees.specs.Reading.{blank, lotted, netted}
 use Rattle.guarantees.specs.Clumps.{Within}
 use Rattle.model.specs.CatalogueText.{numbers}
 use Rattle.written.specs.Rows.{Above, joined, fields-joined}
-use Rattle.written.specs.Numbers.{Short, both, inside, numbers-above, is-line}
+use Rattle.written.specs.Numbers.{Short, both, inside, numbers-above, is-line, plain-line, plain-before}
 use Rattle.written.specs.Marks.{marks-read}
 
 fields-numbers : (word : String) (ns : List ℕ) → Above 44 (bytes word) → fields (joined (bytes word) (numbers ns)) ≡ bytes word ∷ numbers ns
@@ -41,10 +42,10 @@ sale-line limits n l b k s small narrow ll lu bu kl ku su =
     (both (both (both (inside 1 (limits .vertexLimit) l ll lu) (inside 0 1024 b (omega arith) bu)) (inside 2 (limits .blockLimit) k kl ku)) (inside 0 1000 s (omega arith) su)))
 
 pub lot-line : (limits : Limits) (n : ℕ) (k : Book) (w b : ℕ) → Short (k .graph .blocks) → vertices (k .graph) < k .lots → 1 ≤ w → w ≤ 65535 → 1 ≤ b → b ≤ k .graph .blocks
-    → line limits n (reading k) (joined (bytes "LOT") (numbers (w ∷ b ∷ []))) ≡ grown n (lotted k w b)
+    → line limits n (reading k) (joined (bytes "LOT") (numbers (w ∷ b ∷ []))) ≡ grown n (lotted k w b false)
 unfolding line lotLine
 lot-line limits n k w b narrow more wl wu bl bu =
-    rw (lt-ltb (vertices (k .graph)) (k .lots) more, fields-numbers "LOT" (w ∷ b ∷ []) (words .1), value-digits w, value-digits b)
+    rw (lt-ltb (vertices (k .graph)) (k .lots) more, plain-line (bytes "LOT") w (b ∷ []), plain-before (bytes "LOT") w (b ∷ []), fields-numbers "LOT" (w ∷ b ∷ []) (words .1), value-digits w, value-digits b)
     (passed _ _ _ (both (is-line "LOT" (w ∷ b ∷ []) (omega arith)) refl) (both (inside 1 65535 w wl wu) (inside 1 (k .graph .blocks) b bl bu)))
 
 -- ---- a buyer whose marks are all lots that there are, none twice
