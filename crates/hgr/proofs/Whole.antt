@@ -7,7 +7,8 @@ use mathlib.Core.Bool.{Bool, true, false, not, _&&_, cond, true≢false, and-fal
 use mathlib.Core.List.{List, [], _∷_, _++_, map, append-nil}
 use borrow.Author.Tests.{eq-eqb, ne-eqb, le-leb, lt-leb, le-ltb, lt-ltb, leb-true, not-true, not-false}
 use lib.Dec.{eqb, leb, ltb}
-use lib.ListN.{length, take, drop, length-append, length-map}
+use lib.ListN.{length, take, drop, length-append, length-map, length-take}
+use lib.Seq.{take-all}
 use Rattle.laws.specs.Choice.{cond-zero, and-right}
 use Rattle.laws.specs.Fold.{sumOver}
 use Rattle.model.specs.Catalogue.{Net, Hypergraph, vertices}
@@ -78,11 +79,19 @@ module _ (s : List ℕ) (p : Plan) (sound : Sound s p) where
     pub text-length : length (catalogueText (catalogueOf f)) ≡ length (saleRow p) + length lots + length nets
     text-length = omega (arith, ap length text-is, length-append (saleRow p) (lots ++ nets), length-append lots nets)
 
-    pub graph-is : withNets (lotsGraph (p .blocks) (p .imbalance) (p .vertices) w d) (map netOf (f .edges)) ≡ catalogueOf f
+    -- no vertex is fixed
+    abbrev fixed : List ℕ
+    fixed = map (λ b. 0) (f .listing)
+
+    fixed-is : take (p .vertices) fixed ≡ fixed
+    fixed-is = take-all (p .vertices) fixed (omega (arith, length-map {B = ℕ} (f .listing) (λ b. 0), length-map (f .listing) suc, ap length draft-is, length-take (p .vertices) d))
+
+    pub graph-is : withNets (lotsGraph (p .blocks) (p .imbalance) (p .vertices) w d fixed) (map netOf (f .edges)) ≡ catalogueOf f
     unfolding catalogueOf said
     graph-is =
-        ap₂ (λ (k t : ℕ). record { blocks = k; imbalance = t; totalWeight = sumOver (take (p .vertices) w) (λ v. v); weights = take (p .vertices) w; draft = take (p .vertices) d; nets = map netOf (f .edges) }) (sound .blocks-is) (sound .imbalance-is)
-        ∙ ap₂ (λ (x y : List ℕ). record { blocks = f .blocks; imbalance = f .imbalance; totalWeight = sumOver x (λ v. v); weights = x; draft = y; nets = map netOf (f .edges) }) weights-are draft-is
+        ap₂ (λ (k t : ℕ). record { blocks = k; imbalance = t; totalWeight = sumOver (take (p .vertices) w) (λ v. v); weights = take (p .vertices) w; draft = take (p .vertices) d; fixed = take (p .vertices) fixed; nets = map netOf (f .edges) }) (sound .blocks-is) (sound .imbalance-is)
+        ∙ ap₂ (λ (x y : List ℕ). record { blocks = f .blocks; imbalance = f .imbalance; totalWeight = sumOver x (λ v. v); weights = x; draft = y; fixed = take (p .vertices) fixed; nets = map netOf (f .edges) }) weights-are draft-is
+        ∙ ap (λ (x : List ℕ). record { blocks = f .blocks; imbalance = f .imbalance; totalWeight = sumOver (f .weights) (λ v. v); weights = f .weights; draft = map suc (f .listing); fixed = x; nets = map netOf (f .edges) }) fixed-is
 
   -- ---- the verdict, test by test
   module _ (w d : List ℕ) (seen : Seen s (p .carried) (p .listed) (p .size) w d) where
@@ -108,7 +117,7 @@ module _ (s : List ℕ) (p : Plan) (sound : Sound s p) where
 
         module _ (o : Bool) (over : overfullIs (p .vertices) (p .blocks) (p .imbalance) w d o) where
           over-is : overfull (catalogueOf f) ≡ o
-          over-is = sym (over (map netOf (f .edges)) ∙ ap overfull (graph-is w d weights-in draft-in))
+          over-is = sym (over (fixed w d weights-in draft-in) (map netOf (f .edges)) ∙ ap overfull (graph-is w d weights-in draft-in))
 
           says : (b c : Bool) → leb (length (catalogueText (catalogueOf f))) 60000 ≡ b → (not o && b) ≡ c → verdict s ≡ cond (not c) 18 0
           says b c q e = verdict-is s true true c (sym (seen .carried-is) ∙ yes) (sym (seen .listed-is) ∙ good) (fits-is (catalogueOf f) o b over-is q ∙ e)
