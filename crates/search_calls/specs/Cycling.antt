@@ -14,6 +14,7 @@ use Rattle.guarantees.specs.Caps.{CeilingIs}
 use Rattle.operations.specs.Pairs.{pairs-none, pairs-some}
 use Rattle.operations.specs.Tables.{Tables, Sound}
 use Rattle.operations.specs.Keeping.{keeps-none}
+use Rattle.fixed.specs.Starting.{FixedIs}
 use Rattle.cycle.specs.Whole.{CycleOk, Does}
 use Rattle.edit_calls.specs.Steps.{Runs, Ready}
 use Rattle.edit_calls.specs.Called.{Called, Cleared, stepped, refused, settle-no, settle-yes}
@@ -23,9 +24,10 @@ use Rattle.edit_calls.specs.Contracting.{above-none, emptied, cleared-whole}
 abbrev pub AverageIs : ℕ → Hypergraph → Type 0
 AverageIs x h = x ≡ averageWeight h
 
-pub record ReadyA (T : Tables) (S J : Two) (average : ℕ) : Type 0 where
+pub record ReadyA (T : Tables) (S J : Two) (average : ℕ) (fixedmarks : List ℕ) : Type 0 where
   pub ready : Ready T S J
   pub average-is : average ≡ averageWeight (ready .h)
+  pub fixed : FixedIs fixedmarks (ready .h) []
 
 -- a contraction stands
 pub refused-A : {h : Hypergraph} {ceiling : ℕ → ℕ} (T : Tables) {S J : Two} → (S .len ≡ 0 → ⊥) → Called h ceiling T T S S J J callA (saysNO 16)
@@ -47,20 +49,21 @@ module _ {h : Hypergraph} {s : State} {T : Tables} {S J : Two} (r : Runs h s T S
   sound-none : Sound h [] (s .block) T
   sound-none = subst (λ (cs : List Contraction). Sound h cs (s .block) T) stack-none (r .sound)
 
-pub cycle-asks : {T : Tables} {S J : Two} {average : ℕ} → ReadyA T S J average → S .len ≡ 0 → CycleOk T average
+pub cycle-asks : {T : Tables} {S J : Two} {average : ℕ} {fixedmarks : List ℕ} → ReadyA T S J average fixedmarks → S .len ≡ 0 → CycleOk T average fixedmarks
 cycle-asks g z = record {
   h = g .ready .h;
   block = g .ready .s .block;
   sound = sound-none (g .ready .runs) z;
   average-is = g .average-is;
+  fixed = g .fixed;
 }
 
-pub accepted-A : (h : Hypergraph) (ceiling : ℕ → ℕ) (T T′ : Tables) (S J J′ : Two) (average : ℕ) (ceilings : List ℕ) {joins tried kept moves : ℕ} → average ≡ averageWeight h → CeilingIs ceilings h ceiling → S .len ≡ 0 → Does T average ceilings T′ joins tried kept moves → Cleared J J′
+pub accepted-A : (h : Hypergraph) (ceiling : ℕ → ℕ) (T T′ : Tables) (S J J′ : Two) (average : ℕ) (ceilings fixedmarks : List ℕ) {joins tried kept moves : ℕ} → average ≡ averageWeight h → CeilingIs ceilings h ceiling → FixedIs fixedmarks h [] → S .len ≡ 0 → Does T average ceilings fixedmarks T′ joins tried kept moves → Cleared J J′
     → Called h ceiling T T′ S S J J′ callA (saysA joins tried kept moves (T′ .total))
 unfolding callUnder refusesA doesA refusal
-accepted-A h ceiling T T′ S J J′ average ceilings qa qc z d c = record {
+accepted-A h ceiling T T′ S J J′ average ceilings fixedmarks qa qc qf z d c = record {
   steps = λ s r.
-      let e = d .is h ceiling s qa qc (sound-none r z) in
+      let e = d .is h ceiling s qa qc qf (sound-none r z) in
       stepped callA (doesA h ceiling s) (settle-yes (refusesA h s (s .stack)) s (doesA h ceiling s) (ap (refusesA h s) (stack-none r z))) r (record {
         sound = e .sound;
         stack-is = r .stack-is ∙ stack-none r z;
@@ -68,6 +71,6 @@ accepted-A h ceiling T T′ S J J′ average ceilings qa qc z d c = record {
         stack-whole = r .stack-whole;
         journal-whole = cleared-whole c (r .journal-whole);
       }) (sym (e .answer-is)) (omega (arith, c .len-is));
-  keeps = λ s r. d .keeps h ceiling (s .block) qa qc (sound-none r z);
+  keeps = λ s r. d .keeps h ceiling (s .block) qa qc qf (sound-none r z);
   unchanged = λ l. absurd (omega arith);
 }

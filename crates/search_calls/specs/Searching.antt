@@ -13,17 +13,28 @@ use Rattle.model.specs.Catalogue.{Hypergraph}
 use Rattle.model.specs.Machine.{callW, callP, saysW, saysP, State, settle}
 use Rattle.model.specs.Report.{refusal}
 use Rattle.model.specs.Search.{walk, refusesW, doesW, doesP, callUnder}
-use Rattle.model.specs.Lent.{Two}
+use Rattle.model.specs.Measure.{Contraction}
+use Rattle.model.specs.Lent.{Two, stackOf}
 use Rattle.guarantees.specs.Caps.{CeilingIs}
 use Rattle.guarantees.specs.SearchBounds.{tried-le, walk-counts}
 use Rattle.operations.specs.Tables.{Tables}
 use Rattle.operations.specs.Keeping.{keeps-none}
+use Rattle.fixed.specs.Starting.{FixedIs}
 use Rattle.walk.specs.Steps.{WalkOk, Ended, Walks}
 use Rattle.polish.specs.Polished.{PolishOk, Polishes}
 use Rattle.edit_calls.specs.Refusal.{known, here, refusalW, refusalW-is, known-range}
 use Rattle.edit_calls.specs.Steps.{Runs, Ready, told}
 use Rattle.edit_calls.specs.Called.{ReadyM, Called, Cleared, stepped, refused, settle-no, settle-yes}
 use Rattle.edit_calls.specs.Contracting.{above-none, emptied, cleared-whole}
+
+-- what W and P need beyond M's needs: marks that say who is fixed
+pub record ReadyW (T : List ℕ → List ℕ → Tables) (J : Two) (fixedmarks : List ℕ) : Type 0 where
+  pub moving : ReadyM T J
+  pub fixed : FixedIs fixedmarks (moving .ready .h) (stackOf (moving .stack .xs) (moving .stack .ys) (moving .stack .len))
+
+-- the stack is the machine's
+fixed-now : {h : Hypergraph} {s : State} {T : Tables} {S J : Two} {fixedmarks : List ℕ} → Runs h s T S J → FixedIs fixedmarks h (stackOf (S .xs) (S .ys) (S .len)) → FixedIs fixedmarks h (s .stack)
+fixed-now {h} {fixedmarks = fixedmarks} r f = subst (λ (cs : List Contraction). FixedIs fixedmarks h cs) (r .stack-is) f
 
 -- ---- W
 -- two vertices on the board
@@ -55,8 +66,9 @@ both-of blocks n u v q =
       v-on = here-on blocks v (and-right (here blocks u) (here blocks v) on);
     }
 
-pub walk-asks : {T : List ℕ → List ℕ → Tables} {J : Two} (u v : ℕ) (g : ReadyM T J) → refusalW (T (g .aboves) (g .loaded) .blocks) (T (g .aboves) (g .loaded) .n) u v ≡ 0 → WalkOk T (u - 1) (v - 1)
-walk-asks {T} u v g e =
+pub walk-asks : {T : List ℕ → List ℕ → Tables} {J : Two} {fixedmarks : List ℕ} (u v : ℕ) (w : ReadyW T J fixedmarks) → refusalW (T (w .moving .aboves) (w .moving .loaded) .blocks) (T (w .moving .aboves) (w .moving .loaded) .n) u v ≡ 0 → WalkOk T fixedmarks (u - 1) (v - 1)
+walk-asks {T} u v w e =
+    let g = w .moving in
     let b = both-of (T (g .aboves) (g .loaded) .blocks) (T (g .aboves) (g .loaded) .n) u v e in
     record {
       aboves = g .aboves;
@@ -65,6 +77,7 @@ walk-asks {T} u v g e =
       cs = g .ready .s .stack;
       block = g .ready .s .block;
       sound = g .ready .runs .sound;
+      fixed = fixed-now (g .ready .runs) (w .fixed);
       u-in = omega (arith, b .u-from, b .u-to);
       u-on = b .u-on;
       v-in = omega (arith, b .v-from, b .v-to);
@@ -72,13 +85,14 @@ walk-asks {T} u v g e =
     }
 
 -- a walk's numbers are small
-pub walk-few : {T T′ : List ℕ → List ℕ → Tables} {J : Two} {ceilings : List ℕ} {u v tried kept : ℕ} (g : ReadyM T J) → ((aboves loaded : List ℕ) → Walks (T aboves loaded) ceilings u v (T′ aboves loaded) tried kept) → (tried < 65536) × (kept < 65536)
-walk-few {ceilings = ceilings} {u} {v} g f =
+pub walk-few : {T T′ : List ℕ → List ℕ → Tables} {J : Two} {ceilings fixedmarks : List ℕ} {u v tried kept : ℕ} (w : ReadyW T J fixedmarks) → ((aboves loaded : List ℕ) → Walks (T aboves loaded) ceilings fixedmarks u v (T′ aboves loaded) tried kept) → (tried < 65536) × (kept < 65536)
+walk-few {ceilings = ceilings} {u = u} {v} w f =
+    let g = w .moving in
     let ceiling : ℕ → ℕ = λ b. getD ceilings (b - 1) 0 in
     let s = g .ready .runs .sound in
     let cs = g .ready .s .stack in
     let block = g .ready .s .block in
-    let e = f (g .aboves) (g .loaded) .is (g .ready .h) ceiling cs block (λ b _ _. refl) s in
+    let e = f (g .aboves) (g .loaded) .is (g .ready .h) ceiling cs block (λ b _ _. refl) (fixed-now (g .ready .runs) (w .fixed)) s in
     let l = tried-le (g .ready .h) ceiling cs block (u + 1) (v + 1) in (
       omega (arith, e .tried-is, l, s .follows .says .all-vertices, s .follows .room .few-vertices),
       omega (arith, e .kept-is, walk-counts (g .ready .h) ceiling cs block (u + 1) (v + 1) .kept-le, l, s .follows .says .all-vertices, s .follows .room .few-vertices),
@@ -92,14 +106,14 @@ refused-W {h} {ceiling} T u v q tried kept total e n = record {
   unchanged = λ _. (refl, refl, refl);
 }
 
-module _ (h : Hypergraph) (ceiling : ℕ → ℕ) (T T′ : Tables) (S J J′ : Two) (ceilings : List ℕ) (u v : ℕ) {tried kept : ℕ} (lim : CeilingIs ceilings h ceiling) (e : refusalW (T .blocks) (T .n) u v ≡ 0) (w : Walks T ceilings (u - 1) (v - 1) T′ tried kept) (c : Cleared J J′) where
+module _ (h : Hypergraph) (ceiling : ℕ → ℕ) (T T′ : Tables) (S J J′ : Two) (ceilings fixedmarks : List ℕ) (u v : ℕ) {tried kept : ℕ} (lim : CeilingIs ceilings h ceiling) (fix : FixedIs fixedmarks h (stackOf (S .xs) (S .ys) (S .len))) (e : refusalW (T .blocks) (T .n) u v ≡ 0) (w : Walks T ceilings fixedmarks (u - 1) (v - 1) T′ tried kept) (c : Cleared J J′) where
   ended : (s : State) → Runs h s T S J → Ended h (s .stack) (walk h ceiling (s .stack) (s .block) u v) T′ tried kept
   ended s r =
       let b = both-of (T .blocks) (T .n) u v e in
       let u-is : u - 1 + 1 ≡ u = omega (arith, b .u-from) in
       let v-is : v - 1 + 1 ≡ v = omega (arith, b .v-from) in
       subst (λ (x : ℕ). Ended h (s .stack) (walk h ceiling (s .stack) (s .block) x v) T′ tried kept) u-is
-      (subst (λ (y : ℕ). Ended h (s .stack) (walk h ceiling (s .stack) (s .block) (u - 1 + 1) y) T′ tried kept) v-is (w .is h ceiling (s .stack) (s .block) lim (r .sound)))
+      (subst (λ (y : ℕ). Ended h (s .stack) (walk h ceiling (s .stack) (s .block) (u - 1 + 1) y) T′ tried kept) v-is (w .is h ceiling (s .stack) (s .block) lim (fixed-now r fix) (r .sound)))
 
   pub accepted-W : (x y : ℕ) → x ≡ tried → y ≡ kept → Called h ceiling T T′ S S J J′ (callW u v) (saysW x y (T′ .total))
   unfolding callUnder doesW refusal
@@ -118,21 +132,22 @@ module _ (h : Hypergraph) (ceiling : ℕ → ℕ) (T T′ : Tables) (S J J′ : 
   }
 
 -- ---- P
-pub polish-asks : {T : List ℕ → List ℕ → Tables} {J : Two} → ReadyM T J → PolishOk T
-polish-asks g = record {
+pub polish-asks : {T : List ℕ → List ℕ → Tables} {J : Two} {fixedmarks : List ℕ} → ReadyW T J fixedmarks → PolishOk T fixedmarks
+polish-asks w = let g = w .moving in record {
   aboves = g .aboves;
   loaded = g .loaded;
   h = g .ready .h;
   cs = g .ready .s .stack;
   block = g .ready .s .block;
   sound = g .ready .runs .sound;
+  fixed = fixed-now (g .ready .runs) (w .fixed);
 }
 
-pub accepted-P : (h : Hypergraph) (ceiling : ℕ → ℕ) (T T′ : Tables) (S J J′ : Two) (ceilings : List ℕ) {moves : ℕ} → CeilingIs ceilings h ceiling → Polishes T ceilings T′ moves → Cleared J J′ → Called h ceiling T T′ S S J J′ callP (saysP moves (T′ .total))
+pub accepted-P : (h : Hypergraph) (ceiling : ℕ → ℕ) (T T′ : Tables) (S J J′ : Two) (ceilings fixedmarks : List ℕ) {moves : ℕ} → CeilingIs ceilings h ceiling → FixedIs fixedmarks h (stackOf (S .xs) (S .ys) (S .len)) → Polishes T ceilings fixedmarks T′ moves → Cleared J J′ → Called h ceiling T T′ S S J J′ callP (saysP moves (T′ .total))
 unfolding callUnder doesP refusal
-accepted-P h ceiling T T′ S J J′ ceilings lim p c = record {
+accepted-P h ceiling T T′ S J J′ ceilings fixedmarks lim fix p c = record {
   steps = λ s r.
-      let d = p .is h ceiling (s .stack) (s .block) lim (r .sound) in
+      let d = p .is h ceiling (s .stack) (s .block) lim (fixed-now r fix) (r .sound) in
       stepped callP (doesP h ceiling s) refl r (record {
         sound = d .sound;
         stack-is = r .stack-is;

@@ -1,9 +1,11 @@
 // The call A: refused while a contraction stands, or done, with the numbers of the answer.
 ghost use Prim.Native.Nat.{ℕ};
+ghost use mathlib.Core.List.{[]};
 ghost use Rattle.model.specs.Catalogue.{Hypergraph};
 ghost use Rattle.model.specs.Machine.{callA, saysA};
 ghost use Rattle.model.specs.Lent.{two};
 ghost use Rattle.guarantees.specs.Caps.{CeilingIs};
+ghost use Rattle.fixed.specs.Starting.{FixedIs};
 ghost use Rattle.operations.specs.Tables.{tables};
 ghost use Rattle.edit_calls.specs.Steps.{told};
 ghost use Rattle.edit_calls.specs.Called.{Called};
@@ -41,6 +43,7 @@ pub fn call_all(
     firsts: &[u16],
     loadedsizes: &[u16],
     ceilings: &[u64; 16],
+    fixedmarks: [u64; 48],
     size: Size,
     total: u32,
     stack: Stack,
@@ -48,8 +51,8 @@ pub fn call_all(
 ) -> AllTurn
     requires { ⌜ ReadyA
         (tables (now counts) (now visited) (now gains) (now presentpins) (now presentsizes) (now bits) (now blocks) (now weights) (now aboves) (now loads) (now netweights) (now firsts) (now loadedsizes) (size .n) (size .m) (size .k) total)
-        (two (stack .into) (stack .gone) (stack .len)) (two (journal .vertices) (journal .blocks) (journal .len)) (size .average) ⌝ }
-    ensures { λ r. ⌜ ((h : Hypergraph) (ceiling : ℕ → ℕ) → AverageIs (size .average) h → CeilingIs (now (ceilings .entry)) h ceiling → Called h ceiling
+        (two (stack .into) (stack .gone) (stack .len)) (two (journal .vertices) (journal .blocks) (journal .len)) (size .average) fixedmarks ⌝ }
+    ensures { λ r. ⌜ ((h : Hypergraph) (ceiling : ℕ → ℕ) → AverageIs (size .average) h → CeilingIs (now (ceilings .entry)) h ceiling → FixedIs fixedmarks h [] → Called h ceiling
         (tables (now (counts .entry)) (now (visited .entry)) (now (gains .entry)) (now (presentpins .entry)) (now (presentsizes .entry)) (now (bits .entry)) (now (blocks .entry)) (now (weights .entry)) (now (aboves .entry)) (now (loads .entry)) (now (netweights .entry)) (now (firsts .entry)) (now (loadedsizes .entry)) (size .n) (size .m) (size .k) total)
         (tables (now (counts .exit)) (now (visited .exit)) (now (gains .exit)) (now (presentpins .exit)) (now (presentsizes .exit)) (now (bits .exit)) (now (blocks .exit)) (now (weights .exit)) (now (aboves .exit)) (now (loads .exit)) (now (netweights .exit)) (now (firsts .exit)) (now (loadedsizes .exit)) (size .n) (size .m) (size .k) (r .total))
         (two (stack .into) (stack .gone) (stack .len)) (two (r .stack .into) (r .stack .gone) (r .stack .len)) (two (journal .vertices) (journal .blocks) (journal .len)) (two (r .journal .vertices) (r .journal .blocks) (r .journal .len)) callA (told (r .no) (saysA (r .joins) (r .tried) (r .kept) (r .moves) (r .total)))) ⌝ }
@@ -83,6 +86,7 @@ pub fn call_all(
         firsts,
         loadedsizes,
         ceilings,
+        fixedmarks,
         size,
         total,
     );

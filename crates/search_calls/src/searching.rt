@@ -3,11 +3,13 @@ ghost use Prim.Native.Nat.{ℕ};
 ghost use mathlib.Core.List.{List};
 ghost use Rattle.model.specs.Catalogue.{Hypergraph};
 ghost use Rattle.model.specs.Machine.{callW, callP, saysW, saysP};
-ghost use Rattle.model.specs.Lent.{Two, two};
+ghost use Rattle.model.specs.Lent.{Two, two, stackOf};
 ghost use Rattle.guarantees.specs.Caps.{CeilingIs};
+ghost use Rattle.fixed.specs.Starting.{FixedIs};
 ghost use Rattle.search_moves.specs.Lent.{lent};
 ghost use Rattle.edit_calls.specs.Steps.{told};
-ghost use Rattle.edit_calls.specs.Called.{ReadyM, Called};
+ghost use Rattle.edit_calls.specs.Called.{Called};
+ghost use Rattle.search_calls.specs.Searching.{ReadyW};
 use edit_calls::refusals::refuses_walk;
 use incidence::numbers::narrow;
 use incidence::numbers::wide;
@@ -45,6 +47,7 @@ pub fn call_walk(
     netweights: &[u16],
     firsts: &[u16],
     ceilings: &[u64; 16],
+    fixedmarks: [u64; 48],
     n: usize,
     m: usize,
     k: usize,
@@ -53,10 +56,10 @@ pub fn call_walk(
     u: usize,
     v: usize,
 ) -> WalkTurn
-    requires { ⌜ ReadyM
+    requires { ⌜ ReadyW
         (lent (now counts) (now visited) (now gains) (now blocks) (now loads) (now presentpins) (now presentsizes) (now bits) (now weights) (now netweights) (now firsts) n m k total)
-        (two (journal .vertices) (journal .blocks) (journal .len)) ⌝ }
-    ensures { λ r. ⌜ ((aboves loadedsizes : List ℕ) (S : Two) (h : Hypergraph) (ceiling : ℕ → ℕ) → CeilingIs (now (ceilings .entry)) h ceiling → Called h ceiling
+        (two (journal .vertices) (journal .blocks) (journal .len)) fixedmarks ⌝ }
+    ensures { λ r. ⌜ ((aboves loadedsizes : List ℕ) (S : Two) (h : Hypergraph) (ceiling : ℕ → ℕ) → CeilingIs (now (ceilings .entry)) h ceiling → FixedIs fixedmarks h (stackOf (S .xs) (S .ys) (S .len)) → Called h ceiling
         (lent (now (counts .entry)) (now (visited .entry)) (now (gains .entry)) (now (blocks .entry)) (now (loads .entry)) (now (presentpins .entry)) (now (presentsizes .entry)) (now (bits .entry)) (now (weights .entry)) (now (netweights .entry)) (now (firsts .entry)) n m k total aboves loadedsizes)
         (lent (now (counts .exit)) (now (visited .exit)) (now (gains .exit)) (now (blocks .exit)) (now (loads .exit)) (now (presentpins .exit)) (now (presentsizes .exit)) (now (bits .exit)) (now (weights .exit)) (now (netweights .exit)) (now (firsts .exit)) n m k (r .total) aboves loadedsizes)
         S S (two (journal .vertices) (journal .blocks) (journal .len)) (two (r .journal .vertices) (r .journal .blocks) (r .journal .len)) (callW u v) (told (r .no) (saysW (r .tried) (r .kept) (r .total)))) ⌝ }
@@ -85,6 +88,7 @@ pub fn call_walk(
         netweights,
         firsts,
         ceilings,
+        fixedmarks,
         n,
         m,
         k,
@@ -115,16 +119,17 @@ pub fn call_polish(
     netweights: &[u16],
     firsts: &[u16],
     ceilings: &[u64; 16],
+    fixedmarks: [u64; 48],
     n: usize,
     m: usize,
     k: usize,
     total: u32,
     journal: Journal,
 ) -> PolishTurn
-    requires { ⌜ ReadyM
+    requires { ⌜ ReadyW
         (lent (now counts) (now visited) (now gains) (now blocks) (now loads) (now presentpins) (now presentsizes) (now bits) (now weights) (now netweights) (now firsts) n m k total)
-        (two (journal .vertices) (journal .blocks) (journal .len)) ⌝ }
-    ensures { λ r. ⌜ ((aboves loadedsizes : List ℕ) (S : Two) (h : Hypergraph) (ceiling : ℕ → ℕ) → CeilingIs (now (ceilings .entry)) h ceiling → Called h ceiling
+        (two (journal .vertices) (journal .blocks) (journal .len)) fixedmarks ⌝ }
+    ensures { λ r. ⌜ ((aboves loadedsizes : List ℕ) (S : Two) (h : Hypergraph) (ceiling : ℕ → ℕ) → CeilingIs (now (ceilings .entry)) h ceiling → FixedIs fixedmarks h (stackOf (S .xs) (S .ys) (S .len)) → Called h ceiling
         (lent (now (counts .entry)) (now (visited .entry)) (now (gains .entry)) (now (blocks .entry)) (now (loads .entry)) (now (presentpins .entry)) (now (presentsizes .entry)) (now (bits .entry)) (now (weights .entry)) (now (netweights .entry)) (now (firsts .entry)) n m k total aboves loadedsizes)
         (lent (now (counts .exit)) (now (visited .exit)) (now (gains .exit)) (now (blocks .exit)) (now (loads .exit)) (now (presentpins .exit)) (now (presentsizes .exit)) (now (bits .exit)) (now (weights .exit)) (now (netweights .exit)) (now (firsts .exit)) n m k (r .total) aboves loadedsizes)
         S S (two (journal .vertices) (journal .blocks) (journal .len)) (two (r .journal .vertices) (r .journal .blocks) (r .journal .len)) callP (saysP (r .moves) (r .total))) ⌝ }
@@ -143,6 +148,7 @@ pub fn call_polish(
         netweights,
         firsts,
         ceilings,
+        fixedmarks,
         n,
         m,
         k,
