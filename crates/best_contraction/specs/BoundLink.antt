@@ -1,7 +1,7 @@
 -- After v is contracted into u, the rating of a vertex other than u with a later one has grown at most by what v's nets add for it; so bounds
--- raised by that are bounds again. Rests on BoundLaw, on JoinLink and on guarantees' Climbs, Weights and Calls. Assumes nothing.
-use mathlib.Core.Path.{_≡_, refl, sym, ap, ap₂, _∙_}
-use mathlib.Core.Bool.{Bool, true, false, _&&_, _||_, cond}
+-- raised by that are bounds again. Rests on BoundLaw, on JoinLink and on guarantees' Climbs, Weights, Calls and Fixed. Assumes nothing.
+use mathlib.Core.Path.{_≡_, refl, sym, ap, ap₂, _∙_, subst}
+use mathlib.Core.Bool.{Bool, true, false, not, _&&_, _||_, cond}
 use mathlib.Core.List.{List, _∷_}
 use Prim.Native.Nat.{ℕ, _+_, _-_, _*_, _≤_, _<_}
 use native.Mathlib.Decide.{ℕ-discrete}
@@ -14,10 +14,12 @@ use Rattle.laws.specs.Occurrence.{occ}
 use Rattle.laws.specs.Place.{place, place-off}
 use Rattle.laws.specs.Sum.{sum, sum-ext, sum-add, sum-mono, sumTo-change2}
 use Rattle.model.specs.Catalogue.{Hypergraph, vertices, averageWeight}
-use Rattle.model.specs.Measure.{Contraction, above, onBoard, pin, size, weight, adjacent}
+use Rattle.model.specs.Measure.{Contraction, above, onBoard, mayMove, isFixed, pin, size, weight, adjacent}
 use Rattle.model.specs.Search.{rating, canJoin}
 use Rattle.guarantees.specs.Climbs.{Sound, above-gone, above-other, pin-gone, pin-into, pin-other}
 use Rattle.guarantees.specs.Weights.{weight-into, weight-other}
+use Rattle.guarantees.specs.Ends.{may-on}
+use Rattle.guarantees.specs.Fixed.{fixed-join}
 use Rattle.guarantees.specs.Calls.{can-join}
 use Rattle.incidence.specs.On.{on}
 use Rattle.best_contraction.specs.Rating.{termOf, over, scoreOf}
@@ -56,25 +58,37 @@ tests-passed : (l a b e d w : Bool) → l ≡ true → a ≡ true → b ≡ true
 tests-passed l a b e true w ql qa qb qe qw = rw (ql, qa, qb, qe, qw) refl
 tests-passed l a b e false w ql qa qb qe qw = rw (ql, qa, qb, qe) refl
 
-order-and-weight : (h : Hypergraph) (cs : List Contraction) (block : ℕ → ℕ) (x y : ℕ) → canJoin h cs block x y ≡ true → (x < y) × (weight h cs x + weight h cs y ≤ averageWeight h)
+-- what a pair that may be contracted is, beside what guarantees' can-join says
+record Eligible (h : Hypergraph) (cs : List Contraction) (x y : ℕ) : Type 0 where
+  less : x < y
+  x-may : mayMove h cs x ≡ true
+  y-may : mayMove h cs y ≡ true
+  light : weight h cs x + weight h cs y ≤ averageWeight h
+
+eligible : (h : Hypergraph) (cs : List Contraction) (block : ℕ → ℕ) (x y : ℕ) → canJoin h cs block x y ≡ true → Eligible h cs x y
 unfolding canJoin
-order-and-weight h cs block x y q =
+eligible h cs block x y q =
     let fits : Bool = leb (weight h cs x + weight h cs y) (averageWeight h) in
-    let rest : (ltb x y && onBoard cs x && onBoard cs y && eqb (block x) (block y) && adjacent h cs x y) ≡ true = and-left _ fits q in
-    let placed : (ltb x y && onBoard cs x && onBoard cs y && eqb (block x) (block y)) ≡ true = and-left _ (adjacent h cs x y) rest in (
-      ltb-true x y (and-left _ (onBoard cs x) (and-left _ (onBoard cs y) (and-left _ (eqb (block x) (block y)) placed))),
-      leb-true _ _ (and-right (ltb x y && onBoard cs x && onBoard cs y && eqb (block x) (block y) && adjacent h cs x y) fits q),
-    )
+    let rest : (ltb x y && mayMove h cs x && mayMove h cs y && eqb (block x) (block y) && adjacent h cs x y) ≡ true = and-left _ fits q in
+    let placed : (ltb x y && mayMove h cs x && mayMove h cs y && eqb (block x) (block y)) ≡ true = and-left _ (adjacent h cs x y) rest in
+    let both : (ltb x y && mayMove h cs x && mayMove h cs y) ≡ true = and-left _ (eqb (block x) (block y)) placed in
+    let first : (ltb x y && mayMove h cs x) ≡ true = and-left _ (mayMove h cs y) both in
+    record {
+      less = ltb-true x y (and-left _ (mayMove h cs x) first);
+      x-may = and-right (ltb x y) _ first;
+      y-may = and-right (ltb x y && mayMove h cs x) _ both;
+      light = leb-true _ _ (and-right (ltb x y && mayMove h cs x && mayMove h cs y && eqb (block x) (block y) && adjacent h cs x y) fits q);
+    }
 
 module _ (h : Hypergraph) (cs : List Contraction) (block : ℕ → ℕ) (bits pins firsts sizes netWeights blocks weights : List ℕ) (m n limit : ℕ)
     (k : Linked h cs block bits pins firsts sizes netWeights blocks weights m n limit) where
   -- two vertices that pass all tests but that for a shared net: without one, the rating is 0
-  score-open : (x y : ℕ) → 1 ≤ x → y ≤ n → x < y → above cs x ≡ 0 → above cs y ≡ 0 → block x ≡ block y → weight h cs x + weight h cs y ≤ averageWeight h
+  score-open : (x y : ℕ) → 1 ≤ x → y ≤ n → x < y → mayMove h cs x ≡ true → mayMove h cs y ≡ true → block x ≡ block y → weight h cs x + weight h cs y ≤ averageWeight h
       → scoreOf bits pins firsts sizes netWeights blocks weights m limit x y ≡ rating h cs x y
   unfolding canJoin
-  score-open x y xl yu lt on-x on-y together light =
+  score-open x y xl yu lt may-x may-y together light =
       value h cs block bits pins firsts sizes netWeights blocks weights m n limit k x y xl (omega arith) (omega arith) yu
-      ∙ ap (λ (b : Bool). cond b (rating h cs x y) 0) (tests-passed (ltb x y) (onBoard cs x) (onBoard cs y) (eqb (block x) (block y)) (adjacent h cs x y) (leb (weight h cs x + weight h cs y) (averageWeight h)) (lt-ltb x y lt) (eq-eqb _ _ on-x) (eq-eqb _ _ on-y) (eq-eqb _ _ together) (le-leb _ _ light))
+      ∙ ap (λ (b : Bool). cond b (rating h cs x y) 0) (tests-passed (ltb x y) (mayMove h cs x) (mayMove h cs y) (eqb (block x) (block y)) (adjacent h cs x y) (leb (weight h cs x + weight h cs y) (averageWeight h)) (lt-ltb x y lt) may-x may-y (eq-eqb _ _ together) (le-leb _ _ light))
       ∙ go (adjacent h cs x y) refl
     where
       go : (b : Bool) → adjacent h cs x y ≡ b → cond b (rating h cs x y) 0 ≡ rating h cs x y
@@ -159,17 +173,18 @@ module _ (h : Hypergraph) (cs : List Contraction) (block : ℕ → ℕ) (bits pi
         one-net e (yes yi) = rw (yi, pin-other cs c st (net h e) x xg xi, pin-into cs c st (net h e), close yi) (
             rise-into (pin cs (net h e) x) (pin cs (net h e) (c .into)) (pin cs (net h e) (c .gone)) (old e) (new e) (more e) (same-term e) (more-term e))
 
-    module _ (bits′ pins′ firsts′ sizes′ netWeights′ blocks′ weights′ : List ℕ) (k′ : Linked h (c ∷ cs) (place block (c .gone) 0) bits′ pins′ firsts′ sizes′ netWeights′ blocks′ weights′ m n limit) where
+    module _ (bits′ pins′ firsts′ sizes′ netWeights′ blocks′ weights′ : List ℕ) (k′ : Linked h (c ∷ cs) (place block (c .gone) 0) bits′ pins′ firsts′ sizes′ netWeights′ blocks′ weights′ m n limit)
+        (free : isFixed h cs (c .gone) ≡ false) where
       abbrev score : ℕ → ℕ → ℕ
       score = scoreOf bits pins firsts sizes netWeights blocks weights m limit
 
       abbrev score′ : ℕ → ℕ → ℕ
       score′ = scoreOf bits′ pins′ firsts′ sizes′ netWeights′ blocks′ weights′ m limit
 
-      on-before : (x : ℕ) → above (c ∷ cs) x ≡ 0 → (x ≡ c .gone → ⊥) × (above cs x ≡ 0)
-      on-before x q =
-          let ne : x ≡ c .gone → ⊥ = λ z. omega (arith, above-gone cs c x (sym z)) in
-          (ne, sym (above-other cs c x (λ z. ne (sym z))) ∙ q)
+      may-before : (x : ℕ) → mayMove h (c ∷ cs) x ≡ true → (x ≡ c .gone → ⊥) × (mayMove h cs x ≡ true)
+      may-before x q =
+          let ne : x ≡ c .gone → ⊥ = λ z. omega (arith, above-gone cs c x (sym z), may-on h (c ∷ cs) x q) in
+          (ne, ap₂ (λ (a : ℕ) (b : Bool). eqb a 0 && not b) (sym (above-other cs c x (λ z. ne (sym z)))) (sym (fixed-join h cs c st free x)) ∙ q)
 
       weight-before : (x : ℕ) → (x ≡ c .gone → ⊥) → weight h cs x ≤ weight h (c ∷ cs) x
       weight-before x ng = go (ℕ-discrete x (c .into))
@@ -188,22 +203,22 @@ module _ (h : Hypergraph) (cs : List Contraction) (block : ℕ → ℕ) (bits pi
           go false q = omega (arith, is, ap (λ (b : Bool). cond b (rating h (c ∷ cs) x y) 0) q)
           go true q =
               let j = can-join h (c ∷ cs) (place block (c .gone) 0) x y xl q in
-              let a = on-before x (j .0 .into-on) in
-              let b = on-before y (j .0 .gone-on) in
+              let p = eligible h (c ∷ cs) (place block (c .gone) 0) x y q in
+              let a = may-before x (p .x-may) in
+              let b = may-before y (p .y-may) in
               let together : block x ≡ block y = sym (place-off block (c .gone) 0 x (a .0)) ∙ j .1 ∙ place-off block (c .gone) 0 y (b .0) in
-              let p = order-and-weight h (c ∷ cs) (place block (c .gone) 0) x y q in
-              let close : y ≡ c .into → near x ≡ true = λ z. close-by (a .1) together p z in
+              let close : y ≡ c .into → near x ≡ true = λ z. close-by (a .1) (b .1) together (p .less) z in
               omega (
                 arith,
                 is,
                 ap (λ (b : Bool). cond b (rating h (c ∷ cs) x y) 0) q,
-                score-open x y xl yu (p .0) (a .1) (b .1) together (omega (arith, p .1, weight-before x (a .0), weight-before y (b .0))),
+                score-open x y xl yu (p .less) (a .1) (b .1) together (omega (arith, p .light, weight-before x (a .0), weight-before y (b .0))),
                 rating-rise x y xl xu xi (a .0) (b .0) close,
               )
             where
-              close-by : above cs x ≡ 0 → block x ≡ block y → (x < y) × (weight h (c ∷ cs) x + weight h (c ∷ cs) y ≤ averageWeight h) → y ≡ c .into → near x ≡ true
-              close-by on-x together p z =
-                  ap₂ (λ (a b : Bool). a && b) (lt-ltb x (c .into) (omega arith)) (eq-eqb _ _ (k .block-is x xl xu (eq-eqb _ _ on-x) .0 ∙ together ∙ ap block z ∙ sym (k .block-is (c .into) ul uu (eq-eqb _ _ (st .0 .into-on)) .0)))
+              close-by : mayMove h cs x ≡ true → mayMove h cs y ≡ true → block x ≡ block y → x < y → y ≡ c .into → near x ≡ true
+              close-by may-x may-y together less z =
+                  ap₂ (λ (a b : Bool). a && b) (lt-ltb x (c .into) (omega arith)) (eq-eqb _ _ (k .block-is x xl xu may-x .0 ∙ together ∙ ap block z ∙ sym (k .block-is (c .into) ul uu (subst (λ (w : ℕ). mayMove h cs w ≡ true) z may-y) .0)))
 
       gone-score : (y : ℕ) → score′ (c .gone) y ≡ 0
       unfolding scoreOf

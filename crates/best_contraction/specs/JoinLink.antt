@@ -1,9 +1,10 @@
 -- The best pair to contract by the tables is the pair that model contracts, where the tables hold its state. Rests on RatingLaw, JoinLaw,
 -- JoinPair and guarantees' Tops. Assumes nothing.
 use mathlib.Core.Path.{_≡_, refl, sym, ap, ap₂, _∙_}
-use mathlib.Core.Bool.{Bool, true, false, _&&_, and-false, cond}
+use mathlib.Core.Bool.{Bool, true, false, not, _&&_, and-false, cond}
 use mathlib.Core.List.{List, []}
 use Prim.Native.Nat.{ℕ, _+_, _-_, _*_, _/_, _≤_, _<_}
+use native.Mathlib.Decide.{decLt}
 use native.Mathlib.Nat.{mul-one, mul-zero, one-mul, le-div-iff-mul-le}
 use native.Mathlib.Omega.{arith}
 use borrow.Author.Tests.{ne-eqb, lt-ltb, le-ltb, ltb-true}
@@ -15,7 +16,7 @@ use Rattle.laws.specs.Fold.{any-at, any-not}
 use Rattle.laws.specs.Occurrence.{occ}
 use Rattle.laws.specs.Sum.{sum, sum-ext, sum-nil, sum-list, term-le, sumTo-two, countTo-le}
 use Rattle.model.specs.Catalogue.{Net, Hypergraph, vertices, averageWeight}
-use Rattle.model.specs.Measure.{Contraction, onBoard, pin, size, weight, adjacent}
+use Rattle.model.specs.Measure.{Contraction, onBoard, mayMove, isFixed, pin, size, weight, adjacent}
 use Rattle.model.specs.Search.{bestPair, rating, canJoin, joinBest}
 use Rattle.guarantees.specs.Tops.{bestPair-ext}
 use Rattle.incidence.specs.On.{on}
@@ -28,14 +29,16 @@ use Rattle.best_contraction.specs.declared.join.Join.{Join}
 abbrev pub net : Hypergraph → ℕ → Net
 net h e = getD (h .nets) e (record { weight = 0; pins = [] })
 
--- the tables hold a state of the machine
+-- the tables hold a state of the machine; of `blocks`, what the choice of a pair goes by: a vertex off the board is in none, and a fixed vertex in
+-- one of its own, where it has no partner
 pub record Linked (h : Hypergraph) (cs : List Contraction) (block : ℕ → ℕ) (bits pins firsts sizes netWeights blocks weights : List ℕ) (m n limit : ℕ) : Type 0 where
   pub tables : TablesOk bits pins firsts sizes netWeights blocks m n
   pub n-is : n ≡ vertices h
   pub m-is : m ≡ length (h .nets)
   pub limit-is : limit ≡ averageWeight h
-  pub block-is : (v : ℕ) → 1 ≤ v → v ≤ n → onBoard cs v ≡ true → (getD blocks (v - 1) 0 ≡ block v) × (1 ≤ block v)
+  pub block-is : (v : ℕ) → 1 ≤ v → v ≤ n → mayMove h cs v ≡ true → (getD blocks (v - 1) 0 ≡ block v) × (1 ≤ block v)
   pub off : (v : ℕ) → 1 ≤ v → v ≤ n → onBoard cs v ≡ false → getD blocks (v - 1) 0 ≡ 0
+  pub alone : (v z : ℕ) → 1 ≤ v → v ≤ n → 1 ≤ z → z ≤ n → isFixed h cs v ≡ true → getD blocks (z - 1) 0 ≡ getD blocks (v - 1) 0 → z ≡ v
   pub weight-is : (v : ℕ) → 1 ≤ v → v ≤ n → onBoard cs v ≡ true → getD weights (v - 1) 0 ≡ weight h cs v
   pub incident : (v e : ℕ) → 1 ≤ v → v ≤ n → e < m → onBoard cs v ≡ true → on bits (v - 1) e ≡ one (pin cs (net h e) v)
   pub members : (v e : ℕ) → 1 ≤ v → v ≤ n → e < m → occ pins (getD firsts e 0) (getD sizes e 0) v ≡ one (pin cs (net h e) v)
@@ -123,49 +126,60 @@ module _ (h : Hypergraph) (cs : List Contraction) (block : ℕ → ℕ) (bits pi
   abbrev test : ℕ → ℕ → Bool
   test u = fits blocks weights u (getD blocks (u - 1) 0) (getD weights (u - 1) 0) limit
 
-  -- both on the board
-  value-on : (u v : ℕ) → 1 ≤ u → u ≤ n → 1 ≤ v → v ≤ n → onBoard cs u ≡ true → onBoard cs v ≡ true → cond (test u v) (row u v) 0 ≡ cond (canJoin h cs block u v) (rating h cs u v) 0
+  -- both may be contracted
+  value-may : (u v : ℕ) → 1 ≤ u → u ≤ n → 1 ≤ v → v ≤ n → mayMove h cs u ≡ true → mayMove h cs v ≡ true → cond (test u v) (row u v) 0 ≡ cond (canJoin h cs block u v) (rating h cs u v) 0
   unfolding canJoin
-  value-on u v ul uu vl vu on-u on-v =
-      ap₂ (λ (b : Bool) (z : ℕ). cond b z 0) (ap₂ (λ (b w : Bool). ltb u v && b && w) same-block same-light-enough) (row-is u v ul uu vl vu on-u)
+  value-may u v ul uu vl vu may-u may-v =
+      ap₂ (λ (b : Bool) (z : ℕ). cond b z 0) (ap₂ (λ (b w : Bool). ltb u v && b && w) same-block same-light-enough) (row-is u v ul uu vl vu (and-left _ _ may-u))
       ∙ tests (ltb u v) (eqb (block u) (block v)) (adjacent h cs u v) (leb (weight h cs u + weight h cs v) (averageWeight h)) (rating h cs u v) (apart u v)
-      ∙ sym (ap₂ (λ (a b : Bool). cond (ltb u v && a && b && eqb (block u) (block v) && adjacent h cs u v && leb (weight h cs u + weight h cs v) (averageWeight h)) (rating h cs u v) 0) on-u on-v)
+      ∙ sym (ap₂ (λ (a b : Bool). cond (ltb u v && a && b && eqb (block u) (block v) && adjacent h cs u v && leb (weight h cs u + weight h cs v) (averageWeight h)) (rating h cs u v) 0) may-u may-v)
     where
       same-block : eqb (getD blocks (v - 1) 0) (getD blocks (u - 1) 0) ≡ eqb (block u) (block v)
-      same-block = ap₂ (λ (a b : ℕ). eqb a b) (k .block-is v vl vu on-v .0) (k .block-is u ul uu on-u .0) ∙ eqb-sym (block v) (block u)
+      same-block = ap₂ (λ (a b : ℕ). eqb a b) (k .block-is v vl vu may-v .0) (k .block-is u ul uu may-u .0) ∙ eqb-sym (block v) (block u)
 
       same-light-enough : light-enough u v ≡ leb (weight h cs u + weight h cs v) (averageWeight h)
-      same-light-enough = ap₂ (λ (a b : ℕ). leb a b) (ap₂ (λ (a b : ℕ). a + b) (k .weight-is u ul uu on-u) (k .weight-is v vl vu on-v)) (k .limit-is)
+      same-light-enough = ap₂ (λ (a b : ℕ). leb a b) (ap₂ (λ (a b : ℕ). a + b) (k .weight-is u ul uu (and-left _ _ may-u)) (k .weight-is v vl vu (and-left _ _ may-v))) (k .limit-is)
 
-  -- one of them off it
-  shut-first : (u v : ℕ) → onBoard cs u ≡ false → canJoin h cs block u v ≡ false
+  -- one of them may not
+  shut-first : (u v : ℕ) → mayMove h cs u ≡ false → canJoin h cs block u v ≡ false
   unfolding canJoin
-  shut-first u v q = ap (λ (a : Bool). a && onBoard cs v && eqb (block u) (block v) && adjacent h cs u v && leb (weight h cs u + weight h cs v) (averageWeight h)) (ap (λ (a : Bool). ltb u v && a) q ∙ and-false (ltb u v))
+  shut-first u v q = ap (λ (a : Bool). a && mayMove h cs v && eqb (block u) (block v) && adjacent h cs u v && leb (weight h cs u + weight h cs v) (averageWeight h)) (ap (λ (a : Bool). ltb u v && a) q ∙ and-false (ltb u v))
 
-  shut-second : (u v : ℕ) → onBoard cs v ≡ false → canJoin h cs block u v ≡ false
+  shut-second : (u v : ℕ) → mayMove h cs v ≡ false → canJoin h cs block u v ≡ false
   unfolding canJoin
-  shut-second u v q = ap (λ (a : Bool). a && eqb (block u) (block v) && adjacent h cs u v && leb (weight h cs u + weight h cs v) (averageWeight h)) (ap (λ (a : Bool). ltb u v && onBoard cs u && a) q ∙ and-false (ltb u v && onBoard cs u))
+  shut-second u v q = ap (λ (a : Bool). a && eqb (block u) (block v) && adjacent h cs u v && leb (weight h cs u + weight h cs v) (averageWeight h)) (ap (λ (a : Bool). ltb u v && mayMove h cs u && a) q ∙ and-false (ltb u v && mayMove h cs u))
 
   closed : (u v : ℕ) → canJoin h cs block u v ≡ false → 0 ≡ cond (canJoin h cs block u v) (rating h cs u v) 0
   closed u v q = sym (ap (λ (b : Bool). cond b (rating h cs u v) 0) q)
 
+  -- two of different blocks
+  unlike : (u v : ℕ) → (u < v → getD blocks (v - 1) 0 ≡ getD blocks (u - 1) 0 → ⊥) → cond (test u v) (row u v) 0 ≡ 0
+  unlike u v ne = ap (λ (b : Bool). cond (b && light-enough u v) (row u v) 0) (far (decLt u v))
+    where
+      far : Dec (u < v) → (ltb u v && eqb (getD blocks (v - 1) 0) (getD blocks (u - 1) 0)) ≡ false
+      far (yes l) = ap (λ (b : Bool). ltb u v && b) (ne-eqb _ _ (ne l)) ∙ and-false (ltb u v)
+      far (no l) = ap (λ (b : Bool). b && eqb (getD blocks (v - 1) 0) (getD blocks (u - 1) 0)) (le-ltb u v (omega arith))
+
   pub value : (u v : ℕ) → 1 ≤ u → u ≤ n → 1 ≤ v → v ≤ n → scoreOf bits pins firsts sizes netWeights blocks weights m limit u v ≡ cond (canJoin h cs block u v) (rating h cs u v) 0
   unfolding scoreOf
-  value u v ul uu vl vu = go (onBoard cs u) refl (onBoard cs v) refl
+  value u v ul uu vl vu = go (onBoard cs u) refl (isFixed h cs u) refl (onBoard cs v) refl (isFixed h cs v) refl
     where
-      go : (a : Bool) → onBoard cs u ≡ a → (b : Bool) → onBoard cs v ≡ b → cond (test u v) (row u v) 0 ≡ cond (canJoin h cs block u v) (rating h cs u v) 0
-      go true p true q = value-on u v ul uu vl vu p q
-      go true p false q =
-          let far : eqb (getD blocks (v - 1) 0) (getD blocks (u - 1) 0) ≡ false = ne-eqb (getD blocks (v - 1) 0) (getD blocks (u - 1) 0) (λ e. omega (arith, k .off v vl vu q, k .block-is u ul uu p .0, k .block-is u ul uu p .1)) in
-          ap (λ (b : Bool). cond (b && light-enough u v) (row u v) 0) (ap (λ (b : Bool). ltb u v && b) far ∙ and-false (ltb u v)) ∙ closed u v (shut-second u v q)
-      go false p b q = idle bits pins firsts sizes netWeights blocks weights m n limit u (k .tables) (k .off u ul uu p) v ∙ closed u v (shut-first u v p)
+      may : (x : ℕ) {a f : Bool} → onBoard cs x ≡ a → isFixed h cs x ≡ f → mayMove h cs x ≡ (a && not f)
+      may x p q = ap₂ (λ (a f : Bool). a && not f) p q
+
+      go : (a : Bool) → onBoard cs u ≡ a → (f : Bool) → isFixed h cs u ≡ f → (b : Bool) → onBoard cs v ≡ b → (g : Bool) → isFixed h cs v ≡ g → cond (test u v) (row u v) 0 ≡ cond (canJoin h cs block u v) (rating h cs u v) 0
+      go false p f pf b q g qf = idle bits pins firsts sizes netWeights blocks weights m n limit u (k .tables) (k .off u ul uu p) v ∙ closed u v (shut-first u v (may u p refl))
+      go true p true pf b q g qf = unlike u v (λ l e. omega (arith, k .alone u v ul uu vl vu pf e)) ∙ closed u v (shut-first u v (may u p pf))
+      go true p false pf false q g qf = unlike u v (λ l e. omega (arith, k .off v vl vu q, k .block-is u ul uu (may u p pf))) ∙ closed u v (shut-second u v (may v q refl))
+      go true p false pf true q true qf = unlike u v (λ l e. omega (arith, k .alone v u vl vu ul uu qf (sym e))) ∙ closed u v (shut-second u v (may v q qf))
+      go true p false pf true q false qf = value-may u v ul uu vl vu (may u p pf) (may v q qf)
 
   parts : (u v : ℕ) → canJoin h cs block u v ≡ true → (u < v) × (adjacent h cs u v ≡ true)
   unfolding canJoin
   parts u v q =
-      let d : (ltb u v && onBoard cs u && onBoard cs v && eqb (block u) (block v) && adjacent h cs u v) ≡ true = and-left _ (leb (weight h cs u + weight h cs v) (averageWeight h)) q in
-      let c : (ltb u v && onBoard cs u && onBoard cs v && eqb (block u) (block v)) ≡ true = and-left _ (adjacent h cs u v) d in
-      (ltb-true u v (and-left _ (onBoard cs u) (and-left _ (onBoard cs v) (and-left _ (eqb (block u) (block v)) c))), and-right (ltb u v && onBoard cs u && onBoard cs v && eqb (block u) (block v)) _ d)
+      let d : (ltb u v && mayMove h cs u && mayMove h cs v && eqb (block u) (block v) && adjacent h cs u v) ≡ true = and-left _ (leb (weight h cs u + weight h cs v) (averageWeight h)) q in
+      let c : (ltb u v && mayMove h cs u && mayMove h cs v && eqb (block u) (block v)) ≡ true = and-left _ (adjacent h cs u v) d in
+      (ltb-true u v (and-left _ (mayMove h cs u) (and-left _ (mayMove h cs v) (and-left _ (eqb (block u) (block v)) c))), and-right (ltb u v && mayMove h cs u && mayMove h cs v && eqb (block u) (block v)) _ d)
 
   -- a pair may be joined where its score is not 0
   may-is : (u v : ℕ) → 1 ≤ u → u ≤ n → 1 ≤ v → v ≤ n → joinable (scoreOf bits pins firsts sizes netWeights blocks weights m limit) u v ≡ canJoin h cs block u v
