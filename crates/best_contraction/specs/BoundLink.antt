@@ -14,7 +14,7 @@ use Rattle.laws.specs.Occurrence.{occ}
 use Rattle.laws.specs.Place.{place, place-off}
 use Rattle.laws.specs.Sum.{sum, sum-ext, sum-add, sum-mono, sumTo-change2}
 use Rattle.model.specs.Catalogue.{Hypergraph, vertices, averageWeight}
-use Rattle.model.specs.Measure.{Contraction, above, onBoard, mayMove, isFixed, pin, size, weight, adjacent}
+use Rattle.model.specs.Measure.{Contraction, above, mayMove, isFixed, pin, size, weight, adjacent}
 use Rattle.model.specs.Search.{rating, canJoin}
 use Rattle.guarantees.specs.Climbs.{Sound, above-gone, above-other, pin-gone, pin-into, pin-other}
 use Rattle.guarantees.specs.Weights.{weight-into, weight-other}

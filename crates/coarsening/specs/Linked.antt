@@ -1,24 +1,31 @@
--- What sound tables tell the choice of a pair to contract: they hold the state that choice's laws speak of. Rests on operations's Sound and choice's
--- JoinLink. Assumes nothing.
+-- What sound tables, and the blocks by which vertices are paired, tell the choice of a pair to contract: they hold the state that its laws speak
+-- of. Rests on operations's Sound, on Own and on best_contraction's JoinLink. Assumes nothing.
 use Prim.Native.Nat.{ℕ, _+_, _-_, _<_, _≤_}
+use native.Mathlib.Decide.{ℕ-discrete}
 use native.Mathlib.Omega.{arith}
-use mathlib.Core.Path.{_≡_, sym, ap, _∙_}
+use mathlib.Core.Path.{_≡_, refl, sym, ap, _∙_}
+use mathlib.Core.Bool.{Bool, true, false, _&&_, cond}
 use mathlib.Core.List.{List}
-use borrow.Author.Tests.{eqb-true, eqb-false}
+use borrow.Author.Tests.{eqb-true, eqb-false, ne-eqb, not-true}
+use lib.Dec.{eqb}
 use lib.ListN.{getD, replicate, length-replicate}
-use Rattle.laws.specs.Choice.{one}
+use Rattle.laws.specs.Choice.{one, and-right}
 use Rattle.laws.specs.Fold.{all-get, zeros-get}
 use Rattle.laws.specs.Occurrence.{occ, occ-total}
 use Rattle.laws.specs.Sum.{sumTo, sumTo-ext}
-use Rattle.model.specs.Catalogue.{Hypergraph, vertices, averageWeight}
+use Rattle.model.specs.Catalogue.{Hypergraph, vertices, averageWeight, fixedEntry}
 use Rattle.model.specs.Memory.{noNet}
-use Rattle.model.specs.Measure.{Contraction, above, pin, size, weight}
+use Rattle.model.specs.Measure.{Contraction, above, onBoard, representative, isFixed, pin, size, weight}
+use Rattle.guarantees.specs.Climbs.{representative-on}
+use Rattle.guarantees.specs.Ends.{may-on}
+use Rattle.guarantees.specs.Fixed.{fixed-free-of}
 use Rattle.pins.specs.Stack.{present-le, present-pin, loadedPin, row-pin}
 use Rattle.levels.specs.Running.{netAt}
 use Rattle.operations.specs.Tables.{Tables, Sound}
 use Rattle.operations.specs.Move.{back, own-block, own-weight, in-range}
 use Rattle.best_contraction.specs.Rating.{TablesOk, Blank}
 use Rattle.best_contraction.specs.JoinLink.{Linked}
+use Rattle.coarsening.specs.Own.{OwnBlocks, Own, own-at}
 
 -- a table of zeros
 pub blank : (n : ℕ) → n ≡ 1025 → Blank (replicate n 0)
@@ -35,20 +42,24 @@ module _ {h : Hypergraph} {cs : List Contraction} {block : ℕ → ℕ} {T : Tab
       ∙ sumTo-ext (T .n) (occ (T .pins) (getD (T .firsts) e 0) (getD (T .sizes) e 0)) (λ v. one (pin cs (netAt h e) v)) (λ v _ _. member v e l)
       ∙ ap (λ (n : ℕ). sumTo n (λ v. one (pin cs (netAt h e) v))) (s .follows .says .all-vertices)
 
-  pub tables-ok : TablesOk (T .bits) (T .pins) (T .firsts) (T .sizes) (T .netWeights) (T .blocks) (T .m) (T .n)
-  tables-ok = record {
+  pub tables-ok : {fixed : ℕ → Bool} {own : List ℕ} → OwnBlocks fixed (T .blocks) (T .n) own → TablesOk (T .bits) (T .pins) (T .firsts) (T .sizes) (T .netWeights) own (T .m) (T .n)
+  tables-ok {fixed} {own} o = record {
     rows = s .follows .room .bits-fit;
     nets = s .follows .room .few-nets;
     vertices = s .follows .room .few-vertices;
     in-firsts = s .follows .room .firsts-fit;
     in-sizes = s .follows .room .sizes-fit;
     in-netWeights = s .follows .world .frame .weights-fit;
-    in-blocks = s .follows .world .lists .blocks-fit;
+    in-blocks = omega (arith, o .len, s .follows .room .few-vertices);
     light = λ e l. omega (arith, s .follows .world .frame .weight e l);
     stretch = λ e l. s .follows .world .lists .nets e l .pins-fit;
-    pin = λ e l i k. let a = s .follows .world .lists .nets e l .in-range i k in (a .0, a .1, s .follows .world .lists .nets e l .in-blocks i k .0);
+    pin = λ e l i k. let a = s .follows .world .lists .nets e l .in-range i k in (a .0, a .1, some _ (fixed _) (o .entry _ (omega (arith, a))) (s .follows .world .lists .nets e l .in-blocks i k .0));
     once = λ e z l. omega (arith, s .follows .says .board .nets e l .pins z, present-le (loadedPin (netAt h e)) cs z);
   }
+    where
+      some : (y : ℕ) (b : Bool) → getD own y 0 ≡ cond b (y + 17) (getD (T .blocks) y 0) → 1 ≤ getD (T .blocks) y 0 → 1 ≤ getD own y 0
+      some y true q l = omega arith
+      some y false q l = omega arith
 
   module _ (v : ℕ) (l : 1 ≤ v) (u : v ≤ T .n) where
     at-one : above cs v ≡ 0 → above cs (v - 1 + 1) ≡ 0
@@ -60,14 +71,27 @@ module _ {h : Hypergraph} {cs : List Contraction} {block : ℕ → ℕ} {T : Tab
     pub block-from : above cs v ≡ 0 → 1 ≤ block v
     block-from q = s .placed v l (omega (arith, s .follows .says .all-vertices)) .board q .0
 
-  pub linked : (limit : ℕ) → limit ≡ averageWeight h → Linked h cs block (T .bits) (T .pins) (T .firsts) (T .sizes) (T .netWeights) (T .blocks) (T .weights) (T .m) (T .n) limit
-  linked limit q = record {
-    tables = tables-ok;
+    -- no block has a number above 16
+    block-to : block v ≤ 16
+    block-to = go (ℕ-discrete (above cs v) 0)
+      where
+        go : Dec (above cs v ≡ 0) → block v ≤ 16
+        go (yes q) = omega (arith, s .placed v l (omega (arith, s .follows .says .all-vertices)) .board q .1, s .follows .says .all-blocks, s .follows .world .frame .few)
+        go (no q) = omega (arith, s .placed v l (omega (arith, s .follows .says .all-vertices)) .off q)
+
+    -- a vertex off the board stands for none, so that it is not fixed
+    off-free : (above cs v ≡ 0 → ⊥) → isFixed h cs v ≡ false
+    off-free off = fixed-free-of h cs v (λ x _ _. ap (λ (b : Bool). b && eqb (fixedEntry h x) 1) (ne-eqb (representative cs x) v (λ e. off (sym (ap (above cs) e) ∙ representative-on cs (s .follows .says .sound) x))))
+
+  pub linked : {own : List ℕ} → Own h cs (T .blocks) (T .n) own → (limit : ℕ) → limit ≡ averageWeight h → Linked h cs block (T .bits) (T .pins) (T .firsts) (T .sizes) (T .netWeights) own (T .weights) (T .m) (T .n) limit
+  linked {own} o limit q = record {
+    tables = tables-ok o;
     n-is = s .follows .says .all-vertices;
     m-is = s .follows .says .all-nets;
     limit-is = q;
-    block-is = λ v l u o. (block-at v l u, block-from v l u (eqb-true _ _ o));
-    off = λ v l u o. block-at v l u ∙ s .placed v l (omega (arith, s .follows .says .all-vertices)) .off (eqb-false _ _ o);
+    block-is = λ v l u m. (own-at h cs o v l u (not-true _ (and-right (onBoard cs v) _ m)) ∙ block-at v l u, block-from v l u (may-on h cs v m));
+    off = λ v l u off. let none = eqb-false _ _ off in own-at h cs o v l u (off-free v l u none) ∙ block-at v l u ∙ s .placed v l (omega (arith, s .follows .says .all-vertices)) .off none;
+    alone = λ v z vl vu zl zu f same. alone v z vl zl zu (own-at h cs o v vl vu f) same (isFixed h cs z) refl;
     weight-is = λ v l u o. own-weight s (v - 1) (omega arith) (at-one v l u (eqb-true _ _ o)) ∙ ap (weight h cs) (back v l);
     incident = λ v e l u k o.
         s .follows .says .board .marked (v - 1) e (omega arith) k
@@ -76,3 +100,7 @@ module _ {h : Hypergraph} {cs : List Contraction} {block : ℕ → ℕ} {T : Tab
     sized = sized;
     weighs = λ e k. (s .follows .says .weighs e k, all-get (h .nets) (λ e. (1 ≤ e .weight) × (e .weight ≤ 1000)) noNet (s .fit .ranges .loaded .net-weights) e (omega (arith, s .follows .says .all-nets)) .0);
   }
+    where
+      alone : (v z : ℕ) → 1 ≤ v → 1 ≤ z → z ≤ T .n → getD own (v - 1) 0 ≡ v + 16 → getD own (z - 1) 0 ≡ getD own (v - 1) 0 → (b : Bool) → isFixed h cs z ≡ b → z ≡ v
+      alone v z vl zl zu own-v same true f = omega (arith, own-at h cs o z zl zu f)
+      alone v z vl zl zu own-v same false f = absurd (omega (arith, own-at h cs o z zl zu f, block-at z zl zu, block-to z zl zu))

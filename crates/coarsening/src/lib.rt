@@ -1,13 +1,19 @@
-// A's contractions: while more than 2 × k vertices are on the board, the best pair is contracted.
-ghost use Prim.Native.Nat.{ℕ, _-_, _*_, _<_, _≤_};
+// A's contractions: while more than 2 × k vertices are on the board, the best pair of vertices that are not fixed is contracted.
+ghost use Prim.Native.Nat.{ℕ, _+_, _-_, _*_, _<_, _≤_};
 ghost use mathlib.Core.Path.{_≡_};
+ghost use mathlib.Core.Bool.{cond};
 ghost use mathlib.Core.List.{List};
+ghost use lib.Dec.{eqb};
+ghost use lib.ListN.{length};
+ghost use Rattle.incidence.specs.On.{on};
 ghost use Rattle.operations.specs.Tables.{tables};
 ghost use Rattle.best_contraction.specs.Rating.{Blank, scoreOf};
 ghost use Rattle.best_contraction.specs.Bound.{Bounded};
+ghost use Rattle.coarsening.specs.Own.{OwnBlocks};
 ghost use Rattle.coarsening.specs.Coarsen.{locals, OnceOk, Once, CoarsenOk, Coarsens};
 use best_contraction::bounds::begin;
 use best_contraction::join::plan_join;
+use incidence::is_pin;
 use incidence::numbers::narrow;
 use operations::joins::join;
 use operations::pairs::Stack;
@@ -32,10 +38,37 @@ fn excess(n: usize, k: usize, len: usize) -> usize
     board - low
 }
 
-// Contracts the best pair, if there is one. `acc` is all 0 before and after; `bounds` has each vertex's bound on its ratings.
+// The block by which the vertex at place `i` is paired: one of its own, above all others, if it is fixed, so that it has no partner.
+fn join_block(block: u16, fixed: bool, i: usize) -> u16
+    requires { ⌜ i < 1024 ⌝ }
+    ensures { λ r. ⌜ r ≡ cond fixed (i + 17) block ⌝ }
+{
+    if fixed {
+        return narrow(i + 17);
+    }
+    block
+}
+
+// The blocks by which vertices are paired.
+fn join_blocks(blocks: &[u16], fixedmarks: &[u64; 48], n: usize) -> [u16; 1024]
+    requires { ⌜ (n ≤ 1024) × (n ≤ length (now blocks)) × (length (now fixedmarks) ≡ 48) ⌝ }
+    ensures { λ r. ⌜ OwnBlocks (λ y. eqb (on (now (fixedmarks .entry)) 1 y) 1) (now (blocks .entry)) n r ⌝ }
+{
+    let mut joinblocks = [0u16; 1024];
+    let mut i = 0;
+    while i < n {
+        joinblocks[i] = join_block(blocks[i], is_pin(fixedmarks, 1, i), i);
+        i += 1;
+    }
+    joinblocks
+}
+
+// Contracts the best pair, if there is one. `acc` is all 0 before and after; `bounds` has each vertex's bound on its ratings; pairs are chosen
+// by `joinblocks`.
 fn coarsen_once(
     acc: &mut [u64; 1025],
     bounds: &mut [u64; 1025],
+    joinblocks: &mut [u16; 1024],
     counts: &mut [u16],
     visited: &mut [u16],
     gains: &mut [i32],
@@ -53,17 +86,17 @@ fn coarsen_once(
 ) -> Round
     requires { ⌜ OnceOk
         (λ loads loadedsizes. tables (now counts) (now visited) (now gains) (now presentpins) (now presentsizes) (now bits) (now blocks) (now weights) (now aboves) loads (now netweights) (now firsts) loadedsizes (size .n) (size .m) (size .k) total)
-        (locals (s .stack .into) (s .stack .gone) (s .stack .len) (s .left)) (size .average) ⌝ }
+        (locals (s .stack .into) (s .stack .gone) (s .stack .len) (s .left) (now joinblocks)) (size .average) ⌝ }
     requires { ⌜ Blank (now acc) × Bounded
-        (scoreOf (now bits) (now presentpins) (now firsts) (now presentsizes) (now netweights) (now blocks) (now weights) (size .m) (size .average))
+        (scoreOf (now bits) (now presentpins) (now firsts) (now presentsizes) (now netweights) (now joinblocks) (now weights) (size .m) (size .average))
         (size .n) (now bounds) ⌝ }
     ensures { λ r. ⌜ ((loads loadedsizes : List ℕ) → Once
         (tables (now (counts .entry)) (now (visited .entry)) (now (gains .entry)) (now (presentpins .entry)) (now (presentsizes .entry)) (now (bits .entry)) (now (blocks .entry)) (now (weights .entry)) (now (aboves .entry)) loads (now (netweights .entry)) (now (firsts .entry)) loadedsizes (size .n) (size .m) (size .k) total)
-        (locals (s .stack .into) (s .stack .gone) (s .stack .len) (s .left)) (size .average)
+        (locals (s .stack .into) (s .stack .gone) (s .stack .len) (s .left) (now (joinblocks .entry))) (size .average)
         (tables (now (counts .exit)) (now (visited .exit)) (now (gains .exit)) (now (presentpins .exit)) (now (presentsizes .exit)) (now (bits .exit)) (now (blocks .exit)) (now (weights .exit)) (now (aboves .exit)) loads (now (netweights .exit)) (now (firsts .exit)) loadedsizes (size .n) (size .m) (size .k) total)
-        (locals (r .stack .into) (r .stack .gone) (r .stack .len) (r .left))) ⌝ }
+        (locals (r .stack .into) (r .stack .gone) (r .stack .len) (r .left) (now (joinblocks .exit)))) ⌝ }
     ensures { λ r. ⌜ Blank (now (acc .exit)) × Bounded
-        (scoreOf (now (bits .exit)) (now (presentpins .exit)) (now (firsts .exit)) (now (presentsizes .exit)) (now (netweights .exit)) (now (blocks .exit)) (now (weights .exit)) (size .m) (size .average))
+        (scoreOf (now (bits .exit)) (now (presentpins .exit)) (now (firsts .exit)) (now (presentsizes .exit)) (now (netweights .exit)) (now (joinblocks .exit)) (now (weights .exit)) (size .m) (size .average))
         (size .n) (now (bounds .exit)) ⌝ }
 {
     let pair = plan_join(
@@ -74,7 +107,7 @@ fn coarsen_once(
         firsts,
         presentsizes,
         netweights,
-        blocks,
+        joinblocks,
         weights,
         size.average,
         size.m,
@@ -109,6 +142,7 @@ fn coarsen_once(
         u - 1,
         v - 1,
     );
+    joinblocks[v - 1] = 0;
     let stack = before.push(narrow(u), narrow(v));
     Round {
         stack: stack,
@@ -129,21 +163,23 @@ pub fn coarsen(
     aboves: &mut [u16],
     netweights: &[u16],
     firsts: &[u16],
+    fixedmarks: [u64; 48],
     size: Size,
     total: u32,
     stack: Stack,
 ) -> Stack
     requires { ⌜ CoarsenOk
         (λ loads loadedsizes. tables (now counts) (now visited) (now gains) (now presentpins) (now presentsizes) (now bits) (now blocks) (now weights) (now aboves) loads (now netweights) (now firsts) loadedsizes (size .n) (size .m) (size .k) total)
-        (stack .into) (stack .gone) (stack .len) (size .average) ⌝ }
+        fixedmarks (stack .into) (stack .gone) (stack .len) (size .average) ⌝ }
     ensures { λ r. ⌜ ((loads loadedsizes : List ℕ) → Coarsens
         (tables (now (counts .entry)) (now (visited .entry)) (now (gains .entry)) (now (presentpins .entry)) (now (presentsizes .entry)) (now (bits .entry)) (now (blocks .entry)) (now (weights .entry)) (now (aboves .entry)) loads (now (netweights .entry)) (now (firsts .entry)) loadedsizes (size .n) (size .m) (size .k) total)
-        (stack .into) (stack .gone) (stack .len) (size .average)
+        fixedmarks (stack .into) (stack .gone) (stack .len) (size .average)
         (tables (now (counts .exit)) (now (visited .exit)) (now (gains .exit)) (now (presentpins .exit)) (now (presentsizes .exit)) (now (bits .exit)) (now (blocks .exit)) (now (weights .exit)) (now (aboves .exit)) loads (now (netweights .exit)) (now (firsts .exit)) loadedsizes (size .n) (size .m) (size .k) total)
         (r .into) (r .gone) (r .len)) ⌝ }
 {
     let mut acc = [0u64; 1025];
     let mut bounds = [0u64; 1025];
+    let mut joinblocks = join_blocks(blocks, &fixedmarks, size.n);
     begin(
         &mut bounds,
         bits,
@@ -151,7 +187,7 @@ pub fn coarsen(
         firsts,
         presentsizes,
         netweights,
-        blocks,
+        &joinblocks,
         size.m,
         size.n,
     );
@@ -163,6 +199,7 @@ pub fn coarsen(
         s = coarsen_once(
             &mut acc,
             &mut bounds,
+            &mut joinblocks,
             counts,
             visited,
             gains,
