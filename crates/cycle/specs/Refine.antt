@@ -1,5 +1,6 @@
 -- A's way back on sound tables: contractions are undone, the last one first, each with a walk from the parted pair. What one of them and the
--- loop of them ask and do, with the laws that the proofs of the code cite. Rests on operations's Join and walk's Steps. Assumes nothing.
+-- loop of them ask and do, with the laws that the proofs of the code cite. No fixed vertex left the board by them, so that the marks of who is
+-- fixed hold all along. Rests on operations's Join, walk's Steps and guarantees' Fixed. Assumes nothing.
 use Prim.Native.Nat.{ℕ, _+_, _-_, _<_, _≤_}
 use native.Mathlib.Omega.{arith}
 use mathlib.Core.Path.{_≡_, refl, sym, ap, ap₂, _∙_, subst}
@@ -11,9 +12,12 @@ use Rattle.model.specs.Machine.{uncontract}
 use Rattle.model.specs.Search.{Fine, walk, walked, refine}
 use Rattle.model.specs.Lent.{stackOf}
 use Rattle.guarantees.specs.Caps.{CeilingIs}
+use Rattle.guarantees.specs.Climbs.{Sound as SoundStack}
+use Rattle.guarantees.specs.Fixed.{Free, fixed-free}
 use Rattle.guarantees.specs.Splits.{AllInside}
 use Rattle.guarantees.specs.SearchBounds.{tried-le, walk-counts}
 use Rattle.guarantees.specs.StateBounds.{stack-le}
+use Rattle.fixed.specs.Starting.{FixedIs}
 use Rattle.pins.specs.Board.{join}
 use Rattle.operations.specs.Pairs.{pairs-none, pairs-some, pairs-length}
 use Rattle.operations.specs.Tables.{Tables, Sound, Keeps}
@@ -24,21 +28,22 @@ use Rattle.walk.specs.Steps.{WalkOk, Walks, Ended}
 
 -- ---- one of them
 -- what `refine_once` asks: (u, v), counted from 0, is on top of the stack
-pub record PartOk (T : Tables) (u v : ℕ) : Type 0 where
+pub record PartOk (T : Tables) (fixedmarks : List ℕ) (u v : ℕ) : Type 0 where
   pub h : Hypergraph
   pub cs : List Contraction
   pub block : ℕ → ℕ
   pub sound : Sound h (join u v ∷ cs) block T
+  pub fixed : FixedIs fixedmarks h cs
 
 -- what it does
-pub record Parts (T : Tables) (ceilings : List ℕ) (u v : ℕ) (T′ : Tables) (tried kept : ℕ) : Type 0 where
-  pub is : (h : Hypergraph) (ceiling : ℕ → ℕ) (cs : List Contraction) (block : ℕ → ℕ) → CeilingIs ceilings h ceiling → Sound h (join u v ∷ cs) block T
+pub record Parts (T : Tables) (ceilings fixedmarks : List ℕ) (u v : ℕ) (T′ : Tables) (tried kept : ℕ) : Type 0 where
+  pub is : (h : Hypergraph) (ceiling : ℕ → ℕ) (cs : List Contraction) (block : ℕ → ℕ) → CeilingIs ceilings h ceiling → FixedIs fixedmarks h cs → Sound h (join u v ∷ cs) block T
       → Ended h cs (walk h ceiling cs (uncontract block (join u v)) (u + 1) (v + 1)) T′ tried kept
   pub keeps : Keeps T T′
 
 -- the parted pair is on the board
-pub walk-asks : {T : Tables} (T′ : List ℕ → List ℕ → Tables) (aboves loaded : List ℕ) {u v : ℕ} → PartOk T u v → Split T (T′ aboves loaded) u v → WalkOk T′ u v
-walk-asks T′ aboves loaded {u} {v} o p =
+pub walk-asks : {T : Tables} (T′ : List ℕ → List ℕ → Tables) (aboves loaded : List ℕ) {fixedmarks : List ℕ} {u v : ℕ} → PartOk T fixedmarks u v → Split T (T′ aboves loaded) u v → WalkOk T′ fixedmarks u v
+walk-asks T′ aboves loaded {u = u} {v} o p =
     let s = p .sound (o .h) (o .cs) (o .block) (o .sound) in
     let all = s .follows .says .all-vertices in
     let u-in : u < T′ aboves loaded .n = omega (arith, o .sound .inside .0 .1, all) in
@@ -51,23 +56,24 @@ walk-asks T′ aboves loaded {u} {v} o p =
       cs = o .cs;
       block = uncontract (o .block) (join u v);
       sound = s;
+      fixed = o .fixed;
       u-in = u-in;
       u-on = omega (arith, own-block s u u-in, in-range s u u-in (j .into-on) .0);
       v-in = v-in;
       v-on = omega (arith, own-block s v v-in, in-range s v v-in (j .gone-on) .0);
     }
 
-pub parts : {T T′ T″ : Tables} {ceilings : List ℕ} {u v tried kept : ℕ} → T′ .n ≡ T .n → T′ .m ≡ T .m → T′ .k ≡ T .k → T′ .firsts ≡ T .firsts → T′ .loaded ≡ T .loaded
-    → Split T T′ u v → Walks T′ ceilings u v T″ tried kept → Parts T ceilings u v T″ tried kept
+pub parts : {T T′ T″ : Tables} {ceilings fixedmarks : List ℕ} {u v tried kept : ℕ} → T′ .n ≡ T .n → T′ .m ≡ T .m → T′ .k ≡ T .k → T′ .firsts ≡ T .firsts → T′ .loaded ≡ T .loaded
+    → Split T T′ u v → Walks T′ ceilings fixedmarks u v T″ tried kept → Parts T ceilings fixedmarks u v T″ tried kept
 parts {u = u} {v = v} qn qm qk qf ql p w = record {
-  is = λ h ceiling cs block q s. w .is h ceiling cs (uncontract block (join u v)) q (p .sound h cs block s);
+  is = λ h ceiling cs block q f s. w .is h ceiling cs (uncontract block (join u v)) q f (p .sound h cs block s);
   keeps = keeps-more qn qm qk qf ql (p .keeps) (w .keeps);
 }
 
 -- a walk's numbers are small
-pub parts-few : {T T′ : Tables} {ceilings : List ℕ} {u v tried kept : ℕ} → PartOk T u v → Parts T ceilings u v T′ tried kept → (tried ≤ 1024) × (kept ≤ tried)
+pub parts-few : {T T′ : Tables} {ceilings fixedmarks : List ℕ} {u v tried kept : ℕ} → PartOk T fixedmarks u v → Parts T ceilings fixedmarks u v T′ tried kept → (tried ≤ 1024) × (kept ≤ tried)
 parts-few {ceilings = ceilings} {u = u} {v = v} o p =
-    let e = p .is (o .h) (λ b. getD ceilings (b - 1) 0) (o .cs) (o .block) (λ b _ _. refl) (o .sound) in
+    let e = p .is (o .h) (λ b. getD ceilings (b - 1) 0) (o .cs) (o .block) (λ b _ _. refl) (o .fixed) (o .sound) in
     let q : ℕ → ℕ = uncontract (o .block) (join u v) in (
       omega (arith, e .tried-is, tried-le (o .h) (λ b. getD ceilings (b - 1) 0) (o .cs) q (u + 1) (v + 1), o .sound .follows .says .all-vertices, o .sound .follows .room .few-vertices),
       omega (arith, e .tried-is, e .kept-is, walk-counts (o .h) (λ b. getD ceilings (b - 1) 0) (o .cs) q (u + 1) (v + 1) .kept-le),
@@ -75,10 +81,12 @@ parts-few {ceilings = ceilings} {u = u} {v = v} o p =
 
 -- ---- all of them
 -- what `refine` asks
-pub record RefineOk (T : Tables) (into gone : List ℕ) (len : ℕ) : Type 0 where
+pub record RefineOk (T : Tables) (fixedmarks into gone : List ℕ) (len : ℕ) : Type 0 where
   pub h : Hypergraph
   pub block : ℕ → ℕ
   pub sound : Sound h (stackOf into gone len) block T
+  pub fixed : FixedIs fixedmarks h []
+  pub free : Free h (stackOf into gone len)
   pub into-fit : length into ≡ 1024
   pub gone-fit : length gone ≡ 1024
 
@@ -89,8 +97,8 @@ pub record Fined (h : Hypergraph) (f : Fine) (T : Tables) (tried kept : ℕ) : T
   pub kept-is : kept ≡ f .kept
 
 -- what it does
-pub record Refines (T : Tables) (ceilings into gone : List ℕ) (len : ℕ) (T′ : Tables) (tried kept : ℕ) : Type 0 where
-  pub is : (h : Hypergraph) (ceiling block : ℕ → ℕ) → CeilingIs ceilings h ceiling → Sound h (stackOf into gone len) block T
+pub record Refines (T : Tables) (ceilings fixedmarks into gone : List ℕ) (len : ℕ) (T′ : Tables) (tried kept : ℕ) : Type 0 where
+  pub is : (h : Hypergraph) (ceiling block : ℕ → ℕ) → CeilingIs ceilings h ceiling → FixedIs fixedmarks h [] → Free h (stackOf into gone len) → Sound h (stackOf into gone len) block T
       → Fined h (refine h ceiling (stackOf into gone len) (record { block = block; tried = 0; kept = 0 })) T′ tried kept
   pub keeps : Keeps T T′
 
@@ -98,18 +106,19 @@ pub record Refines (T : Tables) (ceilings into gone : List ℕ) (len : ℕ) (T�
 pub record Behind (h : Hypergraph) (ceiling : ℕ → ℕ) (end : Fine) (into gone : List ℕ) (i : ℕ) (T : Tables) (tried kept : ℕ) : Type 0 where
   pub there : ℕ → ℕ
   pub sound : Sound h (stackOf into gone i) there T
+  pub free : Free h (stackOf into gone i)
   pub same : end ≡ refine h ceiling (stackOf into gone i) (record { block = there; tried = tried; kept = kept })
 
-pub record Refining (T : Tables) (ceilings into gone : List ℕ) (len i : ℕ) (T′ : Tables) (tried kept : ℕ) : Type 0 where
-  pub is : (h : Hypergraph) (ceiling block : ℕ → ℕ) → CeilingIs ceilings h ceiling → Sound h (stackOf into gone len) block T
+pub record Refining (T : Tables) (ceilings fixedmarks into gone : List ℕ) (len i : ℕ) (T′ : Tables) (tried kept : ℕ) : Type 0 where
+  pub is : (h : Hypergraph) (ceiling block : ℕ → ℕ) → CeilingIs ceilings h ceiling → FixedIs fixedmarks h [] → Free h (stackOf into gone len) → Sound h (stackOf into gone len) block T
       → Behind h ceiling (refine h ceiling (stackOf into gone len) (record { block = block; tried = 0; kept = 0 })) into gone i T′ tried kept
   pub keeps : Keeps T T′
 
-pub refining-none : (T : Tables) (ceilings into gone : List ℕ) (len : ℕ) → Refining T ceilings into gone len len T 0 0
-refining-none T ceilings into gone len = record { is = λ h ceiling block q s. record { there = block; sound = s; same = refl }; keeps = keeps-none T }
+pub refining-none : (T : Tables) (ceilings fixedmarks into gone : List ℕ) (len : ℕ) → Refining T ceilings fixedmarks into gone len len T 0 0
+refining-none T ceilings fixedmarks into gone len = record { is = λ h ceiling block q f r s. record { there = block; sound = s; free = r; same = refl }; keeps = keeps-none T }
 
 -- the stack's length
-pub stack-to : {T : Tables} {into gone : List ℕ} {len : ℕ} → RefineOk T into gone len → len ≤ 1024
+pub stack-to : {T : Tables} {fixedmarks into gone : List ℕ} {len : ℕ} → RefineOk T fixedmarks into gone len → len ≤ 1024
 stack-to {into = into} {gone = gone} {len = len} o = omega (
   arith,
   stack-le (o .h) (stackOf into gone len) (o .sound .follows .says .sound) (o .sound .inside),
@@ -130,20 +139,35 @@ module _ {h : Hypergraph} {block : ℕ → ℕ} {T : Tables} (into gone : List �
       pairs-some (λ u v. record { into = u; gone = v }) into gone i l
       ∙ ap₂ (λ (x y : ℕ). record { into = x; gone = y } ∷ stackOf into gone (i - 1)) a b
 
-pub part-asks : {T T′ : Tables} {ceilings into gone : List ℕ} {len : ℕ} (i : ℕ) {tried kept u v : ℕ} → RefineOk T into gone len → Refining T ceilings into gone len i T′ tried kept → 1 ≤ i
-    → u ≡ getD into (i - 1) 0 - 1 → v ≡ getD gone (i - 1) 0 - 1 → PartOk T′ u v
-part-asks {T′ = T′} {ceilings} {into = into} {gone = gone} i {u = u} {v = v} o r l qu qv =
-    let b = r .is (o .h) (λ b. getD ceilings (b - 1) 0) (o .block) (λ b _ _. refl) (o .sound) in
-    record {
-      h = o .h;
-      cs = stackOf into gone (i - 1);
-      block = b .there;
-      sound = subst (λ (cs : List Contraction). Sound (o .h) cs (b .there) T′) (top-is into gone i l (b .sound) u v qu qv) (b .sound);
-    }
+-- the marks hold while no fixed vertex has left the board
+fixed-along : {h : Hypergraph} {fixedmarks : List ℕ} (cs : List Contraction) → SoundStack cs → Free h cs → FixedIs fixedmarks h [] → FixedIs fixedmarks h cs
+fixed-along {h} cs s r f = record { len = f .len; fixed = λ x l. f .fixed x l ∙ sym (fixed-free h cs s r (x + 1)); no-candidate = f .no-candidate; no-net = f .no-net }
 
-pub top-asks : {T T′ : Tables} {ceilings into gone : List ℕ} {len : ℕ} (i : ℕ) {tried kept : ℕ} → RefineOk T into gone len → Refining T ceilings into gone len i T′ tried kept → 1 ≤ i
+-- the stack below its top
+module _ {h : Hypergraph} {ceiling : ℕ → ℕ} {end : Fine} {T : Tables} {into gone : List ℕ} {i tried kept u v : ℕ} (l : 1 ≤ i) (qu : u ≡ getD into (i - 1) 0 - 1) (qv : v ≡ getD gone (i - 1) 0 - 1) (b : Behind h ceiling end into gone i T tried kept) where
+  below-sound : Sound h (join u v ∷ stackOf into gone (i - 1)) (b .there) T
+  below-sound = subst (λ (cs : List Contraction). Sound h cs (b .there) T) (top-is into gone i l (b .sound) u v qu qv) (b .sound)
+
+  below-free : Free h (stackOf into gone (i - 1))
+  below-free = subst (Free h) (top-is into gone i l (b .sound) u v qu qv) (b .free) .1
+
+  below-fixed : {fixedmarks : List ℕ} → FixedIs fixedmarks h [] → FixedIs fixedmarks h (stackOf into gone (i - 1))
+  below-fixed f = fixed-along (stackOf into gone (i - 1)) (below-sound .follows .says .sound .1) below-free f
+
+-- where the loop stands, by some ceiling
+behind : {T T′ : Tables} {ceilings fixedmarks into gone : List ℕ} {len i tried kept : ℕ} (o : RefineOk T fixedmarks into gone len) → Refining T ceilings fixedmarks into gone len i T′ tried kept
+    → Behind (o .h) (λ b. getD ceilings (b - 1) 0) (refine (o .h) (λ b. getD ceilings (b - 1) 0) (stackOf into gone len) (record { block = o .block; tried = 0; kept = 0 })) into gone i T′ tried kept
+behind {ceilings = ceilings} o r = r .is (o .h) (λ b. getD ceilings (b - 1) 0) (o .block) (λ b _ _. refl) (o .fixed) (o .free) (o .sound)
+
+pub part-asks : {T T′ : Tables} {ceilings fixedmarks into gone : List ℕ} {len : ℕ} (i : ℕ) {tried kept u v : ℕ} → RefineOk T fixedmarks into gone len → Refining T ceilings fixedmarks into gone len i T′ tried kept → 1 ≤ i
+    → u ≡ getD into (i - 1) 0 - 1 → v ≡ getD gone (i - 1) 0 - 1 → PartOk T′ fixedmarks u v
+part-asks {into = into} {gone} i o r l qu qv =
+    let b = behind o r in
+    record { h = o .h; cs = stackOf into gone (i - 1); block = b .there; sound = below-sound l qu qv b; fixed = below-fixed l qu qv b (o .fixed) }
+
+pub top-asks : {T T′ : Tables} {ceilings fixedmarks into gone : List ℕ} {len : ℕ} (i : ℕ) {tried kept : ℕ} → RefineOk T fixedmarks into gone len → Refining T ceilings fixedmarks into gone len i T′ tried kept → 1 ≤ i
     → (1 ≤ getD into (i - 1) 0) × (1 ≤ getD gone (i - 1) 0)
-top-asks {ceilings = ceilings} {into = into} {gone = gone} i o r l = top-from into gone i l (r .is (o .h) (λ b. getD ceilings (b - 1) 0) (o .block) (λ b _ _. refl) (o .sound) .sound)
+top-asks {into = into} {gone} i o r l = top-from into gone i l (behind o r .sound)
 
 refine-step : (h : Hypergraph) (ceiling : ℕ → ℕ) (u v : ℕ) (cs : List Contraction) (block : ℕ → ℕ) (tried kept a b : ℕ) → a ≡ walk h ceiling cs (uncontract block (join u v)) (u + 1) (v + 1) .tried → b ≡ walk h ceiling cs (uncontract block (join u v)) (u + 1) (v + 1) .kept
     → refine h ceiling (join u v ∷ cs) (record { block = block; tried = tried; kept = kept })
@@ -152,18 +176,19 @@ unfolding refine
 refine-step h ceiling u v cs block tried kept a b qa qb =
     ap₂ (λ (x y : ℕ). refine h ceiling cs (record { block = walked h cs (walk h ceiling cs (uncontract block (join u v)) (u + 1) (v + 1)); tried = tried + x; kept = kept + y })) (sym qa) (sym qb)
 
-pub refining-more : {T T′ T″ : Tables} {ceilings into gone : List ℕ} {len : ℕ} (i : ℕ) {tried kept u v a b tried′ kept′ : ℕ} → T′ .n ≡ T .n → T′ .m ≡ T .m → T′ .k ≡ T .k → T′ .firsts ≡ T .firsts → T′ .loaded ≡ T .loaded
-    → Refining T ceilings into gone len i T′ tried kept → 1 ≤ i → u ≡ getD into (i - 1) 0 - 1 → v ≡ getD gone (i - 1) 0 - 1 → Parts T′ ceilings u v T″ a b → tried′ ≡ tried + a → kept′ ≡ kept + b
-    → Refining T ceilings into gone len (i - 1) T″ tried′ kept′
+pub refining-more : {T T′ T″ : Tables} {ceilings fixedmarks into gone : List ℕ} {len : ℕ} (i : ℕ) {tried kept u v a b tried′ kept′ : ℕ} → T′ .n ≡ T .n → T′ .m ≡ T .m → T′ .k ≡ T .k → T′ .firsts ≡ T .firsts → T′ .loaded ≡ T .loaded
+    → Refining T ceilings fixedmarks into gone len i T′ tried kept → 1 ≤ i → u ≡ getD into (i - 1) 0 - 1 → v ≡ getD gone (i - 1) 0 - 1 → Parts T′ ceilings fixedmarks u v T″ a b → tried′ ≡ tried + a → kept′ ≡ kept + b
+    → Refining T ceilings fixedmarks into gone len (i - 1) T″ tried′ kept′
 refining-more {T′ = T′} {T″ = T″} {into = into} {gone = gone} i {tried} {kept} {u} {v} {a} {b} {tried′} {kept′} qn qm qk qf ql r l qu qv p qt qp = record {
-  is = λ h ceiling block q s.
-      let x = r .is h ceiling block q s in
+  is = λ h ceiling block q f free s.
+      let x = r .is h ceiling block q f free s in
       let top = top-is into gone i l (x .sound) u v qu qv in
-      let e = p .is h ceiling (stackOf into gone (i - 1)) (x .there) q (subst (λ (cs : List Contraction). Sound h cs (x .there) T′) top (x .sound)) in
+      let e = p .is h ceiling (stackOf into gone (i - 1)) (x .there) q (below-fixed l qu qv x f) (below-sound l qu qv x) in
       let new : ℕ → ℕ = walked h (stackOf into gone (i - 1)) (walk h ceiling (stackOf into gone (i - 1)) (uncontract (x .there) (join u v)) (u + 1) (v + 1)) in
       record {
         there = new;
         sound = e .sound;
+        free = below-free l qu qv x;
         same =
             x .same
             ∙ ap (λ (cs : List Contraction). refine h ceiling cs (record { block = x .there; tried = tried; kept = kept })) top
@@ -177,10 +202,10 @@ refine-end : (h : Hypergraph) (ceiling : ℕ → ℕ) (f : Fine) → refine h ce
 unfolding refine
 refine-end h ceiling f = refl
 
-pub refining-done : {T T′ : Tables} {ceilings into gone : List ℕ} {len : ℕ} (i : ℕ) {tried kept : ℕ} → Refining T ceilings into gone len i T′ tried kept → i ≡ 0 → Refines T ceilings into gone len T′ tried kept
+pub refining-done : {T T′ : Tables} {ceilings fixedmarks into gone : List ℕ} {len : ℕ} (i : ℕ) {tried kept : ℕ} → Refining T ceilings fixedmarks into gone len i T′ tried kept → i ≡ 0 → Refines T ceilings fixedmarks into gone len T′ tried kept
 refining-done {T′ = T′} {into = into} {gone = gone} i {tried} {kept} r z = record {
-  is = λ h ceiling block q s.
-      let x = r .is h ceiling block q s in
+  is = λ h ceiling block q f free s.
+      let x = r .is h ceiling block q f free s in
       let bare : stackOf into gone i ≡ [] = ap (stackOf into gone) z ∙ pairs-none (λ u v. record { into = u; gone = v }) into gone in
       let f : Fine = record { block = x .there; tried = tried; kept = kept } in
       let e = x .same ∙ ap (λ (cs : List Contraction). refine h ceiling cs f) bare ∙ refine-end h ceiling f in

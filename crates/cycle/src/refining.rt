@@ -45,6 +45,7 @@ fn refine_once(
     firsts: &[u16],
     loadedsizes: &[u16],
     ceilings: &[u64; 16],
+    fixedmarks: [u64; 48],
     n: usize,
     m: usize,
     k: usize,
@@ -54,10 +55,10 @@ fn refine_once(
 ) -> Walked
     requires { ⌜ PartOk
         (tables (now counts) (now visited) (now gains) (now presentpins) (now presentsizes) (now bits) (now blocks) (now weights) (now aboves) (now loads) (now netweights) (now firsts) (now loadedsizes) n m k total)
-        u v ⌝ }
+        fixedmarks u v ⌝ }
     ensures { λ r. ⌜ Parts
         (tables (now (counts .entry)) (now (visited .entry)) (now (gains .entry)) (now (presentpins .entry)) (now (presentsizes .entry)) (now (bits .entry)) (now (blocks .entry)) (now (weights .entry)) (now (aboves .entry)) (now (loads .entry)) (now (netweights .entry)) (now (firsts .entry)) (now (loadedsizes .entry)) n m k total)
-        (now (ceilings .entry)) u v
+        (now (ceilings .entry)) fixedmarks u v
         (tables (now (counts .exit)) (now (visited .exit)) (now (gains .exit)) (now (presentpins .exit)) (now (presentsizes .exit)) (now (bits .exit)) (now (blocks .exit)) (now (weights .exit)) (now (aboves .exit)) (now (loads .exit)) (now (netweights .exit)) (now (firsts .exit)) (now (loadedsizes .exit)) n m k (r .total))
         (r .tried) (r .kept) ⌝ }
 {
@@ -94,6 +95,7 @@ fn refine_once(
         netweights,
         firsts,
         ceilings,
+        fixedmarks,
         n,
         m,
         k,
@@ -119,6 +121,7 @@ pub fn refine(
     firsts: &[u16],
     loadedsizes: &[u16],
     ceilings: &[u64; 16],
+    fixedmarks: [u64; 48],
     n: usize,
     m: usize,
     k: usize,
@@ -127,10 +130,10 @@ pub fn refine(
 ) -> Fine
     requires { ⌜ RefineOk
         (tables (now counts) (now visited) (now gains) (now presentpins) (now presentsizes) (now bits) (now blocks) (now weights) (now aboves) (now loads) (now netweights) (now firsts) (now loadedsizes) n m k total)
-        (stack .into) (stack .gone) (stack .len) ⌝ }
+        fixedmarks (stack .into) (stack .gone) (stack .len) ⌝ }
     ensures { λ r. ⌜ Refines
         (tables (now (counts .entry)) (now (visited .entry)) (now (gains .entry)) (now (presentpins .entry)) (now (presentsizes .entry)) (now (bits .entry)) (now (blocks .entry)) (now (weights .entry)) (now (aboves .entry)) (now (loads .entry)) (now (netweights .entry)) (now (firsts .entry)) (now (loadedsizes .entry)) n m k total)
-        (now (ceilings .entry)) (stack .into) (stack .gone) (stack .len)
+        (now (ceilings .entry)) fixedmarks (stack .into) (stack .gone) (stack .len)
         (tables (now (counts .exit)) (now (visited .exit)) (now (gains .exit)) (now (presentpins .exit)) (now (presentsizes .exit)) (now (bits .exit)) (now (blocks .exit)) (now (weights .exit)) (now (aboves .exit)) (now (loads .exit)) (now (netweights .exit)) (now (firsts .exit)) (now (loadedsizes .exit)) n m k (r .total))
         (r .tried) (r .kept) ⌝ }
 {
@@ -159,6 +162,7 @@ pub fn refine(
             firsts,
             loadedsizes,
             ceilings,
+            fixedmarks,
             n,
             m,
             k,

@@ -41,15 +41,16 @@ fn descend(
     firsts: &[u16],
     loadedsizes: &[u16],
     ceilings: &[u64; 16],
+    fixedmarks: [u64; 48],
     size: Size,
     total: u32,
 ) -> Descent
     requires { ⌜ CycleOk
         (tables (now counts) (now visited) (now gains) (now presentpins) (now presentsizes) (now bits) (now blocks) (now weights) (now aboves) (now loads) (now netweights) (now firsts) (now loadedsizes) (size .n) (size .m) (size .k) total)
-        (size .average) ⌝ }
+        (size .average) fixedmarks ⌝ }
     ensures { λ r. ⌜ Levels
         (tables (now (counts .entry)) (now (visited .entry)) (now (gains .entry)) (now (presentpins .entry)) (now (presentsizes .entry)) (now (bits .entry)) (now (blocks .entry)) (now (weights .entry)) (now (aboves .entry)) (now (loads .entry)) (now (netweights .entry)) (now (firsts .entry)) (now (loadedsizes .entry)) (size .n) (size .m) (size .k) total)
-        (size .average) (now (ceilings .entry))
+        (size .average) (now (ceilings .entry)) fixedmarks
         (tables (now (counts .exit)) (now (visited .exit)) (now (gains .exit)) (now (presentpins .exit)) (now (presentsizes .exit)) (now (bits .exit)) (now (blocks .exit)) (now (weights .exit)) (now (aboves .exit)) (now (loads .exit)) (now (netweights .exit)) (now (firsts .exit)) (now (loadedsizes .exit)) (size .n) (size .m) (size .k) (r .total))
         (r .joins) (r .tried) (r .kept) ⌝ }
 {
@@ -65,6 +66,7 @@ fn descend(
         aboves,
         netweights,
         firsts,
+        fixedmarks,
         size,
         total,
         Stack::new(),
@@ -84,6 +86,7 @@ fn descend(
         firsts,
         loadedsizes,
         ceilings,
+        fixedmarks,
         size.n,
         size.m,
         size.k,
@@ -114,15 +117,16 @@ pub fn run(
     firsts: &[u16],
     loadedsizes: &[u16],
     ceilings: &[u64; 16],
+    fixedmarks: [u64; 48],
     size: Size,
     total: u32,
 ) -> Cycled
     requires { ⌜ CycleOk
         (tables (now counts) (now visited) (now gains) (now presentpins) (now presentsizes) (now bits) (now blocks) (now weights) (now aboves) (now loads) (now netweights) (now firsts) (now loadedsizes) (size .n) (size .m) (size .k) total)
-        (size .average) ⌝ }
+        (size .average) fixedmarks ⌝ }
     ensures { λ r. ⌜ Does
         (tables (now (counts .entry)) (now (visited .entry)) (now (gains .entry)) (now (presentpins .entry)) (now (presentsizes .entry)) (now (bits .entry)) (now (blocks .entry)) (now (weights .entry)) (now (aboves .entry)) (now (loads .entry)) (now (netweights .entry)) (now (firsts .entry)) (now (loadedsizes .entry)) (size .n) (size .m) (size .k) total)
-        (size .average) (now (ceilings .entry))
+        (size .average) (now (ceilings .entry)) fixedmarks
         (tables (now (counts .exit)) (now (visited .exit)) (now (gains .exit)) (now (presentpins .exit)) (now (presentsizes .exit)) (now (bits .exit)) (now (blocks .exit)) (now (weights .exit)) (now (aboves .exit)) (now (loads .exit)) (now (netweights .exit)) (now (firsts .exit)) (now (loadedsizes .exit)) (size .n) (size .m) (size .k) (r .total))
         (r .joins) (r .tried) (r .kept) (r .moves) ⌝ }
 {
@@ -141,6 +145,7 @@ pub fn run(
         firsts,
         loadedsizes,
         ceilings,
+        fixedmarks,
         size,
         total,
     );
@@ -157,6 +162,7 @@ pub fn run(
         netweights,
         firsts,
         ceilings,
+        fixedmarks,
         size.n,
         size.m,
         size.k,

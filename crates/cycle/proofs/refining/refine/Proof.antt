@@ -9,18 +9,18 @@ use Rattle.cycle.proofs.refining.refine.Statement.{statement}
 use Rattle.cycle.proofs.refining.refine.Tie as tie
 
 abbrev Inv-loop : tie.InvT-loop
-Inv-loop counts₀ visited₀ gains₀ pins₀ sizes₀ bits₀ blocks₀ weights₀ aboves₀ loads₀ netweights firsts loaded ceilings n m k total stack f₀ i₀ counts visited gains pins sizes bits blocks weights aboves loads f i =
+Inv-loop counts₀ visited₀ gains₀ pins₀ sizes₀ bits₀ blocks₀ weights₀ aboves₀ loads₀ netweights firsts loaded ceilings fixedmarks n m k total stack f₀ i₀ counts visited gains pins sizes bits blocks weights aboves loads f i =
     (i ≤ stack .len) × (f .tried + 1024 * i ≤ 1048576) × (f .kept + 1024 * i ≤ 1048576)
-    × Refining (tables counts₀ visited₀ gains₀ pins₀ sizes₀ bits₀ blocks₀ weights₀ aboves₀ loads₀ netweights firsts loaded n m k total) ceilings (stack .into) (stack .gone) (stack .len) i (tables counts visited gains pins sizes bits blocks weights aboves loads netweights firsts loaded n m k (f .total)) (f .tried) (f .kept)
+    × Refining (tables counts₀ visited₀ gains₀ pins₀ sizes₀ bits₀ blocks₀ weights₀ aboves₀ loads₀ netweights firsts loaded n m k total) ceilings fixedmarks (stack .into) (stack .gone) (stack .len) i (tables counts visited gains pins sizes bits blocks weights aboves loads netweights firsts loaded n m k (f .total)) (f .tried) (f .kept)
     × (length counts ≡ length counts₀) × (length visited ≡ length visited₀) × (length gains ≡ length gains₀) × (length pins ≡ length pins₀) × (length sizes ≡ length sizes₀) × (length bits ≡ length bits₀) × (length blocks ≡ length blocks₀) × (length weights ≡ length weights₀) × (length aboves ≡ length aboves₀)
 
 abbrev μ-loop : tie.MeasureT-loop
-μ-loop counts₀ visited₀ gains₀ pins₀ sizes₀ bits₀ blocks₀ weights₀ aboves₀ loads₀ netweights firsts loaded ceilings n m k total stack f₀ i₀ counts visited gains pins sizes bits blocks weights aboves loads f i = i
+μ-loop counts₀ visited₀ gains₀ pins₀ sizes₀ bits₀ blocks₀ weights₀ aboves₀ loads₀ netweights firsts loaded ceilings fixedmarks n m k total stack f₀ i₀ counts visited gains pins sizes bits blocks weights aboves loads f i = i
 
 loop-holds : tie.Need-loop-holds Inv-loop μ-loop
 loop-holds c =
     let start = c .before .before .before .before .before .before .before .before .before .before .before in
-    let p = start .pre in (omega arith, omega (arith, stack-to p), omega (arith, stack-to p), refining-none _ _ _ _ _, refl, refl, refl, refl, refl, refl, refl, refl, refl)
+    let p = start .pre in (omega arith, omega (arith, stack-to p), omega (arith, stack-to p), refining-none _ _ _ _ _ _, refl, refl, refl, refl, refl, refl, refl, refl, refl)
 
 sub-i : tie.Need-sub-i Inv-loop μ-loop
 sub-i c = omega (arith, c .loop-test)
