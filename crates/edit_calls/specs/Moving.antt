@@ -14,11 +14,12 @@ use Rattle.model.specs.Measure.{Contraction, above, metric, freed, drawn}
 use Rattle.model.specs.Machine.{callM, callB, saysM, saysB, saysNO, Move, State, settle, refusesM, doesM, doesB}
 use Rattle.model.specs.Report.{refusal}
 use Rattle.model.specs.Search.{callUnder}
-use Rattle.model.specs.Lent.{journalOf, Two}
+use Rattle.model.specs.Lent.{journalOf, stackOf, Two}
 use Rattle.guarantees.specs.Calls.{Recorded}
 use Rattle.guarantees.specs.Caps.{CeilingIs}
 use Rattle.guarantees.specs.StateBounds.{Listed}
 use Rattle.guarantees.specs.Reversals.{Apart}
+use Rattle.fixed.specs.Starting.{FixedIs}
 use Rattle.levels.specs.Halves.{HalvesOf, HalvesNeeds, HalvesFound}
 use Rattle.operations.specs.Pairs.{pairs-none, pairs-some, Pushed, pairs-push}
 use Rattle.operations.specs.Tables.{Tables, Sound, runningOf}
@@ -31,9 +32,9 @@ use Rattle.edit_calls.specs.Contracting.{above-none, popped-whole, pushe
 
 -- ---- M
 -- an accepted M names a vertex on the board and another block than its own
-pub open-of : (blocks loads ceilings weights : List ℕ) (n k u t : ℕ) → refusalM blocks loads ceilings weights n k u t ≡ 0 → (1 ≤ u) × Open blocks n k (u - 1) t
+pub open-of : (blocks loads ceilings fixedmarks weights : List ℕ) (n k u t : ℕ) → refusalM blocks loads ceilings fixedmarks weights n k u t ≡ 0 → (1 ≤ u) × Open blocks n k (u - 1) t
 unfolding refusalM
-open-of blocks loads ceilings weights n k u t q =
+open-of blocks loads ceilings fixedmarks weights n k u t q =
     let a = cond-zero (not (known n u && known k t)) 9 _ (omega arith) q in
     let b = cond-zero (not (here blocks u)) 10 _ (omega arith) (a .1) in
     let d = cond-zero (eqb (getD blocks (u - 1) 0) t) 12 _ (omega arith) (b .1) in
@@ -56,21 +57,21 @@ halves-of {T = T} {u = u} s o =
 pub halves-needs : {T : Tables} {S J : Two} {u t : ℕ} → Ready T S J → Open (T .blocks) (T .n) (T .k) u t → HalvesNeeds (T .counts) (T .bits) (T .blocks) (T .netWeights) (T .m) u t
 halves-needs {T} g o = record { h = g .h; cs = g .s .stack; block = g .s .block; visited = T .visited; gains = T .gains; pins = T .pins; sizes = T .sizes; firsts = T .firsts; n = T .n; k = T .k; of = halves-of (g .runs .sound) o }
 
-pub refused-M : {h : Hypergraph} {ceiling : ℕ → ℕ} (T : Tables) {S J : Two} (ceilings : List ℕ) (u t q f d total : ℕ) → CeilingIs ceilings h ceiling → q ≡ refusalM (T .blocks) (T .loads) ceilings (T .weights) (T .n) (T .k) u t → (q ≡ 0 → ⊥)
+pub refused-M : {h : Hypergraph} {ceiling : ℕ → ℕ} (T : Tables) {S J : Two} (ceilings fixedmarks : List ℕ) (u t q f d total : ℕ) → CeilingIs ceilings h ceiling → FixedIs fixedmarks h (stackOf (S .xs) (S .ys) (S .len)) → q ≡ refusalM (T .blocks) (T .loads) ceilings fixedmarks (T .weights) (T .n) (T .k) u t → (q ≡ 0 → ⊥)
     → Called h ceiling T T S S J J (callM u t) (told q (saysM f d total))
 unfolding callUnder
-refused-M {h} {ceiling} T ceilings u t q f d total qc e n = record {
+refused-M {h} {ceiling} T ceilings fixedmarks u t q f d total qc qx e n = record {
   steps = λ s r. refused (callM u t)
-      (ap (λ (z : ℕ). settle z s (doesM h s u t)) (sym (e ∙ refusalM-is (r .sound) ceiling ceilings qc s refl refl u t))
+      (ap (λ (z : ℕ). settle z s (doesM h s u t)) (sym (e ∙ refusalM-is (r .sound) ceiling ceilings fixedmarks qc (subst (FixedIs fixedmarks h) (r .stack-is) qx) s refl refl u t))
       ∙ settle-no q s (doesM h s u t) (saysM f d total) n) r;
   keeps = λ s r. keeps-none T;
   unchanged = λ _. (refl, refl, refl);
 }
 
-module _ (h : Hypergraph) (T T′ : Tables) (S J J′ : Two) (ceilings : List ℕ) (u t b f : ℕ) (e : refusalM (T .blocks) (T .loads) ceilings (T .weights) (T .n) (T .k) u t ≡ 0) (qb : b ≡ t) (w : Went T T′ (u - 1) b)
+module _ (h : Hypergraph) (T T′ : Tables) (S J J′ : Two) (ceilings fixedmarks : List ℕ) (u t b f : ℕ) (e : refusalM (T .blocks) (T .loads) ceilings fixedmarks (T .weights) (T .n) (T .k) u t ≡ 0) (qb : b ≡ t) (w : Went T T′ (u - 1) b)
     (room : J .len < 1024) (qf : f ≡ getD (T .blocks) (u - 1) 0) (p : Pushed (J .xs) (J .ys) (J .len) u f (J′ .xs) (J′ .ys) (J′ .len)) where
   ok : (1 ≤ u) × Open (T .blocks) (T .n) (T .k) (u - 1) t
-  ok = open-of (T .blocks) (T .loads) ceilings (T .weights) (T .n) (T .k) u t e
+  ok = open-of (T .blocks) (T .loads) ceilings fixedmarks (T .weights) (T .n) (T .k) u t e
 
   u-is : u - 1 + 1 ≡ u
   u-is = omega (arith, ok .0)
@@ -96,11 +97,11 @@ module _ (h : Hypergraph) (T T′ : Tables) (S J J′ : Two) (ceilings : List �
         let dr-is = are .1 ∙ ap (λ (x : ℕ). drawn h (s .stack) (s .block) x t) u-is in
         cc (fr-is, dr-is, sound-M .total-is)
 
-  pub accepted-M : {ceiling : ℕ → ℕ} → CeilingIs ceilings h ceiling → {fr dr : ℕ} → HalvesFound (T .counts) (T .bits) (T .blocks) (T .netWeights) (T .m) (u - 1) t fr dr → Called h ceiling T T′ S S J J′ (callM u t) (saysM fr dr (T′ .total))
+  pub accepted-M : {ceiling : ℕ → ℕ} → CeilingIs ceilings h ceiling → FixedIs fixedmarks h (stackOf (S .xs) (S .ys) (S .len)) → {fr dr : ℕ} → HalvesFound (T .counts) (T .bits) (T .blocks) (T .netWeights) (T .m) (u - 1) t fr dr → Called h ceiling T T′ S S J J′ (callM u t) (saysM fr dr (T′ .total))
   unfolding callUnder doesM refusal
-  accepted-M {ceiling} qc {fr} {dr} q = record {
+  accepted-M {ceiling} qc qx {fr} {dr} q = record {
     steps = λ s r. stepped (callM u t) (doesM h s u t)
-        (settle-yes (refusesM h ceiling s u t) s (doesM h s u t) (sym (refusalM-is (r .sound) ceiling ceilings qc s refl refl u t) ∙ e))
+        (settle-yes (refusesM h ceiling s u t) s (doesM h s u t) (sym (refusalM-is (r .sound) ceiling ceilings fixedmarks qc (subst (FixedIs fixedmarks h) (r .stack-is) qx) s refl refl u t) ∙ e))
         r (record {
           sound = sound-M s r;
           stack-is = r .stack-is;

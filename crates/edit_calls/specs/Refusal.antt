@@ -10,10 +10,12 @@ use lib.Dec.{eqb, leb}
 use lib.ListN.{getD}
 use Rattle.laws.specs.Choice.{and-left, and-right}
 use Rattle.model.specs.Catalogue.{Hypergraph, vertices, isVertex, isBlock}
-use Rattle.model.specs.Measure.{Contraction, above, onBoard, weight, blockWeight, hasRoom}
+use Rattle.model.specs.Measure.{Contraction, above, onBoard, weight, isFixed, blockWeight, hasRoom}
 use Rattle.model.specs.Machine.{State, refusesJ, refusesM}
 use Rattle.model.specs.Search.{refusesW}
 use Rattle.guarantees.specs.Caps.{CeilingIs}
+use Rattle.incidence.specs.On.{on}
+use Rattle.fixed.specs.Starting.{FixedIs}
 use Rattle.operations.specs.Tables.{Tables, Sound}
 use Rattle.operations.specs.Move.{own-block, own-weight, in-range}
 
@@ -24,6 +26,10 @@ known n u = leb 1 u && leb u n
 -- the vertex is on the board: it has a block
 abbrev pub here : List ℕ → ℕ → Bool
 here blocks u = not (eqb (getD blocks (u - 1) 0) 0)
+
+-- the vertex is fixed: its bit of row 1 is set
+abbrev pub marked : List ℕ → ℕ → Bool
+marked fixedmarks u = eqb (on fixedmarks 1 (u - 1)) 1
 
 -- there is room for u in t under its ceiling
 abbrev pub roomIn : (loads ceilings weights : List ℕ) → ℕ → ℕ → Bool
@@ -37,13 +43,14 @@ refusalJ blocks n u v =
     (cond (not (here blocks u && here blocks v)) 10
     (cond (not (eqb (getD blocks (u - 1) 0) (getD blocks (v - 1) 0))) 13 0)))
 
--- M: 9, 10, 12, 14
-unfoldable pub refusalM : (blocks loads ceilings weights : List ℕ) (n k u t : ℕ) → ℕ
-refusalM blocks loads ceilings weights n k u t =
+-- M: 9, 10, 12, 20, 14
+unfoldable pub refusalM : (blocks loads ceilings fixedmarks weights : List ℕ) (n k u t : ℕ) → ℕ
+refusalM blocks loads ceilings fixedmarks weights n k u t =
     cond (not (known n u && known k t)) 9
     (cond (not (here blocks u)) 10
     (cond (eqb (getD blocks (u - 1) 0) t) 12
-    (cond (not (roomIn loads ceilings weights u t)) 14 0)))
+    (cond (marked fixedmarks u) 20
+    (cond (not (roomIn loads ceilings weights u t)) 14 0))))
 
 -- W: 9, 10
 unfoldable pub refusalW : List ℕ → ℕ → ℕ → ℕ → ℕ
@@ -111,15 +118,22 @@ module _ {h : Hypergraph} {cs : List Contraction} {block : ℕ → ℕ} {T : Tab
       (s .bears (t - 1) (b .0) ∙ ap (blockWeight h cs block) (b .1))
       (own-weight s (u - 1) (p .0) (ap (above cs) (p .1) ∙ eqb-true (above cs u) 0 on) ∙ ap (weight h cs) (p .1))
 
-  pub refusalM-is : (ceiling : ℕ → ℕ) (ceilings : List ℕ) → CeilingIs ceilings h ceiling → (st : State) → st .stack ≡ cs → st .block ≡ block → (u t : ℕ)
-      → refusalM (T .blocks) (T .loads) ceilings (T .weights) (T .n) (T .k) u t ≡ refusesM h ceiling st u t
+  fixed-is : (fixedmarks : List ℕ) → FixedIs fixedmarks h cs → (u : ℕ) → isVertex h u ≡ true → marked fixedmarks u ≡ isFixed h cs u
+  fixed-is fixedmarks f u q =
+      let p = place-of u q in
+      f .fixed (u - 1) (omega (arith, p .0, s .follows .says .all-vertices)) ∙ ap (isFixed h cs) (p .1)
+
+  pub refusalM-is : (ceiling : ℕ → ℕ) (ceilings fixedmarks : List ℕ) → CeilingIs ceilings h ceiling → FixedIs fixedmarks h cs → (st : State) → st .stack ≡ cs → st .block ≡ block → (u t : ℕ)
+      → refusalM (T .blocks) (T .loads) ceilings fixedmarks (T .weights) (T .n) (T .k) u t ≡ refusesM h ceiling st u t
   unfolding refusalM refusesM
-  refusalM-is ceiling ceilings c st qs qb u t = rw (qs, qb) (
+  refusalM-is ceiling ceilings fixedmarks c f st qs qb u t = rw (qs, qb) (
       cond-if {b′ = not (isVertex h u && isBlock h t)} 9 (ap not (ap₂ (λ (x y : Bool). x && y) (known-is u) (ap (λ (k : ℕ). leb 1 t && leb t k) (s .follows .says .all-blocks)))) (λ a.
       let ku = and-left _ _ (not-false _ a) in
       let kt = and-right (isVertex h u) _ (not-false _ a) in
       cond-if {b′ = not (onBoard cs u)} 10 (ap not (here-is u ku)) (λ o.
-      cond-if {b′ = eqb (block u) t} 12 (ap (λ (x : ℕ). eqb x t) (block-is u ku)) (λ _. ap (λ (b : Bool). cond (not b) 14 0) (room-is ceiling ceilings c u t ku (not-false _ o) kt)))))
+      cond-if {b′ = eqb (block u) t} 12 (ap (λ (x : ℕ). eqb x t) (block-is u ku)) (λ _.
+      cond-if {b′ = isFixed h cs u} 20 (fixed-is fixedmarks f u ku) (λ _.
+      ap (λ (b : Bool). cond (not b) 14 0) (room-is ceiling ceilings c u t ku (not-false _ o) kt))))))
 
 -- ---- the arms of the code's tests: r is what a test answered
 pub known-no : (n x : ℕ) → x < 1 → false ≡ known n x
@@ -185,27 +199,33 @@ module _ (blocks : List ℕ) (n u v : ℕ) {r : Bool} (e : r ≡ (known n u && k
     join-0 w q′ d = left (not (known n u && known n v)) 9 (sym (ap not e) ∙ q) (left (eqb u v) 11 (ne-eqb u v w) (left (not (here blocks u && here blocks v)) 10 (sym (ap not e′) ∙ q′)
         (left (not (eqb (getD blocks (u - 1) 0) (getD blocks (v - 1) 0))) 13 (ap not (eq-eqb (getD blocks (u - 1) 0) (getD blocks (v - 1) 0) d)) refl)))
 
-module _ (blocks loads ceilings weights : List ℕ) (n k u t : ℕ) {r : Bool} (e : r ≡ (known n u && known k t)) where
-  pub move-9 : not r ≡ true → 9 ≡ refusalM blocks loads ceilings weights n k u t
+module _ (blocks loads ceilings fixedmarks weights : List ℕ) (n k u t : ℕ) {r : Bool} (e : r ≡ (known n u && known k t)) where
+  pub move-9 : not r ≡ true → 9 ≡ refusalM blocks loads ceilings fixedmarks weights n k u t
   unfolding refusalM
   move-9 q = taken (not (known n u && known k t)) 9 _ (sym (ap not e) ∙ q)
 
   module _ (q : not r ≡ false) {r′ : Bool} (e′ : r′ ≡ here blocks u) where
-    pub move-10 : not r′ ≡ true → 10 ≡ refusalM blocks loads ceilings weights n k u t
+    pub move-10 : not r′ ≡ true → 10 ≡ refusalM blocks loads ceilings fixedmarks weights n k u t
     unfolding refusalM
     move-10 q′ = left (not (known n u && known k t)) 9 (sym (ap not e) ∙ q) (taken (not (here blocks u)) 10 _ (sym (ap not e′) ∙ q′))
 
-    pub move-12 : not r′ ≡ false → getD blocks (u - 1) 0 ≡ t → 12 ≡ refusalM blocks loads ceilings weights n k u t
+    pub move-12 : not r′ ≡ false → getD blocks (u - 1) 0 ≡ t → 12 ≡ refusalM blocks loads ceilings fixedmarks weights n k u t
     unfolding refusalM
     move-12 q′ d = left (not (known n u && known k t)) 9 (sym (ap not e) ∙ q) (left (not (here blocks u)) 10 (sym (ap not e′) ∙ q′) (taken (eqb (getD blocks (u - 1) 0) t) 12 _ (eq-eqb (getD blocks (u - 1) 0) t d)))
 
-    module _ (q′ : not r′ ≡ false) (d : getD blocks (u - 1) 0 ≡ t → ⊥) {r″ : Bool} (e″ : r″ ≡ roomIn loads ceilings weights u t) where
-      pub move-14 : not r″ ≡ true → 14 ≡ refusalM blocks loads ceilings weights n k u t
+    module _ (q′ : not r′ ≡ false) (d : getD blocks (u - 1) 0 ≡ t → ⊥) {r″ : Bool} (e″ : r″ ≡ marked fixedmarks u) where
+      pub move-20 : r″ ≡ true → 20 ≡ refusalM blocks loads ceilings fixedmarks weights n k u t
       unfolding refusalM
-      move-14 q″ = left (not (known n u && known k t)) 9 (sym (ap not e) ∙ q) (left (not (here blocks u)) 10 (sym (ap not e′) ∙ q′) (left (eqb (getD blocks (u - 1) 0) t) 12 (ne-eqb (getD blocks (u - 1) 0) t d)
-          (taken (not (roomIn loads ceilings weights u t)) 14 0 (sym (ap not e″) ∙ q″))))
+      move-20 q″ = left (not (known n u && known k t)) 9 (sym (ap not e) ∙ q) (left (not (here blocks u)) 10 (sym (ap not e′) ∙ q′) (left (eqb (getD blocks (u - 1) 0) t) 12 (ne-eqb (getD blocks (u - 1) 0) t d)
+          (taken (marked fixedmarks u) 20 _ (sym e″ ∙ q″))))
 
-      pub move-0 : not r″ ≡ false → 0 ≡ refusalM blocks loads ceilings weights n k u t
-      unfolding refusalM
-      move-0 q″ = left (not (known n u && known k t)) 9 (sym (ap not e) ∙ q) (left (not (here blocks u)) 10 (sym (ap not e′) ∙ q′) (left (eqb (getD blocks (u - 1) 0) t) 12 (ne-eqb (getD blocks (u - 1) 0) t d)
-          (left (not (roomIn loads ceilings weights u t)) 14 (sym (ap not e″) ∙ q″) refl)))
+      module _ (q″ : r″ ≡ false) {r‴ : Bool} (e‴ : r‴ ≡ roomIn loads ceilings weights u t) where
+        pub move-14 : not r‴ ≡ true → 14 ≡ refusalM blocks loads ceilings fixedmarks weights n k u t
+        unfolding refusalM
+        move-14 q‴ = left (not (known n u && known k t)) 9 (sym (ap not e) ∙ q) (left (not (here blocks u)) 10 (sym (ap not e′) ∙ q′) (left (eqb (getD blocks (u - 1) 0) t) 12 (ne-eqb (getD blocks (u - 1) 0) t d)
+            (left (marked fixedmarks u) 20 (sym e″ ∙ q″) (taken (not (roomIn loads ceilings weights u t)) 14 0 (sym (ap not e‴) ∙ q‴)))))
+
+        pub move-0 : not r‴ ≡ false → 0 ≡ refusalM blocks loads ceilings fixedmarks weights n k u t
+        unfolding refusalM
+        move-0 q‴ = left (not (known n u && known k t)) 9 (sym (ap not e) ∙ q) (left (not (here blocks u)) 10 (sym (ap not e′) ∙ q′) (left (eqb (getD blocks (u - 1) 0) t) 12 (ne-eqb (getD blocks (u - 1) 0) t d)
+            (left (marked fixedmarks u) 20 (sym e″ ∙ q″) (left (not (roomIn loads ceilings weights u t)) 14 (sym (ap not e‴) ∙ q‴) refl))))

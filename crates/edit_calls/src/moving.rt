@@ -1,10 +1,13 @@
 // The calls M and B: refused with the number of the refusal, or done, with the numbers of the answer.
 ghost use Prim.Native.Nat.{ℕ};
+ghost use mathlib.Core.Path.{_≡_};
 ghost use mathlib.Core.List.{List};
+ghost use lib.ListN.{length};
 ghost use Rattle.model.specs.Catalogue.{Hypergraph};
 ghost use Rattle.model.specs.Machine.{callM, callB, saysM, saysB};
-ghost use Rattle.model.specs.Lent.{Two, two};
+ghost use Rattle.model.specs.Lent.{Two, two, stackOf};
 ghost use Rattle.guarantees.specs.Caps.{CeilingIs};
+ghost use Rattle.fixed.specs.Starting.{FixedIs};
 ghost use Rattle.operations.specs.Tables.{tables};
 ghost use Rattle.edit_calls.specs.Steps.{told};
 ghost use Rattle.edit_calls.specs.Called.{ReadyM, Called};
@@ -48,6 +51,7 @@ pub fn call_move(
     netweights: &[u16],
     firsts: &[u16],
     ceilings: &[u64; 16],
+    fixedmarks: [u64; 48],
     n: usize,
     m: usize,
     k: usize,
@@ -56,15 +60,15 @@ pub fn call_move(
     u: usize,
     t: usize,
 ) -> MoveTurn
-    requires { ⌜ ReadyM
+    requires { ⌜ (length fixedmarks ≡ 48) × ReadyM
         (λ aboves loadedsizes. tables (now counts) (now visited) (now gains) (now presentpins) (now presentsizes) (now bits) (now blocks) (now weights) aboves (now loads) (now netweights) (now firsts) loadedsizes n m k total)
         (two (journal .vertices) (journal .blocks) (journal .len)) ⌝ }
-    ensures { λ r. ⌜ ((aboves loadedsizes : List ℕ) (S : Two) (h : Hypergraph) (ceiling : ℕ → ℕ) → CeilingIs (now (ceilings .entry)) h ceiling → Called h ceiling
+    ensures { λ r. ⌜ ((aboves loadedsizes : List ℕ) (S : Two) (h : Hypergraph) (ceiling : ℕ → ℕ) → CeilingIs (now (ceilings .entry)) h ceiling → FixedIs fixedmarks h (stackOf (S .xs) (S .ys) (S .len)) → Called h ceiling
         (tables (now (counts .entry)) (now (visited .entry)) (now (gains .entry)) (now (presentpins .entry)) (now (presentsizes .entry)) (now (bits .entry)) (now (blocks .entry)) (now (weights .entry)) aboves (now (loads .entry)) (now (netweights .entry)) (now (firsts .entry)) loadedsizes n m k total)
         (tables (now (counts .exit)) (now (visited .exit)) (now (gains .exit)) (now (presentpins .exit)) (now (presentsizes .exit)) (now (bits .exit)) (now (blocks .exit)) (now (weights .exit)) aboves (now (loads .exit)) (now (netweights .exit)) (now (firsts .exit)) loadedsizes n m k (r .total))
         S S (two (journal .vertices) (journal .blocks) (journal .len)) (two (r .journal .vertices) (r .journal .blocks) (r .journal .len)) (callM u t) (told (r .no) (saysM (r .halves .freed) (r .halves .drawn) (r .total)))) ⌝ }
 {
-    let no = refuses_move(blocks, loads, ceilings, weights, n, k, u, t);
+    let no = refuses_move(blocks, loads, ceilings, &fixedmarks, weights, n, k, u, t);
     if no != 0 {
         return MoveTurn {
             journal: journal,

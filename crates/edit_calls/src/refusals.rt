@@ -4,6 +4,7 @@ ghost use mathlib.Core.Path.{_≡_};
 ghost use mathlib.Core.Bool.{_&&_};
 ghost use lib.ListN.{length};
 ghost use Rattle.edit_calls.specs.Refusal.{known, here, roomIn, refusalJ, refusalM, refusalW};
+use incidence::is_pin;
 
 // Is `x` a number from 1 to `n`.
 fn is_known(n: usize, x: usize) -> bool
@@ -82,14 +83,15 @@ pub fn refuses_move(
     blocks: &[u16],
     loads: &[u64; 16],
     ceilings: &[u64; 16],
+    fixedmarks: &[u64; 48],
     weights: &[u32],
     n: usize,
     k: usize,
     u: usize,
     t: usize,
 ) -> u32
-    requires { ⌜ (n ≤ length (now blocks)) × (n ≤ length (now weights)) × (k ≤ 16) × (length (now loads) ≡ 16) ⌝ }
-    ensures { λ r. ⌜ r ≡ refusalM (now (blocks .entry)) (now (loads .entry)) (now (ceilings .entry)) (now (weights .entry)) n k u t ⌝ }
+    requires { ⌜ (n ≤ length (now blocks)) × (n ≤ length (now weights)) × (k ≤ 16) × (length (now loads) ≡ 16) × (length (now fixedmarks) ≡ 48) × (n ≤ 1024) ⌝ }
+    ensures { λ r. ⌜ r ≡ refusalM (now (blocks .entry)) (now (loads .entry)) (now (ceilings .entry)) (now (fixedmarks .entry)) (now (weights .entry)) n k u t ⌝ }
 {
     if !both_known(n, u, k, t) {
         return 9;
@@ -100,7 +102,12 @@ pub fn refuses_move(
     if blocks[u - 1] as usize == t {
         return 12;
     }
-    if !has_room(loads, ceilings, weights, u, t) {
+    let fixed = is_pin(fixedmarks, 1, u - 1);
+    let room = has_room(loads, ceilings, weights, u, t);
+    if fixed {
+        return 20;
+    }
+    if !room {
         return 14;
     }
     0

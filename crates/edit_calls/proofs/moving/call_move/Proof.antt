@@ -10,82 +10,82 @@ use Rattle.edit_calls.proofs.moving.call_move.Tie as tie
 
 refuses-move-requires : tie.Need-refuses-move-requires
 refuses-move-requires c κs =
-    let start = c .before .before .before .before .before .before .before .before .before .before .before in
-    (roomy (start .pre .ready) .blocks-fit, roomy (start .pre .ready) .weights-fit, roomy (start .pre .ready) .few-blocks, roomy (start .pre .ready) .loads-fit)
+    let start = c .before .before .before .before .before .before .before .before .before .before .before .before in
+    (roomy (start .pre .1 .ready) .blocks-fit, roomy (start .pre .1 .ready) .weights-fit, roomy (start .pre .1 .ready) .few-blocks, roomy (start .pre .1 .ready) .loads-fit, start .pre .0, roomy (start .pre .1 .ready) .few-vertices)
 
 same-length : tie.Need-same-length
 same-length c = search needs
 
 returns : tie.Need-returns
 returns c =
-    let start = c .before .before .before .before .before .before .before .before .before .before .before .before .before in
-    λ aboves loaded S h ceiling q. refused-M _ (now (start .args .ceilings)) _ _ _ _ _ _ q (c .before .refuses-move .ensures) (c .if1 .taken)
+    let start = c .before .before .before .before .before .before .before .before .before .before .before .before .before .before in
+    λ aboves loaded S h ceiling q f. refused-M _ (now (start .args .ceilings)) (start .args .t13) _ _ _ _ _ _ q f (c .before .refuses-move .ensures) (c .if1 .taken)
 
 sub-halves : tie.Need-sub-halves
 sub-halves c =
     let at-refuses-move = c .before .before .before in
-    let start = at-refuses-move .before .before .before .before .before .before .before .before .before .before .before .before in
-    omega (arith, (open-of (now (start .args .blocks)) (now (start .args .loads)) (now (start .args .ceilings)) (now (start .args .weights)) (start .args .n) (start .args .k) (start .args .u) (start .args .t) (sym (at-refuses-move .refuses-move .ensures) ∙ c .before .before .if1 .left)) .0)
+    let start = at-refuses-move .before .before .before .before .before .before .before .before .before .before .before .before .before in
+    omega (arith, (open-of (now (start .args .blocks)) (now (start .args .loads)) (now (start .args .ceilings)) (start .args .t13) (now (start .args .weights)) (start .args .n) (start .args .k) (start .args .u) (start .args .t) (sym (at-refuses-move .refuses-move .ensures) ∙ c .before .before .if1 .left)) .0)
 
 halves-requires : tie.Need-halves-requires
 halves-requires c κs =
     let at-refuses-move = c .before .before .before in
-    let start = at-refuses-move .before .before .before .before .before .before .before .before .before .before .before .before in
-    halves-needs (start .pre .ready) ((open-of (now (start .args .blocks)) (now (start .args .loads)) (now (start .args .ceilings)) (now (start .args .weights)) (start .args .n) (start .args .k) (start .args .u) (start .args .t) (sym (at-refuses-move .refuses-move .ensures) ∙ c .before .before .if1 .left)) .1)
+    let start = at-refuses-move .before .before .before .before .before .before .before .before .before .before .before .before .before in
+    halves-needs (start .pre .1 .ready) ((open-of (now (start .args .blocks)) (now (start .args .loads)) (now (start .args .ceilings)) (start .args .t13) (now (start .args .weights)) (start .args .n) (start .args .k) (start .args .u) (start .args .t) (sym (at-refuses-move .refuses-move .ensures) ∙ c .before .before .if1 .left)) .1)
 
 narrow-requires : tie.Need-narrow-requires
 narrow-requires c κs =
     let at-if1 = c .before .before .before in
     let at-refuses-move = at-if1 .before in
-    let start = c .before .before .before .before .before .before .before .before .before .before .before .before .before .before .before .before in
-    omega (arith, (open-of (now (start .args .blocks)) (now (start .args .loads)) (now (start .args .ceilings)) (now (start .args .weights)) (start .args .n) (start .args .k) (start .args .u) (start .args .t) (sym (at-refuses-move .refuses-move .ensures) ∙ at-if1 .if1 .left)) .1 .u-in, roomy (start .pre .ready) .few-vertices)
+    let start = c .before .before .before .before .before .before .before .before .before .before .before .before .before .before .before .before .before in
+    omega (arith, (open-of (now (start .args .blocks)) (now (start .args .loads)) (now (start .args .ceilings)) (start .args .t13) (now (start .args .weights)) (start .args .n) (start .args .k) (start .args .u) (start .args .t) (sym (at-refuses-move .refuses-move .ensures) ∙ at-if1 .if1 .left)) .1 .u-in, roomy (start .pre .1 .ready) .few-vertices)
 
 sub-push : tie.Need-sub-push
 sub-push c =
     let at-if1 = c .before .before .before .before in
     let at-refuses-move = c .before .before .before .before .before in
-    let start = at-refuses-move .before .before .before .before .before .before .before .before .before .before .before .before in
-    omega (arith, (open-of (now (start .args .blocks)) (now (start .args .loads)) (now (start .args .ceilings)) (now (start .args .weights)) (start .args .n) (start .args .k) (start .args .u) (start .args .t) (sym (at-refuses-move .refuses-move .ensures) ∙ at-if1 .if1 .left)) .0)
+    let start = at-refuses-move .before .before .before .before .before .before .before .before .before .before .before .before .before in
+    omega (arith, (open-of (now (start .args .blocks)) (now (start .args .loads)) (now (start .args .ceilings)) (start .args .t13) (now (start .args .weights)) (start .args .n) (start .args .k) (start .args .u) (start .args .t) (sym (at-refuses-move .refuses-move .ensures) ∙ at-if1 .if1 .left)) .0)
 
 mul-push : tie.Need-mul-push
 mul-push c =
     let at-if1 = c .before .before .before .before in
     let at-refuses-move = c .before .before .before .before .before in
-    let start = at-refuses-move .before .before .before .before .before .before .before .before .before .before .before .before in
-    omega (arith, (open-of (now (start .args .blocks)) (now (start .args .loads)) (now (start .args .ceilings)) (now (start .args .weights)) (start .args .n) (start .args .k) (start .args .u) (start .args .t) (sym (at-refuses-move .refuses-move .ensures) ∙ at-if1 .if1 .left)) .1 .u-in, roomy (start .pre .ready) .few-vertices)
+    let start = at-refuses-move .before .before .before .before .before .before .before .before .before .before .before .before .before in
+    omega (arith, (open-of (now (start .args .blocks)) (now (start .args .loads)) (now (start .args .ceilings)) (start .args .t13) (now (start .args .weights)) (start .args .n) (start .args .k) (start .args .u) (start .args .t) (sym (at-refuses-move .refuses-move .ensures) ∙ at-if1 .if1 .left)) .1 .u-in, roomy (start .pre .1 .ready) .few-vertices)
 
 slice-read-push : tie.Need-slice-read-push
 slice-read-push c =
     let at-if1 = c .before .before .before .before .before in
     let at-refuses-move = at-if1 .before in
-    let start = at-refuses-move .before .before .before .before .before .before .before .before .before .before .before .before in
-    omega (arith, (open-of (now (start .args .blocks)) (now (start .args .loads)) (now (start .args .ceilings)) (now (start .args .weights)) (start .args .n) (start .args .k) (start .args .u) (start .args .t) (sym (at-refuses-move .refuses-move .ensures) ∙ at-if1 .if1 .left)) .1 .u-in, roomy (start .pre .ready) .blocks-fit)
+    let start = at-refuses-move .before .before .before .before .before .before .before .before .before .before .before .before .before in
+    omega (arith, (open-of (now (start .args .blocks)) (now (start .args .loads)) (now (start .args .ceilings)) (start .args .t13) (now (start .args .weights)) (start .args .n) (start .args .k) (start .args .u) (start .args .t) (sym (at-refuses-move .refuses-move .ensures) ∙ at-if1 .if1 .left)) .1 .u-in, roomy (start .pre .1 .ready) .blocks-fit)
 
 push-requires : tie.Need-push-requires
 push-requires c κs =
-    let start = c .before .before .before .before .before .before .before .before .before .before .before .before .before .before .before .before .before .before in
-    (roomy (start .pre .ready) .journal-short, roomy (start .pre .ready) .journal-whole .xs-whole, roomy (start .pre .ready) .journal-whole .ys-whole)
+    let start = c .before .before .before .before .before .before .before .before .before .before .before .before .before .before .before .before .before .before .before in
+    (roomy (start .pre .1 .ready) .journal-short, roomy (start .pre .1 .ready) .journal-whole .xs-whole, roomy (start .pre .1 .ready) .journal-whole .ys-whole)
 
 sub-go : tie.Need-sub-go
 sub-go c =
     let at-if1 = c .before .before .before .before .before .before .before .before .before .before .before in
     let at-refuses-move = at-if1 .before in
-    let start = at-refuses-move .before .before .before .before .before .before .before .before .before .before .before .before in
-    omega (arith, (open-of (now (start .args .blocks)) (now (start .args .loads)) (now (start .args .ceilings)) (now (start .args .weights)) (start .args .n) (start .args .k) (start .args .u) (start .args .t) (sym (at-refuses-move .refuses-move .ensures) ∙ at-if1 .if1 .left)) .0)
+    let start = at-refuses-move .before .before .before .before .before .before .before .before .before .before .before .before .before in
+    omega (arith, (open-of (now (start .args .blocks)) (now (start .args .loads)) (now (start .args .ceilings)) (start .args .t13) (now (start .args .weights)) (start .args .n) (start .args .k) (start .args .u) (start .args .t) (sym (at-refuses-move .refuses-move .ensures) ∙ at-if1 .if1 .left)) .0)
 
 narrow-requires-2 : tie.Need-narrow-requires-2
 narrow-requires-2 c κs =
     let at-if1 = c .before .before .before .before .before .before .before .before .before .before .before in
     let at-refuses-move = at-if1 .before in
-    let start = at-refuses-move .before .before .before .before .before .before .before .before .before .before .before .before in
-    omega (arith, (open-of (now (start .args .blocks)) (now (start .args .loads)) (now (start .args .ceilings)) (now (start .args .weights)) (start .args .n) (start .args .k) (start .args .u) (start .args .t) (sym (at-refuses-move .refuses-move .ensures) ∙ at-if1 .if1 .left)) .1 .t-in, roomy (start .pre .ready) .few-blocks)
+    let start = at-refuses-move .before .before .before .before .before .before .before .before .before .before .before .before .before in
+    omega (arith, (open-of (now (start .args .blocks)) (now (start .args .loads)) (now (start .args .ceilings)) (start .args .t13) (now (start .args .weights)) (start .args .n) (start .args .k) (start .args .u) (start .args .t) (sym (at-refuses-move .refuses-move .ensures) ∙ at-if1 .if1 .left)) .1 .t-in, roomy (start .pre .1 .ready) .few-blocks)
 
 go-requires : tie.Need-go-requires
 go-requires c κs =
     let at-if1 = c .before .before .before .before .before .before .before .before .before .before .before .before in
     let at-refuses-move = at-if1 .before in
-    let start = at-refuses-move .before .before .before .before .before .before .before .before .before .before .before .before in
-    record { aboves = start .pre .aboves; loaded = start .pre .loaded; goes = goes-as (start .pre .ready) ((open-of (now (start .args .blocks)) (now (start .args .loads)) (now (start .args .ceilings)) (now (start .args .weights)) (start .args .n) (start .args .k) (start .args .u) (start .args .t) (sym (at-refuses-move .refuses-move .ensures) ∙ at-if1 .if1 .left)) .1) (c .narrow2 .ensures) }
+    let start = at-refuses-move .before .before .before .before .before .before .before .before .before .before .before .before .before in
+    record { aboves = start .pre .1 .aboves; loaded = start .pre .1 .loaded; goes = goes-as (start .pre .1 .ready) ((open-of (now (start .args .blocks)) (now (start .args .loads)) (now (start .args .ceilings)) (start .args .t13) (now (start .args .weights)) (start .args .n) (start .args .k) (start .args .u) (start .args .t) (sym (at-refuses-move .refuses-move .ensures) ∙ at-if1 .if1 .left)) .1) (c .narrow2 .ensures) }
 
 same-length-2 : tie.Need-same-length-2
 same-length-2 c = search needs
@@ -108,8 +108,8 @@ returns-2 c =
     let at-narrow = at-push .before .before in
     let at-if1 = at-narrow .before .before .before .before in
     let at-refuses-move = at-if1 .before in
-    let start = at-refuses-move .before .before .before .before .before .before .before .before .before .before .before .before in
-    λ aboves loaded S h ceiling q. accepted-M h _ _ _ _ _ (now (start .args .ceilings)) (start .args .u) (start .args .t) (at-narrow2 .narrow2 .result) _ (sym (at-refuses-move .refuses-move .ensures) ∙ at-if1 .if1 .left) (at-narrow2 .narrow2 .ensures) (at-go .go .ensures aboves loaded) (roomy (start .pre .ready) .journal-short) refl (pushed-as (at-push .push .ensures) (at-narrow .narrow .ensures) refl) q (at-halves .halves .ensures)
+    let start = at-refuses-move .before .before .before .before .before .before .before .before .before .before .before .before .before in
+    λ aboves loaded S h ceiling q f. accepted-M h _ _ _ _ _ (now (start .args .ceilings)) (start .args .t13) (start .args .u) (start .args .t) (at-narrow2 .narrow2 .result) _ (sym (at-refuses-move .refuses-move .ensures) ∙ at-if1 .if1 .left) (at-narrow2 .narrow2 .ensures) (at-go .go .ensures aboves loaded) (roomy (start .pre .1 .ready) .journal-short) refl (pushed-as (at-push .push .ensures) (at-narrow .narrow .ensures) refl) q f (at-halves .halves .ensures)
 
 pub call-move-spec : {M : Type 1} → statement M
 call-move-spec =
