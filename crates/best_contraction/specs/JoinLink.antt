@@ -29,8 +29,8 @@ use Rattle.best_contraction.specs.declared.join.Join.{Join}
 abbrev pub net : Hypergraph → ℕ → Net
 net h e = getD (h .nets) e (record { weight = 0; pins = [] })
 
--- the tables hold a state of the machine; of `blocks`, what the choice of a pair goes by: a vertex off the board is in none, and a fixed vertex in
--- one of its own, where it has no partner
+-- the tables hold a state of the machine. In `blocks`, by which pairs are chosen, a vertex off the board has none, and a fixed vertex has one of
+-- its own, where it has no partner
 pub record Linked (h : Hypergraph) (cs : List Contraction) (block : ℕ → ℕ) (bits pins firsts sizes netWeights blocks weights : List ℕ) (m n limit : ℕ) : Type 0 where
   pub tables : TablesOk bits pins firsts sizes netWeights blocks m n
   pub n-is : n ≡ vertices h

@@ -38,7 +38,8 @@ fn excess(n: usize, k: usize, len: usize) -> usize
     board - low
 }
 
-// The block by which the vertex at place `i` is paired: one of its own, above all others, if it is fixed, so that it has no partner.
+// The block by which the vertex at place `i` is paired: its block, or, if it is fixed, one that no other vertex has, above the 16 that there are,
+// so that it has no partner.
 fn join_block(block: u16, fixed: bool, i: usize) -> u16
     requires { ⌜ i < 1024 ⌝ }
     ensures { λ r. ⌜ r ≡ cond fixed (i + 17) block ⌝ }

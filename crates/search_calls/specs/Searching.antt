@@ -23,7 +23,7 @@ use Rattle.fixed.specs.Starting.{FixedIs}
 use Rattle.walk.specs.Steps.{WalkOk, Ended, Walks}
 use Rattle.polish.specs.Polished.{PolishOk, Polishes}
 use Rattle.edit_calls.specs.Refusal.{known, here, refusalW, refusalW-is, known-range}
-use Rattle.edit_calls.specs.Steps.{Runs, Ready, told}
+use Rattle.edit_calls.specs.Steps.{Runs, told}
 use Rattle.edit_calls.specs.Called.{ReadyM, Called, Cleared, stepped, refused, settle-no, settle-yes}
 use Rattle.edit_calls.specs.Contracting.{above-none, emptied, cleared-whole}
 

@@ -5,7 +5,7 @@ use Rattle.search_calls.proofs.cycling.call_all.Statement.{statement}
 use Rattle.search_calls.proofs.cycling.call_all.Tie as tie
 
 returns : tie.Need-returns
-returns c = λ h ceiling qa qc. refused-A _ (c .if1 .taken)
+returns c = λ h ceiling qa qc qx. refused-A _ (c .if1 .taken)
 
 clear-requires : tie.Need-clear-requires
 clear-requires c κs = search needs
@@ -48,7 +48,7 @@ returns-2 c =
     let at-run = c .before .before .before .before .before .before .before .before .before .before .before .before .before .before .before .before .before in
     let at-clear = at-run .before .before .before .before .before .before .before .before .before .before .before in
     let at-if1 = at-clear .before in
-    λ h ceiling qa qc. accepted-A h ceiling _ _ _ _ _ _ _ qa qc (at-if1 .if1 .left) (at-run .run .ensures) (record { xs-same = at-clear .clear .ensures .0; ys-same = at-clear .clear .ensures .1; len-is = at-clear .clear .ensures .2 })
+    λ h ceiling qa qc qx. accepted-A h ceiling _ _ _ _ _ _ _ _ qa qc qx (at-if1 .if1 .left) (at-run .run .ensures) (record { xs-same = at-clear .clear .ensures .0; ys-same = at-clear .clear .ensures .1; len-is = at-clear .clear .ensures .2 })
 
 pub call-all-spec : {M : Type 1} → statement M
 call-all-spec =

@@ -28,7 +28,7 @@ returns : tie.Need-returns
 returns c =
     let at-polish = c .before .before .before .before .before .before .before in
     let at-clear = at-polish .before .before .before .before .before .before in
-    λ aboves loaded S h ceiling q. accepted-P h ceiling _ _ _ _ _ _ q (at-polish .polish .ensures aboves loaded) (record { xs-same = at-clear .clear .ensures .0; ys-same = at-clear .clear .ensures .1; len-is = at-clear .clear .ensures .2 })
+    λ aboves loaded S h ceiling qc qx. accepted-P h ceiling _ _ _ _ _ _ _ qc qx (at-polish .polish .ensures aboves loaded) (record { xs-same = at-clear .clear .ensures .0; ys-same = at-clear .clear .ensures .1; len-is = at-clear .clear .ensures .2 })
 
 pub call-polish-spec : {M : Type 1} → statement M
 call-polish-spec =

@@ -11,13 +11,13 @@ use Rattle.search_calls.proofs.searching.call_walk.Tie as tie
 refuses-walk-requires : tie.Need-refuses-walk-requires
 refuses-walk-requires c κs =
     let start = c .before .before .before .before .before .before .before .before .before .before in
-    roomy (start .pre .ready) .blocks-fit
+    roomy (start .pre .moving .ready) .blocks-fit
 
 same-length : tie.Need-same-length
 same-length c = search needs
 
 returns : tie.Need-returns
-returns c = λ aboves loaded S h ceiling q. refused-W _ _ _ _ _ _ _ (c .before .refuses-walk .ensures) (c .if1 .taken)
+returns c = λ aboves loaded S h ceiling qc qx. refused-W _ _ _ _ _ _ _ (c .before .refuses-walk .ensures) (c .if1 .taken)
 
 clear-requires : tie.Need-clear-requires
 clear-requires c κs = search needs
@@ -81,7 +81,7 @@ returns-2 c =
     let at-if1 = at-clear .before in
     let at-refuses-walk = at-if1 .before in
     let start = at-refuses-walk .before .before .before .before .before .before .before .before .before .before .before in
-    λ aboves loaded S h ceiling q. accepted-W h ceiling _ _ _ _ _ _ (start .args .u) (start .args .v) q (sym (at-refuses-walk .refuses-walk .ensures) ∙ at-if1 .if1 .left) (at-walk .walk .ensures aboves loaded) (record { xs-same = at-clear .clear .ensures .0; ys-same = at-clear .clear .ensures .1; len-is = at-clear .clear .ensures .2 }) _ _ (c .before .before .wide .ensures ∙ at-narrow .narrow .ensures) (c .wide2 .ensures ∙ c .before .narrow2 .ensures)
+    λ aboves loaded S h ceiling qc qx. accepted-W h ceiling _ _ _ _ _ _ _ (start .args .u) (start .args .v) qc qx (sym (at-refuses-walk .refuses-walk .ensures) ∙ at-if1 .if1 .left) (at-walk .walk .ensures aboves loaded) (record { xs-same = at-clear .clear .ensures .0; ys-same = at-clear .clear .ensures .1; len-is = at-clear .clear .ensures .2 }) _ _ (c .before .before .wide .ensures ∙ at-narrow .narrow .ensures) (c .wide2 .ensures ∙ c .before .narrow2 .ensures)
 
 pub call-walk-spec : {M : Type 1} → statement M
 call-walk-spec =
