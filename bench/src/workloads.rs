@@ -17,10 +17,7 @@ fn catalogue(lots: usize, buyers: usize, marks: usize, sessions: usize) -> Catal
         sessions,
         slack: 100,
         lots: (0..lots)
-            .map(|place| Lot {
-                bales: random.between(1, 9),
-                session: place % sessions + 1,
-            })
+            .map(|place| Lot::free(random.between(1, 9), place % sessions + 1))
             .collect(),
         buyers: (0..buyers)
             .map(|_| Buyer {

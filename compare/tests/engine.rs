@@ -124,10 +124,7 @@ fn long_list(seed: u64, lots: usize, buyers: usize, marks: usize, count: usize) 
         buyers: Vec::new(),
     };
     for number in 0..lots {
-        catalogue.lots.push(Lot {
-            bales: 10,
-            session: number % sessions + 1,
-        });
+        catalogue.lots.push(Lot::free(10, number % sessions + 1));
     }
     for _ in 0..buyers {
         catalogue.buyers.push(Buyer {

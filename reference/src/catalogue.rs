@@ -40,11 +40,23 @@ impl Default for Limits {
     }
 }
 
-/// A lot as loaded: its own bales and its session in the draft.
+/// A lot as loaded: its own bales, its session in the draft, and whether its grower keeps it there.
 #[derive(Clone, Debug, PartialEq, Eq)]
 pub struct Lot {
     pub bales: u64,
     pub session: usize,
+    pub kept: bool,
+}
+
+impl Lot {
+    /// A lot that is not kept.
+    pub fn free(bales: u64, session: usize) -> Self {
+        Lot {
+            bales,
+            session,
+            kept: false,
+        }
+    }
 }
 
 /// A buyer as loaded: its weight and its marks in the file's order.

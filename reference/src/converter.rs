@@ -175,9 +175,11 @@ fn catalogue_of(input: &Input) -> Catalogue {
         sessions: input.sessions as usize,
         slack: input.slack,
         lots: (1..=input.vertices)
-            .map(|vertex| Lot {
-                bales: input.vertex_weight(vertex),
-                session: input.block(vertex) as usize + 1,
+            .map(|vertex| {
+                Lot::free(
+                    input.vertex_weight(vertex),
+                    input.block(vertex) as usize + 1,
+                )
             })
             .collect(),
         buyers: input

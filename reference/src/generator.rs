@@ -99,10 +99,12 @@ pub enum Kind {
     Lopsided,
     /// Lots and sessions around the superfine desk's limits, 256 and 8.
     Superfine,
+    /// Some lots kept, few or all of them.
+    Kept,
 }
 
 /// All kinds with the names that the program takes.
-pub const KINDS: [(&str, Kind); 22] = [
+pub const KINDS: [(&str, Kind); 23] = [
     ("mixed", Kind::Mixed),
     ("one-lot", Kind::OneLot),
     ("no-buyers", Kind::NoBuyers),
@@ -125,6 +127,7 @@ pub const KINDS: [(&str, Kind); 22] = [
     ("half-caps", Kind::HalfCaps),
     ("lopsided", Kind::Lopsided),
     ("superfine", Kind::Superfine),
+    ("kept", Kind::Kept),
 ];
 
 /// An accepted sale of a kind that the seed settles; mostly a small one.
@@ -141,7 +144,13 @@ pub fn sale(seed: u64) -> Vec<u8> {
         Kind::Superfine => random.in_hundred(20),
         _ => true,
     };
-    sale_of_kind(seed, if stands { kind } else { Kind::Mixed })
+    let kind = if stands { kind } else { Kind::Mixed };
+    let mut catalogue = catalogue_of_kind(seed, kind);
+    if random.in_hundred(25) {
+        keep_some(&mut random, &mut catalogue);
+    }
+    let calls = calls_of_kind(&mut random, &catalogue, kind);
+    write_sale(&Sale { catalogue, calls })
 }
 
 /// An accepted sale of the given kind.
@@ -179,7 +188,8 @@ pub fn write_sale(sale: &Sale) -> Vec<u8> {
         catalogue.slack
     );
     for lot in &catalogue.lots {
-        text.push_str(&format!("LOT,{},{}\n", lot.bales, lot.session));
+        let kept = if lot.kept { ",K" } else { "" };
+        text.push_str(&format!("LOT,{},{}{kept}\n", lot.bales, lot.session));
     }
     for buyer in &catalogue.buyers {
         text.push_str(&format!("BUY,{}", buyer.weight));
@@ -224,9 +234,9 @@ fn catalogue(random: &mut Random, kind: Kind) -> Catalogue {
 
     let widest = *random.pick(&[1, 1, 3, 10, 50, 65_535]);
     let mut lots: Vec<Lot> = (0..lot_count)
-        .map(|_| Lot {
-            bales: random.between(1, widest),
-            session: random.between(1, sessions as u64) as usize,
+        .map(|_| {
+            let bales = random.between(1, widest);
+            Lot::free(bales, random.between(1, sessions as u64) as usize)
         })
         .collect();
     if kind == Kind::Tight {
@@ -251,7 +261,20 @@ fn catalogue(random: &mut Random, kind: Kind) -> Catalogue {
         fill_first_session(random, &mut made);
     }
     settle_draft(&mut made);
+    if kind == Kind::Kept {
+        keep_some(random, &mut made);
+    }
     made
+}
+
+/// Some lots kept, one at least: few, many or all of them.
+fn keep_some(random: &mut Random, made: &mut Catalogue) {
+    let chances = *random.pick(&[30, 10, 30, 60, 100]);
+    for lot in &mut made.lots {
+        lot.kept = random.in_hundred(chances);
+    }
+    let one = random.between(0, made.lots.len() as u64 - 1) as usize;
+    made.lots[one].kept = true;
 }
 
 /// Few bales to a lot and an odd even share, so that slack 500 gives an exact half.
@@ -303,10 +326,7 @@ pub(crate) fn settle_draft(made: &mut Catalogue) {
         // Lots of one bale in turn never exceed the cap, whatever the slack.
         let sessions = made.sessions;
         for (place, lot) in made.lots.iter_mut().enumerate() {
-            *lot = Lot {
-                bales: 1,
-                session: place % sessions + 1,
-            };
+            *lot = Lot::free(1, place % sessions + 1);
         }
     }
 }
@@ -414,6 +434,7 @@ fn calls_of_kind(random: &mut Random, catalogue: &Catalogue, kind: Kind) -> Vec<
         }
         Kind::Walks => steered_calls(random, catalogue, 14, &[14, 10, 26, 16, 28, 2, 0, 4]),
         Kind::Superfine => steered_calls(random, catalogue, 8, &[28, 15, 25, 10, 15, 5, 2, 0]),
+        Kind::Kept => steered_calls(random, catalogue, 16, &[22, 14, 24, 4, 16, 6, 10, 4]),
         Kind::Lopsided => steered_calls(random, catalogue, 10, &[20, 10, 20, 10, 35, 0, 5, 0]),
         Kind::Rounds => {
             let mut calls = steered_calls(random, catalogue, 4, &[0, 0, 50, 10, 20, 20, 0, 0]);
@@ -581,6 +602,7 @@ pub fn damaged(seed: u64) -> Vec<u8> {
             Kind::Overlapping,
             Kind::BadCalls,
             Kind::NoBuyers,
+            Kind::Kept,
         ])
     };
     let mut file = sale_of_kind(random.bits(), kind);
@@ -596,13 +618,13 @@ fn damage(random: &mut Random, mut file: Vec<u8>) -> Vec<u8> {
     }
     let length = file.len() as u64;
     let place = random.between(0, length - 1) as usize;
-    match random.between(0, 29) {
+    match random.between(0, 31) {
         0 => {
             file[place] = random.bits() as u8;
             file
         }
         1 => {
-            file[place] = *random.pick(b"0123456789,,\n\r JSMBWPALOTUYE");
+            file[place] = *random.pick(b"0123456789,,\n\r JSMBWPALOTUYEK");
             file
         }
         2 => {
@@ -680,6 +702,10 @@ fn damage(random: &mut Random, mut file: Vec<u8>) -> Vec<u8> {
             file.resize(random.between(59_990, 60_010) as usize, b'\n');
             file
         }
+        23..=24 => change_lines(random, &file, |random, lines| {
+            let place = random.between(0, lines.len() as u64 - 1) as usize;
+            lines[place] = change_end(random, &lines[place]);
+        }),
         _ => change_lines(random, &file, |random, lines| {
             let place = random.between(0, lines.len() as u64 - 1) as usize;
             lines[place] = change_number(random, &lines[place]);
@@ -739,6 +765,19 @@ fn change_number(random: &mut Random, line: &[u8]) -> Vec<u8> {
     changed
 }
 
+/// Adds to the end of a line what a kept lot's line has there, or something near it.
+fn change_end(random: &mut Random, line: &[u8]) -> Vec<u8> {
+    let ends: [&[u8]; 10] = [
+        b",K", b",K", b",K", b",k", b",K,", b",KK", b",K,K", b",1", b",1,K", b"K",
+    ];
+    let text = line.strip_suffix(b"\n").unwrap_or(line);
+    let mut changed = [text, *random.pick(&ends)].concat();
+    if line.ends_with(b"\n") {
+        changed.push(b'\n');
+    }
+    changed
+}
+
 /// Replaces one field of a line, or adds or removes one.
 fn change_field(random: &mut Random, line: &[u8]) -> Vec<u8> {
     let ended = line.ends_with(b"\n");
@@ -748,7 +787,7 @@ fn change_field(random: &mut Random, line: &[u8]) -> Vec<u8> {
         .map(<[u8]>::to_vec)
         .collect();
     let place = random.between(0, fields.len() as u64 - 1) as usize;
-    let texts: [&[u8]; 18] = [
+    let texts: [&[u8]; 20] = [
         b"",
         b"0",
         b"00",
@@ -767,6 +806,8 @@ fn change_field(random: &mut Random, line: &[u8]) -> Vec<u8> {
         b"4294967297",
         b"18446744073709551617",
         b"\xff",
+        b"K",
+        b"k",
     ];
     match random.between(0, 7) {
         0 => {

@@ -75,10 +75,7 @@ fn random_sizes(random: &mut Random, lots: (u64, u64), buyers: (u64, u64)) -> Ca
         sessions,
         slack: random.between(0, 1_000),
         lots: (0..lot_count)
-            .map(|place| Lot {
-                bales: 1,
-                session: place % sessions + 1,
-            })
+            .map(|place| Lot::free(1, place % sessions + 1))
             .collect(),
         buyers: (0..buyer_count)
             .map(|_| {
@@ -114,10 +111,7 @@ fn output_near_60_000_bytes(random: &mut Random) -> Vec<u8> {
         sessions: 16,
         slack: 1_000,
         lots: (0..1_024)
-            .map(|place| Lot {
-                bales: 65_535,
-                session: place % 16 + 1,
-            })
+            .map(|place| Lot::free(65_535, place % 16 + 1))
             .collect(),
         // Only lots of four digits are marked: eight of 1,000 to 1,024.
         buyers: (0..1_024)

@@ -1,4 +1,4 @@
-//! The plain machine: its state, the effect of each call and the refusals 9 to 16.
+//! The plain machine: its state, the effect of each call and its refusals, 9 to 16 and 20.
 //! Rests on `measure` for every number it answers and on `search` for W, P and A.
 
 use crate::catalogue::{Call, Catalogue};
@@ -21,6 +21,8 @@ pub const OVER_THE_CAP: u32 = 14;
 pub const NOTHING_TO_UNDO: u32 = 15;
 /// A while a join stands.
 pub const JOINS_STANDING: u32 = 16;
+/// M on a kept lot.
+pub const KEPT_LOT: u32 = 20;
 
 /// What an accepted call answers.
 #[derive(Clone, Copy, Debug, PartialEq, Eq)]
@@ -170,6 +172,9 @@ impl<'a> Machine<'a> {
             return Err(ALREADY_THERE);
         }
         let standing = self.standing();
+        if standing.kept(u) {
+            return Err(KEPT_LOT);
+        }
         let view = View::of(&standing, &self.sessions);
         if !view.space(u, t) {
             return Err(OVER_THE_CAP);

@@ -1,4 +1,4 @@
-//! Cap, stand, present mark sets, bales, counts, total and gain, each worked out afresh.
+//! Cap, stand, kept lots, present mark sets, bales, counts, total and gain, each worked out afresh.
 //! Rests on the loaded catalogue, the stack of joins and the session of each board lot.
 
 use crate::catalogue::Catalogue;
@@ -42,6 +42,7 @@ pub struct Standing<'a> {
     above: Vec<usize>,
     stand: Vec<usize>,
     bales: Vec<u64>,
+    kept: Vec<bool>,
     present: Vec<Vec<usize>>,
     buyers: Vec<Vec<usize>>,
 }
@@ -58,13 +59,16 @@ impl<'a> Standing<'a> {
 
         let mut stand = vec![0; places];
         let mut bales = vec![0; places];
+        let mut kept = vec![false; places];
         for lot in catalogue.lot_numbers() {
-            let loaded = catalogue.lot(lot).bales;
+            let loaded = catalogue.lot(lot);
             let mut reached = lot;
-            bales[reached] += loaded;
+            bales[reached] += loaded.bales;
+            kept[reached] |= loaded.kept;
             while above[reached] != 0 {
                 reached = above[reached];
-                bales[reached] += loaded;
+                bales[reached] += loaded.bales;
+                kept[reached] |= loaded.kept;
             }
             stand[lot] = reached;
         }
@@ -87,6 +91,7 @@ impl<'a> Standing<'a> {
             above,
             stand,
             bales,
+            kept,
             present,
             buyers,
         }
@@ -106,6 +111,11 @@ impl<'a> Standing<'a> {
     /// bales it had when joined, as nothing below it changes until it returns.
     pub fn bales(&self, lot: usize) -> u64 {
         self.bales[lot]
+    }
+
+    /// Whether this board lot is kept, as it is while any lot that it stands for is.
+    pub fn kept(&self, lot: usize) -> bool {
+        self.kept[lot]
     }
 
     /// A buyer's present mark set, in rising order.

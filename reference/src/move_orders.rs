@@ -82,7 +82,7 @@ fn accepted_moves(machine: &Machine) -> Vec<Call> {
     let standing = machine.standing();
     let view = View::of(&standing, &machine.sessions);
     let mut found = Vec::new();
-    for u in standing.board() {
+    for u in standing.board().into_iter().filter(|&u| !standing.kept(u)) {
         for t in machine.catalogue.session_numbers() {
             if t != machine.sessions[u] && view.space(u, t) {
                 found.push(Call::M {

@@ -68,12 +68,23 @@ impl<'a> Lines<'a> {
         name: &[u8],
         fits: impl Fn(usize) -> bool,
     ) -> Result<(usize, Vec<u64>), Refusal> {
+        let line = self.due_line()?;
+        let numbers = fitting_numbers(&line, name, fits)?;
+        Ok((line.number, numbers))
+    }
+
+    /// The numbers on the next line, which must be a lot's, and whether the lot is kept: the line
+    /// may then end in `,K`. Refused with 2 as other catalogue lines are.
+    fn lot_line(&mut self) -> Result<(usize, Vec<u64>, bool), Refusal> {
+        let (line, kept) = without_kept_mark(&self.due_line()?);
+        let numbers = fitting_numbers(&line, b"LOT", |count| count == 2)?;
+        Ok((line.number, numbers, kept))
+    }
+
+    /// The next line, which must be there.
+    fn due_line(&mut self) -> Result<Line<'a>, Refusal> {
         let missing = self.read + 1;
-        let line = self.next().ok_or(badly_written(missing))?;
-        match numbers_after(&line, name) {
-            Some(numbers) if fits(numbers.len()) => Ok((line.number, numbers)),
-            _ => Err(badly_written(line.number)),
-        }
+        self.next().ok_or(badly_written(missing))
     }
 }
 
@@ -98,6 +109,17 @@ pub(crate) fn number(field: &[u8]) -> Option<u64> {
     )
 }
 
+/// The numbers of a line `name,number,...` if their number `fits`; refused with 2 otherwise.
+fn fitting_numbers(
+    line: &Line,
+    name: &[u8],
+    fits: impl Fn(usize) -> bool,
+) -> Result<Vec<u64>, Refusal> {
+    numbers_after(line, name)
+        .filter(|numbers| fits(numbers.len()))
+        .ok_or(badly_written(line.number))
+}
+
 /// The numbers of a line `name,number,...`, or nothing if the line has another form or lacks
 /// its line feed.
 fn numbers_after(line: &Line, name: &[u8]) -> Option<Vec<u64>> {
@@ -114,6 +136,16 @@ pub(crate) fn numbers_after_name(text: &[u8], name: &[u8]) -> Option<Vec<u64>> {
         return None;
     }
     fields.map(number).collect()
+}
+
+/// A line without the `,K` that it may end in, and whether it does.
+fn without_kept_mark<'a>(line: &Line<'a>) -> (Line<'a>, bool) {
+    let marked = line.text.strip_suffix(b",K");
+    let unmarked = Line {
+        text: marked.unwrap_or(line.text),
+        ..*line
+    };
+    (unmarked, marked.is_some())
 }
 
 /// The call of a call line, or nothing if the form is wrong.
@@ -185,10 +217,14 @@ fn read_catalogue(lines: &mut Lines, limits: &Limits) -> Result<Catalogue, Refus
 
     let mut lots = Vec::new();
     for _ in 0..lot_count {
-        let (line, fields) = lines.catalogue_line(b"LOT", |count| count == 2)?;
+        let (line, fields, kept) = lines.lot_line()?;
         let bales = in_range(line, fields[0], 1, MAX_BALES)?;
         let session = in_range(line, fields[1], 1, session_count)? as usize;
-        lots.push(Lot { bales, session });
+        lots.push(Lot {
+            bales,
+            session,
+            kept,
+        });
     }
 
     let mut buyers = Vec::new();

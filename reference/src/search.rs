@@ -52,7 +52,7 @@ fn kept_prefix(prefixes: &[(u64, u64)]) -> usize {
         .expect("the best prefix is one of them")
 }
 
-/// A walk from the board lots u and v.
+/// A walk from the board lots u and v. A kept lot may be a candidate, but no pair of it is open.
 pub fn walk(machine: &mut Machine, u: usize, v: usize) -> Walk {
     let standing = machine.standing();
     let mut view = View::of(&standing, &machine.sessions);
@@ -61,12 +61,13 @@ pub fn walk(machine: &mut Machine, u: usize, v: usize) -> Walk {
     let mut prefixes = vec![(view.total(), view.heaviest_session())];
 
     while moves.len() - kept_prefix(&prefixes) < PATIENCE {
-        let unmoved: Vec<usize> = candidates
+        let movable: Vec<usize> = candidates
             .iter()
             .copied()
+            .filter(|&lot| !standing.kept(lot))
             .filter(|&lot| moves.iter().all(|&(moved, _)| moved != lot))
             .collect();
-        let Some(pair) = best_pair(machine, &view, &unmoved) else {
+        let Some(pair) = best_pair(machine, &view, &movable) else {
             break;
         };
         moves.push((pair.lot, machine.sessions[pair.lot]));
@@ -88,15 +89,16 @@ pub fn walk(machine: &mut Machine, u: usize, v: usize) -> Walk {
     }
 }
 
-/// The moves of P: the best pair over all board lots while its gain is at least 1.
+/// The moves of P: the best pair over all board lots not kept while its gain is at least 1.
 /// Answers their number.
 pub fn improve(machine: &mut Machine) -> u64 {
     let standing = machine.standing();
-    let board = standing.board();
+    let mut movable = standing.board();
+    movable.retain(|&lot| !standing.kept(lot));
     let mut moves = 0;
     loop {
         let view = View::of(&standing, &machine.sessions);
-        match best_pair(machine, &view, &board) {
+        match best_pair(machine, &view, &movable) {
             Some(pair) if pair.gain >= 1 => {
                 machine.sessions[pair.lot] = pair.session;
                 moves += 1;
@@ -106,7 +108,7 @@ pub fn improve(machine: &mut Machine) -> u64 {
     }
 }
 
-/// The joins of A: the best pair while more than 2 × k lots are on the board.
+/// The joins of A: the best pair while more than 2 × k lots, kept ones too, are on the board.
 /// Answers their number.
 pub fn join_down(machine: &mut Machine) -> u64 {
     let mut joins = 0;
@@ -122,17 +124,19 @@ pub fn join_down(machine: &mut Machine) -> u64 {
     joins
 }
 
-/// Among pairs u < v on the board in one session, sharing a mark set, with bales together at
-/// most ⌈W/k⌉: the one of highest rating, then lowest u, then lowest v.
+/// Among pairs u < v on the board in one session, neither kept, sharing a mark set, with bales
+/// together at most ⌈W/k⌉: the one of highest rating, then lowest u, then lowest v.
 fn best_join(machine: &Machine) -> Option<(usize, usize)> {
     let standing = machine.standing();
     let most_bales = fair_share(machine.catalogue);
     let mut best: Option<(u64, usize, usize)> = None;
     for u in standing.board() {
         for (v, rating) in ratings(machine.catalogue, &standing, u) {
+            let free = !standing.kept(u) && !standing.kept(v);
             let one_session = machine.sessions[u] == machine.sessions[v];
             let light = standing.bales(u) + standing.bales(v) <= most_bales;
-            if one_session && light && best.is_none_or(|(highest, _, _)| rating > highest) {
+            let may_join = free && one_session && light;
+            if may_join && best.is_none_or(|(highest, _, _)| rating > highest) {
                 best = Some((rating, u, v));
             }
         }

@@ -6,12 +6,14 @@ use std::collections::BTreeSet;
 use crate::machine::Machine;
 use crate::measure::View;
 
-/// A lot's record. Off the board the session is 0; on the board the lot above is 0.
+/// A lot's record. Off the board the session is 0; on the board the lot above is 0; `kept` is 1 for
+/// a lot whose own line ends in `,K`, else 0, whatever is joined.
 #[derive(Clone, Copy, Debug, PartialEq, Eq)]
 pub struct LotRecord {
     pub bales: u64,
     pub session: usize,
     pub above: usize,
+    pub kept: usize,
 }
 
 /// A buyer's record: its first place in both mark tables (from 0) and the two lengths.
@@ -54,6 +56,7 @@ impl Tables {
                 bales: standing.bales(lot),
                 session: machine.sessions[lot],
                 above: standing.above(lot),
+                kept: usize::from(catalogue.lot(lot).kept),
             })
             .collect();
 

@@ -67,9 +67,11 @@ fn walks_of_lopsided_sales_keep_lighter_prefixes_of_equal_total() {
 #[test]
 fn damaged_files_are_refused_on_a_line_there_is_or_the_next() {
     let mut numbers = BTreeSet::new();
+    let mut kept = 0;
     for seed in 0..2_000 {
         let file = damaged(seed);
         let lines = file.split_inclusive(|&byte| byte == b'\n').count();
+        kept += usize::from(parse(&file).is_ok_and(|sale| has_kept_lot(&sale.catalogue)));
         if let Err(refusal) = parse(&file) {
             assert!((1..=7).contains(&refusal.number), "{seed}");
             assert_eq!(refusal.line == 0, refusal.number == 1, "{seed}");
@@ -86,9 +88,35 @@ fn damaged_files_are_refused_on_a_line_there_is_or_the_next() {
     for number in [1, 2, 3, 4, 6, 7] {
         assert!(numbers.contains(&number), "no damaged file gave {number}");
     }
+    assert!(kept > 10, "{kept}");
 }
 
-/// No session above the cap, lots off the board as the rule has it, sets and counts in step.
+#[test]
+fn kept_lots_of_generated_sales_change_reports_and_are_refused_to_m() {
+    let (mut kept, mut other_report, mut refused) = (0, 0, 0);
+    for seed in 0..400 {
+        let sale = parse(&sale(seed)).expect("a generated sale is accepted");
+        if !has_kept_lot(&sale.catalogue) {
+            continue;
+        }
+        let report = run_calls(&sale.catalogue, &sale.calls).report;
+        let mut free = sale.catalogue.clone();
+        free.lots.iter_mut().for_each(|lot| lot.kept = false);
+        kept += 1;
+        other_report += usize::from(run_calls(&free, &sale.calls).report != report);
+        refused += usize::from(report.windows(6).any(|text| text == b"NO,20\n"));
+    }
+    assert!(kept > 80, "{kept}");
+    assert!(other_report > 50, "{other_report}");
+    assert!(refused > 40, "{refused}");
+}
+
+fn has_kept_lot(catalogue: &Catalogue) -> bool {
+    catalogue.lots.iter().any(|lot| lot.kept)
+}
+
+/// No session above the cap, lots off the board as the rule has it, kept lots where the draft has
+/// them, sets and counts in step.
 fn check_state(machine: &Machine) {
     let catalogue = machine.catalogue;
     let standing = machine.standing();
@@ -103,6 +131,11 @@ fn check_state(machine: &Machine) {
         let joined = off_board.contains(&lot);
         assert_eq!(record.session == 0, joined);
         assert_eq!(record.above != 0, joined);
+        let loaded = catalogue.lot(lot);
+        assert_eq!(record.kept == 1, loaded.kept);
+        if loaded.kept {
+            assert_eq!(view.session(standing.stand(lot)), loaded.session);
+        }
         if joined {
             assert!(tables.gains[lot - 1].iter().all(|&gain| gain == 0));
         }
@@ -150,11 +183,15 @@ fn check_gains(machine: &Machine) {
     }
 }
 
-/// No single move with space lowers the total.
+/// No single move with space of a lot not kept lowers the total.
 fn check_no_move_left(machine: &Machine) {
     let standing = machine.standing();
     let view = View::of(&standing, &machine.sessions);
-    for lot in standing.board() {
+    for lot in standing
+        .board()
+        .into_iter()
+        .filter(|&lot| !standing.kept(lot))
+    {
         for session in machine.catalogue.session_numbers() {
             if session != machine.sessions[lot] && view.space(lot, session) {
                 let mut sessions = machine.sessions.clone();
@@ -174,7 +211,7 @@ fn check_calls(catalogue: &Catalogue, list: &[Call]) {
         let total = before.total();
         match machine.call(call) {
             Err(number) => {
-                assert!((9..=16).contains(&number));
+                assert!((9..=16).contains(&number) || number == 20);
                 assert_eq!(machine, before, "a refused call changes nothing");
             }
             Ok(answer) => {

@@ -85,6 +85,7 @@ fn tables_of_the_worked_sale_with_one_join() {
         bales,
         session,
         above,
+        kept: 0,
     };
     assert_eq!(
         tables.lots,
