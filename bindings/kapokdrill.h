@@ -51,6 +51,8 @@ typedef struct {
     uint16_t session;
     /* The lot that it was joined into; 0 on the board. */
     uint16_t above;
+    /* 1 for a lot whose line ends in `,K`, else 0; joins leave it alone. */
+    uint16_t kept;
 } kapokdrill_lot;
 
 /* Reads a sale file, runs its calls and writes the report.

@@ -18,14 +18,15 @@ pub const FINE_VERTICES: usize = 256;
 /// Entries of its table of gains.
 pub const FINE_ROWS: usize = 4_096;
 
-/// A lot's record: its bales, its session (0 off the board) and the lot that it was joined into (0
-/// on the board).
+/// A lot's record: its bales, its session (0 off the board), the lot that it was joined into (0 on
+/// the board) and whether its own line ends in `,K` (1, else 0).
 #[repr(C)]
 #[derive(Clone, Copy, Debug, PartialEq, Eq)]
 pub struct Lot {
     pub bales: u32,
     pub session: u16,
     pub above: u16,
+    pub kept: u16,
 }
 
 /// What the engine is lent beside the lots. A slice shorter than it must be gives 8.

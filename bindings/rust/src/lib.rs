@@ -46,6 +46,7 @@ impl Memory {
             bales: 0,
             session: 0,
             above: 0,
+            kept: 0,
         };
         let (vertices, gains) = match desk {
             Desk::Main => (VERTICES, ROWS),
@@ -93,11 +94,9 @@ impl Memory {
         let (lots, lent) = self.lent();
         let outcome = lent::run_list(file, list, columns, lent);
         for (i, lot) in lots.iter_mut().enumerate() {
-            *lot = Lot {
-                bales: weights[i],
-                session: blocks[i],
-                above: aboves[i],
-            };
+            lot.bales = weights[i];
+            lot.session = blocks[i];
+            lot.above = aboves[i];
         }
         let written = outcome.written;
         (outcome, &self.output[..written])

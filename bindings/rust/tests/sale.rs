@@ -77,11 +77,13 @@ fn a_file_turned_down_gives_its_number() {
 const ONE_JOIN: &[u8] = b"SALE,5,3,2,200\nLOT,10,1\nLOT,10,1\nLOT,10,2\nLOT,10,2\nLOT,10,1\n\
     BUY,3,1,3\nBUY,2,2,5\nBUY,1,3,4\nJ,2,5\n";
 
+/// The record of a lot that is not kept.
 const fn lot(bales: u32, session: u16, above: u16) -> Lot {
     Lot {
         bales,
         session,
         above,
+        kept: 0,
     }
 }
 
@@ -108,6 +110,18 @@ fn tables_of_the_worked_sale_with_one_join() {
     assert_eq!(memory.gains()[entry(1, 2)], 3);
     assert_eq!(memory.gains()[entry(4, 1)], -1);
     assert_eq!(memory.visited()[..3], [0b11, 0b01, 0b10]);
+}
+
+#[test]
+fn the_record_of_a_kept_lot_says_so() {
+    let mut memory = Memory::default();
+    let file = b"SALE,3,0,2,1000\nLOT,1,1\nLOT,2,1,K\nLOT,4,2,K\nJ,1,2\nM,1,2\n";
+    let (code, report) = memory.run(file);
+    assert_eq!(code, 0);
+    assert!(report.starts_with(b"J,3\nNO,20\n"));
+    let kept = |record: Lot| Lot { kept: 1, ..record };
+    let wanted = [lot(3, 1, 0), kept(lot(2, 0, 1)), kept(lot(4, 2, 0))];
+    assert_eq!(memory.lots()[..3], wanted);
 }
 
 #[test]
@@ -149,7 +163,11 @@ fn the_worked_sale_with_its_calls_apart() {
 
 #[test]
 fn records_past_the_sale_keep_what_they_held() {
-    let mut lots = vec![lot(7, 8, 9); VERTICES];
+    let unused = Lot {
+        kept: 10,
+        ..lot(7, 8, 9)
+    };
+    let mut lots = vec![unused; VERTICES];
     let outcome = lent::run(
         ONE_JOIN,
         &mut lots,
@@ -167,7 +185,7 @@ fn records_past_the_sale_keep_what_they_held() {
     );
     assert_eq!(outcome.code, 0);
     assert_eq!(lots[..5], WITH_ONE_JOIN);
-    assert!(lots[5..].iter().all(|&kept| kept == lot(7, 8, 9)));
+    assert!(lots[5..].iter().all(|&record| record == unused));
 }
 
 #[test]

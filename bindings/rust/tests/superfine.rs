@@ -62,6 +62,7 @@ impl Pieces {
             bales: 70_001,
             session: 70,
             above: 7_001,
+            kept: 71,
         };
         Pieces {
             lots: vec![lot; lengths[0]],
