@@ -48,6 +48,7 @@ impl Memory {
             bales: bits as u32,
             session: (bits >> 32) as u16,
             above: (bits >> 48) as u16,
+            kept: (bits >> 24) as u16,
         };
         Memory {
             lots: noise(random, lots, lot),
@@ -172,6 +173,7 @@ impl Memory {
                 bales: lot.bales as u32,
                 session: lot.session as u16,
                 above: lot.above as u16,
+                kept: lot.kept as u16,
             };
             for (j, &gain) in tables.gains[i].iter().enumerate() {
                 self.gains[entry(i + 1, j + 1)] = gain as i32;
@@ -329,12 +331,16 @@ pub fn compare_list(file: &[u8], list: &[u32], random: &mut Random) -> Result<u3
     let mut found = before.clone();
     let outcome = found.run_list(file, list);
 
-    let mut wanted = before;
+    let mut wanted = before.clone();
     let (code, text, total, joins, moves): Answered = match (calls_of(list), parse(file)) {
         (Err(code), _) => (code, Vec::new(), 0, Vec::new(), Vec::new()),
         (Ok(calls), Ok(sale)) => {
             let end = run_calls(&sale.catalogue, &calls);
             wanted.finish(&end.tables, &found)?;
+            // This entry is lent no table of who is kept, so the field is as it was.
+            for (lot, old) in wanted.lots.iter_mut().zip(&before.lots) {
+                lot.kept = old.kept;
+            }
             let mut lines = end.report.split_inclusive(|&byte| byte == b'\n');
             let answers = lines
                 .by_ref()
@@ -396,7 +402,7 @@ pub fn random_bytes(seed: u64) -> Vec<u8> {
             if any {
                 random.bits() as u8
             } else {
-                *random.pick(b"SALEOTBUYJMWP,,,,0123456789\n\n\n")
+                *random.pick(b"SALEOTBUYJMWPK,,,,0123456789\n\n\n")
             }
         })
         .collect()
