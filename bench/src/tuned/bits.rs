@@ -15,6 +15,13 @@ pub fn contains(bits: &Bits, number: usize) -> bool {
     bits[number / 64] >> (number % 64) & 1 == 1
 }
 
+/// Removes all numbers of another set.
+pub fn take_out(bits: &mut Bits, gone: &Bits) {
+    for (word, less) in bits.iter_mut().zip(gone) {
+        *word &= !less;
+    }
+}
+
 /// The numbers of a set, in rising order. It has a copy, so that the set may change meanwhile.
 pub struct Ones {
     bits: Bits,

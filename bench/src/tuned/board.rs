@@ -2,7 +2,7 @@
 //! in two halves: what a vertex frees by leaving its block, and what it draws in at each other
 //! one; gain(x, b) is `freed[x] - drawn[x][b]`. B is the width of rows by block, at least k.
 
-use super::bits::{contains, insert, ones, remove, Bits};
+use super::bits::{contains, insert, ones, remove, Bits, WORDS};
 use super::reading::Catalogue;
 
 /// The block of a vertex that is contracted into another.
@@ -24,6 +24,10 @@ pub struct Board<const B: usize> {
     pub block: [u8; 1024],
     /// The vertex that one off the board was contracted into.
     pub above: [u16; 1024],
+    /// How many vertices fixed by the file each vertex stands for.
+    pub fixed_counts: [u16; 1024],
+    /// The vertices on the board that stand for such a one, and so stay in their block.
+    pub fixed: Bits,
     /// The nets of each vertex, kept as they were for one off the board.
     pub incidence: [Bits; 1024],
     pub net_weights: [i32; 1024],
@@ -54,6 +58,8 @@ impl<const B: usize> Default for Board<B> {
             weights: [0; 1024],
             block: [0; 1024],
             above: [0; 1024],
+            fixed_counts: [0; 1024],
+            fixed: [0; WORDS],
             incidence: [[0; 16]; 1024],
             net_weights: [0; 1024],
             firsts: [0; 1025],
@@ -84,6 +90,11 @@ impl<const B: usize> Board<B> {
         self.weights[..n].copy_from_slice(&catalogue.weights[..n]);
         self.block[..n].copy_from_slice(&catalogue.draft[..n]);
         self.above[..n].fill(0);
+        self.fixed = catalogue.fixed;
+        self.fixed_counts[..n].fill(0);
+        for x in ones(&self.fixed) {
+            self.fixed_counts[x] = 1;
+        }
         self.net_weights[..m].copy_from_slice(&catalogue.net_weights[..m]);
         self.firsts[..=m].copy_from_slice(&catalogue.firsts[..=m]);
         self.pins[..filled].copy_from_slice(&catalogue.pins[..filled]);
@@ -229,6 +240,11 @@ impl<const B: usize> Board<B> {
             *word |= more;
         }
         self.weights[u] += self.weights[v];
+        if self.fixed_counts[v] > 0 {
+            self.fixed_counts[u] += self.fixed_counts[v];
+            insert(&mut self.fixed, u);
+            remove(&mut self.fixed, v);
+        }
         self.block[v] = OFF_BOARD;
         self.above[v] = u as u16;
         self.contractions.push((u as u16, v as u16));
@@ -241,6 +257,13 @@ impl<const B: usize> Board<B> {
         let b = self.block[u] as usize;
         self.block[v] = b as u8;
         self.weights[u] -= self.weights[v];
+        if self.fixed_counts[v] > 0 {
+            self.fixed_counts[u] -= self.fixed_counts[v];
+            insert(&mut self.fixed, v);
+            if self.fixed_counts[u] == 0 {
+                remove(&mut self.fixed, u);
+            }
+        }
         self.shut(v);
         for e in ones(&self.incidence[v]) {
             let cost = self.net_weights[e];

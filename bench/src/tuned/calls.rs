@@ -1,5 +1,6 @@
 //! The calls with their refusals and answers, and the closing report.
 
+use super::bits::contains;
 use super::board::Board;
 use super::contracting::Ratings;
 use super::reading::{Call, Catalogue};
@@ -77,6 +78,7 @@ fn answer<const B: usize>(
             let (u, t) = (known(u, n)?, known(t, board.blocks)?);
             unless(!board.on_board(u), 10)?;
             unless(board.block[u] as usize == t, 12)?;
+            unless(contains(&board.fixed, u), 20)?;
             unless(board.loads[t] + board.weights[u] > board.capacity, 14)?;
             let (freed, drawn) = (board.freed[u] as u32, board.drawn[u][t] as u32);
             board.journal.push((u as u16, board.block[u]));

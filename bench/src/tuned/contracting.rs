@@ -141,11 +141,12 @@ impl Ratings {
 }
 
 impl<const B: usize> Board<B> {
-    /// Whether both are on the board, in one block, and not too heavy together.
+    /// Whether both are on the board, in one block, not fixed, and not too heavy together.
     fn may_contract(&self, u: usize, v: usize) -> bool {
         self.block[u] == self.block[v]
             && self.on_board(v)
             && self.weights[u] + self.weights[v] <= self.average
+            && self.fixed_counts[u] + self.fixed_counts[v] == 0
     }
 
     /// Contracts the best pair while more than 2 × k vertices are on the board; how many.

@@ -1,5 +1,7 @@
 //! A sale file read in one pass into flat tables, or its first refusal of 1 to 7.
 
+use super::bits::{insert, Bits, WORDS};
+
 /// The number and the line of a file turned down.
 #[derive(Clone, Copy)]
 pub struct Refusal {
@@ -29,6 +31,8 @@ pub struct Catalogue {
     pub capacity: u32,
     pub weights: Box<[u32; 1024]>,
     pub draft: Box<[u8; 1024]>,
+    /// The vertices that stay in their block.
+    pub fixed: Bits,
     pub net_weights: Box<[i32; 1024]>,
     /// Where a net's pins begin; the entry after the last net is their end.
     pub firsts: Box<[u16; 1025]>,
@@ -50,6 +54,7 @@ impl Default for Catalogue {
             capacity: 0,
             weights: Box::new([0; 1024]),
             draft: Box::new([0; 1024]),
+            fixed: [0; WORDS],
             net_weights: Box::new([0; 1024]),
             firsts: Box::new([0; 1025]),
             pins: Box::new([0; 8192]),
@@ -77,10 +82,24 @@ impl Lines<'_> {
     ) -> Result<(), Refusal> {
         self.line += 1;
         fields.clear();
-        match numbers(self.rest, name, fields) {
-            Some(end) if fits(fields.len()) => {
+        match numbers::<false>(self.rest, name, fields) {
+            Some((end, _)) if fits(fields.len()) => {
                 self.rest = &self.rest[end..];
                 Ok(())
+            }
+            _ => Err(self.refused(2)),
+        }
+    }
+
+    /// Reads the numbers of a vertex's line, which may end in `,K`: whether it does.
+    #[inline(always)]
+    fn next_vertex(&mut self, fields: &mut Vec<u32>) -> Result<bool, Refusal> {
+        self.line += 1;
+        fields.clear();
+        match numbers::<true>(self.rest, b"LOT", fields) {
+            Some((end, fixed)) if fields.len() == 2 => {
+                self.rest = &self.rest[end..];
+                Ok(fixed)
             }
             _ => Err(self.refused(2)),
         }
@@ -102,16 +121,21 @@ impl Lines<'_> {
     }
 }
 
-/// The place after the line feed of a well-formed line.
+/// The place after the line feed of a well-formed line, and whether the line ends in `,K`, which
+/// only FIXED lines may.
 #[inline(always)]
-fn numbers(rest: &[u8], name: &[u8], fields: &mut Vec<u32>) -> Option<usize> {
+fn numbers<const FIXED: bool>(
+    rest: &[u8],
+    name: &[u8],
+    fields: &mut Vec<u32>,
+) -> Option<(usize, bool)> {
     if !rest.starts_with(name) {
         return None;
     }
     let mut at = name.len();
     loop {
         match rest.get(at)? {
-            b'\n' => return Some(at + 1),
+            b'\n' => return Some((at + 1, false)),
             b',' => {
                 let start = at + 1;
                 at = start;
@@ -126,6 +150,9 @@ fn numbers(rest: &[u8], name: &[u8], fields: &mut Vec<u32>) -> Option<usize> {
                     at += 1;
                 }
                 let digits = at - start;
+                if FIXED && digits == 0 && rest[start..].starts_with(b"K\n") {
+                    return Some((start + 2, true));
+                }
                 if digits == 0 || digits > 9 || (digits > 1 && rest[start] == b'0') {
                     return None;
                 }
@@ -169,8 +196,11 @@ impl Catalogue {
 
     fn read_vertices(&mut self, lines: &mut Lines, slack: u32) -> Result<(), Refusal> {
         let mut all = 0;
+        self.fixed = [0; WORDS];
         for x in 0..self.vertices {
-            lines.next(b"LOT", &mut self.fields, |count| count == 2)?;
+            if lines.next_vertex(&mut self.fields)? {
+                insert(&mut self.fixed, x);
+            }
             self.weights[x] = lines.in_range(self.fields[0], 1, 65_535)?;
             self.draft[x] = lines.in_range(self.fields[1], 1, self.blocks as u32)? as u8 - 1;
             all += self.weights[x];

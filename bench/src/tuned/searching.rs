@@ -1,7 +1,7 @@
 //! The searches: a walk from two vertices, and a polish over the board. Each move is chosen by a
 //! search of all open pairs, a vertex's row at a time.
 
-use super::bits::{insert, ones, Bits, WORDS};
+use super::bits::{insert, ones, take_out, Bits, WORDS};
 use super::board::Board;
 
 /// A walk stops this many moves after the prefix that it would keep.
@@ -67,7 +67,9 @@ impl<const B: usize> Board<B> {
         let mut candidates: Bits = [0; WORDS];
         insert(&mut candidates, u);
         insert(&mut candidates, v);
-        let mut moved: Bits = [0; WORDS];
+        // Fixed vertices count as moved from the start.
+        let mut moved = self.fixed;
+        take_out(&mut candidates, &moved);
         // Nets whose pins are candidates already.
         let mut spread: Bits = [0; WORDS];
         // Moved vertices with their old blocks; each moves once.
@@ -92,9 +94,7 @@ impl<const B: usize> Board<B> {
                     insert(&mut candidates, pin as usize);
                 }
             }
-            for (word, gone) in candidates.iter_mut().zip(&moved) {
-                *word &= !gone;
-            }
+            take_out(&mut candidates, &moved);
             if self.total <= lowest.0 {
                 let reached = (self.total, self.heaviest());
                 if reached < lowest {
@@ -111,7 +111,7 @@ impl<const B: usize> Board<B> {
         }
     }
 
-    /// The best move over the board while its gain is at least 1; how many were made.
+    /// The best move of a vertex that is not fixed while its gain is at least 1; how many were made.
     pub fn polish(&mut self) -> u32 {
         let mut board: Bits = [0; WORDS];
         for x in 0..self.vertices {
@@ -119,6 +119,7 @@ impl<const B: usize> Board<B> {
                 insert(&mut board, x);
             }
         }
+        take_out(&mut board, &self.fixed);
         let mut moves = 0;
         while let Some(pair) = self.best_pair(&board) {
             if pair.gain < 1 {
