@@ -119,15 +119,16 @@ typedef struct {
 /* Reads a sale file and runs a list of calls on its catalogue: three numbers for each call, the
  * letter's byte and two numbers, which are not looked at where the call has none. Calls that the
  * file holds are read and do not run. The list need not fit into a file with the catalogue. The
- * fields of the lots' records are three tables here. */
+ * fields of the lots' records are four tables here. */
 kapokdrill_list_result kapokdrill_list(
     const uint8_t *file, size_t file_length,
     const uint32_t *list, size_t list_length,
     uint8_t *output, size_t output_length,
-    /* bales, sessions and lots above */
+    /* bales, sessions, lots above and who is kept */
     uint32_t *weights, size_t weights_length,
     uint16_t *blocks, size_t blocks_length,
     uint16_t *aboves, size_t aboves_length,
+    uint16_t *fixed, size_t fixed_length,
     uint16_t *loadedpins, size_t loadedpins_length,
     uint16_t *presentpins, size_t presentpins_length,
     uint16_t *firsts, size_t firsts_length,

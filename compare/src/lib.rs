@@ -93,21 +93,23 @@ impl Memory {
 
     /// Runs a list of calls on the catalogue of a file, on this memory.
     pub fn run_list(&mut self, file: &[u8], list: &[u32]) -> ListOutcome {
-        let entries = [self.lots.len(); 3];
+        let entries = [self.lots.len(); 4];
         self.run_list_with(file, list, entries)
     }
 
-    /// The same, with so many entries in the tables of bales, sessions and lots above: they begin as
-    /// the records' fields, and what they hold at the end is put back.
-    pub fn run_list_with(&mut self, file: &[u8], list: &[u32], entries: [usize; 3]) -> ListOutcome {
+    /// The same, with so many entries in the tables of bales, sessions, lots above and who is kept:
+    /// they begin as the records' fields, and what they hold at the end is put back.
+    pub fn run_list_with(&mut self, file: &[u8], list: &[u32], entries: [usize; 4]) -> ListOutcome {
         let of = |n: usize| self.lots.iter().take(n);
         let mut weights: Vec<u32> = of(entries[0]).map(|lot| lot.bales).collect();
         let mut blocks: Vec<u16> = of(entries[1]).map(|lot| lot.session).collect();
         let mut aboves: Vec<u16> = of(entries[2]).map(|lot| lot.above).collect();
+        let mut fixed: Vec<u16> = of(entries[3]).map(|lot| lot.kept).collect();
         let columns = Columns {
             weights: &mut weights,
             blocks: &mut blocks,
             aboves: &mut aboves,
+            fixed: &mut fixed,
         };
         let (lots, lent) = self.lent();
         let outcome = lent::run_list(file, list, columns, lent);
@@ -119,6 +121,9 @@ impl Memory {
         }
         for (lot, &above) in lots.iter_mut().zip(&aboves) {
             lot.above = above;
+        }
+        for (lot, &kept) in lots.iter_mut().zip(&fixed) {
+            lot.kept = kept;
         }
         outcome
     }
@@ -337,10 +342,6 @@ pub fn compare_list(file: &[u8], list: &[u32], random: &mut Random) -> Result<u3
         (Ok(calls), Ok(sale)) => {
             let end = run_calls(&sale.catalogue, &calls);
             wanted.finish(&end.tables, &found)?;
-            // This entry is lent no table of who is kept, so the field is as it was.
-            for (lot, old) in wanted.lots.iter_mut().zip(&before.lots) {
-                lot.kept = old.kept;
-            }
             let mut lines = end.report.split_inclusive(|&byte| byte == b'\n');
             let answers = lines
                 .by_ref()

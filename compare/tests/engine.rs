@@ -255,11 +255,11 @@ fn short_memory_is_told_first_and_nothing_is_touched() {
             assert_eq!(memory.run(accepted), told, "the main entry asks for more");
         }
     }
-    for column in 0..3 {
+    for column in 0..4 {
         for short in [VERTICES - 1, 0] {
             let mut memory = Memory::noise(&mut random);
             let before = memory.clone();
-            let mut entries = [VERTICES; 3];
+            let mut entries = [VERTICES; 4];
             entries[column] = short;
             let list = memory.run_list_with(accepted, &[], entries);
             assert_eq!((list.code, list.written, list.total), (8, 0, 0));

@@ -47,6 +47,7 @@ pub struct Columns<'a> {
     pub weights: &'a mut [u32],
     pub blocks: &'a mut [u16],
     pub aboves: &'a mut [u16],
+    pub fixed: &'a mut [u16],
 }
 
 /// The tables that hand out a net's pins.
@@ -163,6 +164,8 @@ extern "C" {
         blocks_length: usize,
         aboves: *mut u16,
         aboves_length: usize,
+        fixed: *mut u16,
+        fixed_length: usize,
         loadedpins: *mut u16,
         loadedpins_length: usize,
         presentpins: *mut u16,
@@ -299,6 +302,8 @@ pub fn run_list(file: &[u8], list: &[u32], lots: Columns<'_>, lent: Lent<'_>) ->
             lots.blocks.len(),
             lots.aboves.as_mut_ptr(),
             lots.aboves.len(),
+            lots.fixed.as_mut_ptr(),
+            lots.fixed.len(),
             lent.loadedpins.as_mut_ptr(),
             lent.loadedpins.len(),
             lent.presentpins.as_mut_ptr(),

@@ -86,10 +86,12 @@ impl Memory {
         let mut weights: Vec<u32> = self.lots.iter().map(|lot| lot.bales).collect();
         let mut blocks: Vec<u16> = self.lots.iter().map(|lot| lot.session).collect();
         let mut aboves: Vec<u16> = self.lots.iter().map(|lot| lot.above).collect();
+        let mut fixed: Vec<u16> = self.lots.iter().map(|lot| lot.kept).collect();
         let columns = Columns {
             weights: &mut weights,
             blocks: &mut blocks,
             aboves: &mut aboves,
+            fixed: &mut fixed,
         };
         let (lots, lent) = self.lent();
         let outcome = lent::run_list(file, list, columns, lent);
@@ -97,6 +99,7 @@ impl Memory {
             lot.bales = weights[i];
             lot.session = blocks[i];
             lot.above = aboves[i];
+            lot.kept = fixed[i];
         }
         let written = outcome.written;
         (outcome, &self.output[..written])
