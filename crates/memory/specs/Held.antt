@@ -33,12 +33,13 @@ use Rattle.loader.specs.Tables.{Started}
 use Rattle.loader.proofs.Fill.{filled-in, filled-out}
 use Rattle.memory.specs.Mask.{mask-is}
 
--- the lent tables as a running sale has them
-abbrev pub memoryOf : CallTables → List ℕ → MemoryTables
-memoryOf T loadedPins = record {
+-- the lent tables as a running sale has them; who is fixed, and the loaded pins, are not lent to it
+abbrev pub memoryOf : CallTables → List ℕ → List ℕ → MemoryTables
+memoryOf T fixed loadedPins = record {
   weights = T .weights;
   blocks = T .blocks;
   aboves = T .aboves;
+  fixed = fixed;
   loadedPins = loadedPins;
   presentPins = T .pins;
   firsts = T .firsts;
@@ -145,16 +146,17 @@ module _ {h : Hypergraph} {cs : List Contraction} {block : ℕ → ℕ} {T : Cal
 
 -- ---- all tables: loaded, filled and kept through the calls
 pub held : {h : Hypergraph} {s : State} {old : MemoryTables} {new : Lists} {nw bits₀ bits₁ counts₁ visited₁ loads₁ : List ℕ} {gains₁ : List ℤ} {n m k total₁ : ℕ} {T : CallTables}
-    → Started h (lists (old .weights) (old .blocks) (old .aboves) (old .loadedPins) (old .presentPins) (old .firsts) (old .loadedSizes) (old .presentSizes)) new
+    → Started h (lists (old .weights) (old .blocks) (old .aboves) (old .fixed) (old .loadedPins) (old .presentPins) (old .firsts) (old .loadedSizes) (old .presentSizes)) new
     → Prepared nw (new .presentPins) (new .blocks) (new .firsts) (new .presentSizes) n m k bits₀ bits₁ (old .counts) counts₁ (old .visited) visited₁ (old .gains) gains₁
     → Keeps (tables counts₁ visited₁ gains₁ (new .presentPins) (new .presentSizes) bits₁ (new .blocks) (new .weights) (new .aboves) loads₁ nw (new .firsts) (new .loadedSizes) n m k total₁) T
     → Sound h (s .stack) (s .block) T
     → T .n ≡ n → T .m ≡ m → T .k ≡ k → T .firsts ≡ new .firsts → T .loaded ≡ new .loadedSizes
-    → Holds h s old (memoryOf T (new .loadedPins))
+    → Holds h s old (memoryOf T (new .fixed) (new .loadedPins))
 held {h} {s} {old} {new} {n = n} {m = m} {k = k} {T = T} started prepared keeps sound n-is m-is k-is firsts-is loaded-is = record {
   weights = weights;
   blocks = blocks;
   aboves = aboves;
+  fixed = started .fixed;
   loadedPins = started .loadedPins;
   presentPins = presentPins;
   firsts = firsts;

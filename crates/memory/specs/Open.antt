@@ -2,6 +2,7 @@
 -- Opening and on guarantees' laws of accepted catalogues. Assumes nothing.
 use Prim.Native.Nat.{ℕ, suc, _+_, _*_, _-_, _/_, _%_, _<_, _≤_}
 use native.Mathlib.Decide.{decLt}
+use native.Mathlib.Numerals.{add-one}
 use native.Mathlib.Omega.{arith}
 use mathlib.Core.Path.{_≡_, refl, sym, ap, ap₂, _∙_}
 use mathlib.Core.Logic.{_⊎_, inl, inr}
@@ -14,7 +15,7 @@ use Rattle.laws.specs.Choice.{one}
 use Rattle.laws.specs.Fold.{all-get}
 use Rattle.laws.specs.Sum.{sumTo, sumTo-suc, sumTo-prefix}
 use Rattle.laws.specs.Occurrence.{occ, Distinct}
-use Rattle.model.specs.Catalogue.{Limits, Net, Hypergraph, vertices, loaded, drafted}
+use Rattle.model.specs.Catalogue.{Limits, Net, Hypergraph, vertices, fixedEntry, loaded, drafted}
 use Rattle.model.specs.Measure.{size}
 use Rattle.model.specs.Grammar.{Book, parse, reading}
 use Rattle.model.specs.Memory.{Filled, noNet, net, firstPlace}
@@ -26,6 +27,7 @@ use Rattle.guarantees.specs.Ranges.{Ranges, InBook, accepted-ranges, accepted-b
 use Rattle.guarantees.specs.Stretches.{size-fresh, stretch-le, marks-le}
 use Rattle.incidence.specs.Word.{bit-of-zero}
 use Rattle.incidence.specs.On.{on-is}
+use Rattle.fixed.specs.Starting.{FixedIs, FixedMarked}
 use Rattle.pins.specs.Stack.{loadedPin}
 use Rattle.levels.specs.Running.{netAt}
 use Rattle.lines.specs.Line.{book}
@@ -181,3 +183,12 @@ module _ {limits : Limits} {file : List ℕ} {z : Sizes} {old new : Lists} {nw c
     omega (arith, told .range .l-high, long .aboves, told .started .aboves .as-long),
     λ y ly. filled-in (vertices h) _ (old .aboves) (new .aboves) (told .started .aboves) y (omega (arith, all-vertices)) (omega (arith, told .range .l-high, long .aboves)) ∙ above-none (suc y),
   )
+
+  -- the column of who is fixed: its marks are those of the catalogue with no contraction
+  pub fixed-long : (z .vertices ≤ 1024) × (z .vertices ≤ length (new .fixed))
+  fixed-long = (omega (arith, told .range .l-high), omega (arith, told .range .l-high, long .fixed, told .started .fixed .as-long))
+
+  pub fixed-marked : {marks : List ℕ} → FixedMarked (new .fixed) (z .vertices) marks → FixedIs marks h []
+  fixed-marked f = f .is h (sym all-vertices) (λ x l.
+      filled-in (vertices h) (λ i. fixedEntry h (suc i)) (old .fixed) (new .fixed) (told .started .fixed) x (omega (arith, all-vertices)) (omega (arith, told .range .l-high, long .fixed))
+      ∙ sym (ap (fixedEntry h) (add-one x)))
