@@ -11,6 +11,7 @@ pub fn is_long(
     weights: &[u32],
     blocks: &[u16],
     aboves: &[u16],
+    fixed: &[u16],
     loadedpins: &[u16],
     presentpins: &[u16],
     firsts: &[u16],
@@ -21,7 +22,7 @@ pub fn is_long(
     visited: &[u16],
 ) -> bool
     ensures { λ r. ⌜ ((limits : Limits) → limits .vertexLimit ≡ vmax → r ≡ longMemory limits
-        (memory (now (output .entry)) (lent (lists (now (weights .entry)) (now (blocks .entry)) (now (aboves .entry)) (now (loadedpins .entry)) (now (presentpins .entry)) (now (firsts .entry)) (now (loadedsizes .entry)) (now (presentsizes .entry))) (now (counts .entry)) (now (gains .entry)) (now (visited .entry))))) ⌝ }
+        (memory (now (output .entry)) (lent (lists (now (weights .entry)) (now (blocks .entry)) (now (aboves .entry)) (now (fixed .entry)) (now (loadedpins .entry)) (now (presentpins .entry)) (now (firsts .entry)) (now (loadedsizes .entry)) (now (presentsizes .entry))) (now (counts .entry)) (now (gains .entry)) (now (visited .entry))))) ⌝ }
 {
     let lots = vmax as usize;
     if output.len() < 60000 {
@@ -34,6 +35,9 @@ pub fn is_long(
         return false;
     }
     if aboves.len() < lots {
+        return false;
+    }
+    if fixed.len() < lots {
         return false;
     }
     if !stretches::are_long(loadedpins, presentpins, firsts, loadedsizes, presentsizes) {

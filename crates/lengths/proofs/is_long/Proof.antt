@@ -19,15 +19,16 @@ returns-4 c limits q =
     let at-if1 = c .before .before .before in
     by-tests limits _ q (short-yes 60000 _ (at-if1 .if1 .left) (short-yes _ _ (c .before .before .if2 .left) (short-yes _ _ (c .before .if3 .left) (short-no _ _ _ (c .if4 .taken)))))
 
-are-long-requires : tie.Need-are-long-requires
-are-long-requires c κs = search needs
-
 returns-5 : tie.Need-returns-5
 returns-5 c limits q =
-    let at-if3 = c .before .before .before in
+    let at-if4 = c .before in
+    let at-if3 = at-if4 .before in
     let at-if2 = at-if3 .before in
     let at-if1 = at-if2 .before in
-    by-tests limits _ q (short-yes 60000 _ (at-if1 .if1 .left) (short-yes _ _ (at-if2 .if2 .left) (short-yes _ _ (at-if3 .if3 .left) (short-yes _ _ (c .before .before .if4 .left) (both-no _ _ (lists-test _ (c .before .are-long .ensures)) (c .if5 .taken))))))
+    by-tests limits _ q (short-yes 60000 _ (at-if1 .if1 .left) (short-yes _ _ (at-if2 .if2 .left) (short-yes _ _ (at-if3 .if3 .left) (short-yes _ _ (at-if4 .if4 .left) (short-no _ _ _ (c .if5 .taken))))))
+
+are-long-requires : tie.Need-are-long-requires
+are-long-requires c κs = search needs
 
 returns-6 : tie.Need-returns-6
 returns-6 c limits q =
@@ -35,28 +36,40 @@ returns-6 c limits q =
     let at-if3 = at-if4 .before in
     let at-if2 = at-if3 .before in
     let at-if1 = at-if2 .before in
-    by-tests limits _ q (short-yes 60000 _ (at-if1 .if1 .left) (short-yes _ _ (at-if2 .if2 .left) (short-yes _ _ (at-if3 .if3 .left) (short-yes _ _ (at-if4 .if4 .left) (both-yes _ _ (lists-test _ (c .before .before .are-long .ensures)) (c .before .if5 .left) (short-no 16384 _ _ (c .if6 .taken)))))))
-
-mul-if7 : tie.Need-mul-if7
-mul-if7 c = search needs
+    by-tests limits _ q (short-yes 60000 _ (at-if1 .if1 .left) (short-yes _ _ (at-if2 .if2 .left) (short-yes _ _ (at-if3 .if3 .left) (short-yes _ _ (at-if4 .if4 .left) (short-yes _ _ (c .before .before .if5 .left) (both-no _ _ (lists-test _ (c .before .are-long .ensures)) (c .if6 .taken)))))))
 
 returns-7 : tie.Need-returns-7
 returns-7 c limits q =
-    let at-long = c .before .before .before in
-    let at-if4 = at-long .before in
+    let at-long = c .before .before in
+    let at-if5 = at-long .before in
+    let at-if4 = at-if5 .before in
     let at-if3 = at-if4 .before in
     let at-if2 = at-if3 .before in
     let at-if1 = at-if2 .before in
-    by-tests limits _ q (short-yes 60000 _ (at-if1 .if1 .left) (short-yes _ _ (at-if2 .if2 .left) (short-yes _ _ (at-if3 .if3 .left) (short-yes _ _ (at-if4 .if4 .left) (both-yes _ _ (lists-test _ (at-long .are-long .ensures)) (c .before .before .if5 .left) (short-yes 16384 _ (c .before .if6 .left) (short-no _ _ _ (c .if7 .taken))))))))
+    by-tests limits _ q (short-yes 60000 _ (at-if1 .if1 .left) (short-yes _ _ (at-if2 .if2 .left) (short-yes _ _ (at-if3 .if3 .left) (short-yes _ _ (at-if4 .if4 .left) (short-yes _ _ (at-if5 .if5 .left) (both-yes _ _ (lists-test _ (at-long .are-long .ensures)) (c .before .if6 .left) (short-no 16384 _ _ (c .if7 .taken))))))))
+
+mul-if8 : tie.Need-mul-if8
+mul-if8 c = search needs
 
 returns-8 : tie.Need-returns-8
 returns-8 c limits q =
     let at-long = c .before .before .before in
-    let at-if4 = at-long .before in
+    let at-if5 = at-long .before in
+    let at-if4 = at-if5 .before in
     let at-if3 = at-if4 .before in
     let at-if2 = at-if3 .before in
     let at-if1 = at-if2 .before in
-    by-tests limits _ q (short-yes 60000 _ (at-if1 .if1 .left) (short-yes _ _ (at-if2 .if2 .left) (short-yes _ _ (at-if3 .if3 .left) (short-yes _ _ (at-if4 .if4 .left) (both-yes _ _ (lists-test _ (at-long .are-long .ensures)) (c .before .before .if5 .left) (short-yes 16384 _ (c .before .if6 .left) (short-yes _ _ (c .if7 .left) (refl))))))))
+    by-tests limits _ q (short-yes 60000 _ (at-if1 .if1 .left) (short-yes _ _ (at-if2 .if2 .left) (short-yes _ _ (at-if3 .if3 .left) (short-yes _ _ (at-if4 .if4 .left) (short-yes _ _ (at-if5 .if5 .left) (both-yes _ _ (lists-test _ (at-long .are-long .ensures)) (c .before .before .if6 .left) (short-yes 16384 _ (c .before .if7 .left) (short-no _ _ _ (c .if8 .taken)))))))))
+
+returns-9 : tie.Need-returns-9
+returns-9 c limits q =
+    let at-long = c .before .before .before in
+    let at-if5 = at-long .before in
+    let at-if4 = at-if5 .before in
+    let at-if3 = at-if4 .before in
+    let at-if2 = at-if3 .before in
+    let at-if1 = at-if2 .before in
+    by-tests limits _ q (short-yes 60000 _ (at-if1 .if1 .left) (short-yes _ _ (at-if2 .if2 .left) (short-yes _ _ (at-if3 .if3 .left) (short-yes _ _ (at-if4 .if4 .left) (short-yes _ _ (at-if5 .if5 .left) (both-yes _ _ (lists-test _ (at-long .are-long .ensures)) (c .before .before .if6 .left) (short-yes 16384 _ (c .before .if7 .left) (short-yes _ _ (c .if8 .left) refl))))))))
 
 pub is-long-spec : {M : Type 1} → statement M
 is-long-spec =
@@ -66,9 +79,10 @@ is-long-spec =
     returns-2
     returns-3
     returns-4
-    are-long-requires
     returns-5
+    are-long-requires
     returns-6
-    mul-if7
     returns-7
-    returns-8)
+    mul-if8
+    returns-8
+    returns-9)
