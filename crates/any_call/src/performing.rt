@@ -1,12 +1,14 @@
 // One call of any kind: what it leaves of the stack, the journal and the metric, and its answer.
 ghost use Prim.Native.Nat.{ℕ};
-ghost use mathlib.Core.List.{List};
+ghost use mathlib.Core.List.{List, []};
 ghost use Rattle.model.specs.Catalogue.{Hypergraph};
-ghost use Rattle.model.specs.Lent.{Two, two};
+ghost use Rattle.model.specs.Lent.{Two, two, stackOf};
 ghost use Rattle.guarantees.specs.Caps.{CeilingIs};
+ghost use Rattle.fixed.specs.Starting.{FixedIs};
 ghost use Rattle.operations.specs.Tables.{tables};
 ghost use Rattle.search_moves.specs.Lent.{lent};
-ghost use Rattle.edit_calls.specs.Called.{ReadyS, ReadyM, Called};
+ghost use Rattle.edit_calls.specs.Called.{ReadyS, Called};
+ghost use Rattle.search_calls.specs.Searching.{ReadyW};
 ghost use Rattle.search_calls.specs.Cycling.{AverageIs, ReadyA};
 ghost use Rattle.report.specs.Meaning.{answerOf};
 ghost use Rattle.any_call.specs.Kinds.{contractingCall, movingCall, anyCall};
@@ -17,6 +19,7 @@ use edit_calls::contracting::call_join;
 use edit_calls::contracting::call_split;
 use edit_calls::moving::call_back;
 use edit_calls::moving::call_move;
+use fixed::starting::fixed_in;
 use operations::pairs::Journal;
 use operations::pairs::Stack;
 use operations::size::Size;
@@ -60,6 +63,7 @@ fn moving(
     netweights: &[u16],
     firsts: &[u16],
     ceilings: &[u64; 16],
+    fixedmarks: [u64; 48],
     n: usize,
     m: usize,
     k: usize,
@@ -69,10 +73,10 @@ fn moving(
     x: usize,
     y: usize,
 ) -> MovingTurn
-    requires { ⌜ ReadyM
+    requires { ⌜ ReadyW
         (lent (now counts) (now visited) (now gains) (now blocks) (now loads) (now presentpins) (now presentsizes) (now bits) (now weights) (now netweights) (now firsts) n m k total)
-        (two (journal .vertices) (journal .blocks) (journal .len)) ⌝ }
-    ensures { λ r. ⌜ ((aboves loadedsizes : List ℕ) (S : Two) (h : Hypergraph) (ceiling : ℕ → ℕ) → CeilingIs (now (ceilings .entry)) h ceiling → Called h ceiling
+        (two (journal .vertices) (journal .blocks) (journal .len)) fixedmarks ⌝ }
+    ensures { λ r. ⌜ ((aboves loadedsizes : List ℕ) (S : Two) (h : Hypergraph) (ceiling : ℕ → ℕ) → CeilingIs (now (ceilings .entry)) h ceiling → FixedIs fixedmarks h (stackOf (S .xs) (S .ys) (S .len)) → Called h ceiling
         (lent (now (counts .entry)) (now (visited .entry)) (now (gains .entry)) (now (blocks .entry)) (now (loads .entry)) (now (presentpins .entry)) (now (presentsizes .entry)) (now (bits .entry)) (now (weights .entry)) (now (netweights .entry)) (now (firsts .entry)) n m k total aboves loadedsizes)
         (lent (now (counts .exit)) (now (visited .exit)) (now (gains .exit)) (now (blocks .exit)) (now (loads .exit)) (now (presentpins .exit)) (now (presentsizes .exit)) (now (bits .exit)) (now (weights .exit)) (now (netweights .exit)) (now (firsts .exit)) n m k (r .total) aboves loadedsizes)
         S S (two (journal .vertices) (journal .blocks) (journal .len)) (two (r .journal .vertices) (r .journal .blocks) (r .journal .len)) (movingCall letter x y) (answerOf (r .answer))) ⌝ }
@@ -91,6 +95,7 @@ fn moving(
             netweights,
             firsts,
             ceilings,
+            fixedmarks,
             n,
             m,
             k,
@@ -160,6 +165,7 @@ fn moving(
             netweights,
             firsts,
             ceilings,
+            fixedmarks,
             n,
             m,
             k,
@@ -195,6 +201,7 @@ fn moving(
         netweights,
         firsts,
         ceilings,
+        fixedmarks,
         n,
         m,
         k,
@@ -325,6 +332,7 @@ pub fn perform(
     firsts: &[u16],
     loadedsizes: &[u16],
     ceilings: &[u64; 16],
+    fixedmarks: [u64; 48],
     size: Size,
     total: u32,
     stack: Stack,
@@ -335,8 +343,8 @@ pub fn perform(
 ) -> Turn
     requires { ⌜ ReadyA
         (tables (now counts) (now visited) (now gains) (now presentpins) (now presentsizes) (now bits) (now blocks) (now weights) (now aboves) (now loads) (now netweights) (now firsts) (now loadedsizes) (size .n) (size .m) (size .k) total)
-        (two (stack .into) (stack .gone) (stack .len)) (two (journal .vertices) (journal .blocks) (journal .len)) (size .average) ⌝ }
-    ensures { λ r. ⌜ ((h : Hypergraph) (ceiling : ℕ → ℕ) → AverageIs (size .average) h → CeilingIs (now (ceilings .entry)) h ceiling → Called h ceiling
+        (two (stack .into) (stack .gone) (stack .len)) (two (journal .vertices) (journal .blocks) (journal .len)) (size .average) fixedmarks ⌝ }
+    ensures { λ r. ⌜ ((h : Hypergraph) (ceiling : ℕ → ℕ) → AverageIs (size .average) h → CeilingIs (now (ceilings .entry)) h ceiling → FixedIs fixedmarks h [] → Called h ceiling
         (tables (now (counts .entry)) (now (visited .entry)) (now (gains .entry)) (now (presentpins .entry)) (now (presentsizes .entry)) (now (bits .entry)) (now (blocks .entry)) (now (weights .entry)) (now (aboves .entry)) (now (loads .entry)) (now (netweights .entry)) (now (firsts .entry)) (now (loadedsizes .entry)) (size .n) (size .m) (size .k) total)
         (tables (now (counts .exit)) (now (visited .exit)) (now (gains .exit)) (now (presentpins .exit)) (now (presentsizes .exit)) (now (bits .exit)) (now (blocks .exit)) (now (weights .exit)) (now (aboves .exit)) (now (loads .exit)) (now (netweights .exit)) (now (firsts .exit)) (now (loadedsizes .exit)) (size .n) (size .m) (size .k) (r .total))
         (two (stack .into) (stack .gone) (stack .len)) (two (r .stack .into) (r .stack .gone) (r .stack .len)) (two (journal .vertices) (journal .blocks) (journal .len)) (two (r .journal .vertices) (r .journal .blocks) (r .journal .len)) (anyCall letter x y) (answerOf (r .answer))) ⌝ }
@@ -376,6 +384,9 @@ pub fn perform(
         };
     }
     if is_moving(letter) {
+        let into = stack.into;
+        let gone = stack.gone;
+        let marks = fixed_in(fixedmarks, &into, &gone, stack.len);
         let t = moving(
             counts,
             visited,
@@ -389,6 +400,7 @@ pub fn perform(
             netweights,
             firsts,
             ceilings,
+            marks,
             size.n,
             size.m,
             size.k,
@@ -422,6 +434,7 @@ pub fn perform(
         firsts,
         loadedsizes,
         ceilings,
+        fixedmarks,
         size,
         total,
         stack,

@@ -27,7 +27,7 @@ returns c =
     let at-call-move = c .before .before .before .before .before .before .before .before .before in
     let at-if1 = at-call-move .before .before .before .before .before .before in
     let start = at-if1 .before .before .before .before .before .before .before .before .before .before in
-    λ aboves loaded S h ceiling q. called-as (is-M (start .args .letter) (start .args .x) (start .args .y) (at-if1 .if1 .taken)) (c .answer .ensures) (at-call-move .call-move .ensures aboves loaded S h ceiling q)
+    λ aboves loaded S h ceiling q f. called-as (is-M (start .args .letter) (start .args .x) (start .args .y) (at-if1 .if1 .taken)) (c .answer .ensures) (at-call-move .call-move .ensures aboves loaded S h ceiling q f)
 
 call-back-requires : tie.Need-call-back-requires
 call-back-requires c κs = search needs
@@ -53,7 +53,7 @@ returns-2 c =
     let at-if2 = at-call-back .before .before .before .before .before .before in
     let at-if1 = at-if2 .before in
     let start = at-if1 .before .before .before .before .before .before .before .before .before .before in
-    λ aboves loaded S h ceiling q. called-as (is-B (start .args .letter) (start .args .x) (start .args .y) (at-if1 .if1 .left) (at-if2 .if2 .taken)) (c .answer2 .ensures) (at-call-back .call-back .ensures aboves loaded S h ceiling)
+    λ aboves loaded S h ceiling q f. called-as (is-B (start .args .letter) (start .args .x) (start .args .y) (at-if1 .if1 .left) (at-if2 .if2 .taken)) (c .answer2 .ensures) (at-call-back .call-back .ensures aboves loaded S h ceiling)
 
 call-walk-requires : tie.Need-call-walk-requires
 call-walk-requires c κs = search needs
@@ -80,7 +80,7 @@ returns-3 c =
     let at-if2 = at-if3 .before in
     let at-if1 = at-if2 .before in
     let start = at-if1 .before .before .before .before .before .before .before .before .before .before in
-    λ aboves loaded S h ceiling q. called-as (is-W (start .args .letter) (start .args .x) (start .args .y) (at-if1 .if1 .left) (at-if2 .if2 .left) (at-if3 .if3 .taken)) (c .answer3 .ensures) (at-call-walk .call-walk .ensures aboves loaded S h ceiling q)
+    λ aboves loaded S h ceiling q f. called-as (is-W (start .args .letter) (start .args .x) (start .args .y) (at-if1 .if1 .left) (at-if2 .if2 .left) (at-if3 .if3 .taken)) (c .answer3 .ensures) (at-call-walk .call-walk .ensures aboves loaded S h ceiling q f)
 
 call-polish-requires : tie.Need-call-polish-requires
 call-polish-requires c κs = search needs
@@ -104,7 +104,7 @@ returns-4 c =
     let at-if2 = at-if3 .before in
     let at-if1 = at-if2 .before in
     let start = at-if1 .before .before .before .before .before .before .before .before .before .before in
-    λ aboves loaded S h ceiling q. called-as (is-P (start .args .letter) (start .args .x) (start .args .y) (at-if1 .if1 .left) (at-if2 .if2 .left) (at-if3 .if3 .left)) refl (at-call-polish .call-polish .ensures aboves loaded S h ceiling q)
+    λ aboves loaded S h ceiling q f. called-as (is-P (start .args .letter) (start .args .x) (start .args .y) (at-if1 .if1 .left) (at-if2 .if2 .left) (at-if3 .if3 .left)) refl (at-call-polish .call-polish .ensures aboves loaded S h ceiling q f)
 
 pub moving-spec : {M : Type 1} → statement M
 moving-spec =

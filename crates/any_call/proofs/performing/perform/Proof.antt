@@ -2,6 +2,7 @@ use borrow.Author.Needs.{needs}
 use mathlib.Core.Path.{refl}
 use denote.Ref.{now}
 use Rattle.any_call.specs.Kinds.{any-contracting, any-moving, any-all, called-as}
+use Rattle.any_call.specs.FixedStack.{stack-fits, fixed-stack, called-stack}
 use Rattle.any_call.proofs.performing.perform.Statement.{statement}
 use Rattle.any_call.proofs.performing.perform.Tie as tie
 
@@ -46,15 +47,24 @@ returns c =
     let at-if1 = at-contracting .before .before .before .before .before .before .before .before .before .before in
     let at-is-contracting = at-if1 .before in
     let start = at-is-contracting .before .before .before .before .before .before .before .before .before .before .before .before in
-    λ h ceiling p q. called-as (any-contracting (start .args .letter) (start .args .x) (start .args .y) (at-is-contracting .is-contracting .ensures) (at-if1 .if1 .taken)) refl (at-contracting .contracting .ensures (now (start .args .loads)) h ceiling)
+    λ h ceiling p q f. called-as (any-contracting (start .args .letter) (start .args .x) (start .args .y) (at-is-contracting .is-contracting .ensures) (at-if1 .if1 .taken)) refl (at-contracting .contracting .ensures (now (start .args .loads)) h ceiling)
 
 is-moving-requires : tie.Need-is-moving-requires
 is-moving-requires c κs = search needs
 
+fixed-in-requires : tie.Need-fixed-in-requires
+fixed-in-requires c κs =
+    let start = c .before .before .before .before .before .before .before .before .before .before .before .before .before .before .before .before .before .before .before in
+    (start .pre .fixed .len, stack-fits (start .pre .ready .runs))
+
 moving-requires : tie.Need-moving-requires
 moving-requires c κs =
-    let start = c .before .before .before .before .before .before .before .before .before .before .before .before .before .before .before .before .before .before .before .before .before .before .before .before in
-    record { aboves = now (start .args .aboves); loaded = now (start .args .loadedsizes); stack = _; ready = start .pre .ready }
+    let at-fixed-in = c .before .before .before .before .before .before .before .before .before in
+    let start = at-fixed-in .before .before .before .before .before .before .before .before .before .before .before .before .before .before .before .before .before .before .before .before in
+    record {
+      moving = record { aboves = now (start .args .aboves); loaded = now (start .args .loadedsizes); stack = _; ready = start .pre .ready };
+      fixed = fixed-stack (start .pre .ready .runs) (at-fixed-in .fixed-in .ensures) (start .pre .fixed);
+    }
 
 same-length-10 : tie.Need-same-length-10
 same-length-10 c = search needs
@@ -83,12 +93,14 @@ same-length-17 c = search needs
 returns-2 : tie.Need-returns-2
 returns-2 c =
     let at-moving = c .before .before .before .before .before .before .before .before in
-    let at-if2 = at-moving .before .before .before .before .before .before .before .before .before .before in
+    let at-fixed-in = at-moving .before .before .before .before .before .before .before .before .before .before in
+    let at-if2 = at-fixed-in .before .before .before .before .before in
     let at-is-moving = at-if2 .before in
     let at-if1 = at-is-moving .before in
     let at-is-contracting = at-if1 .before in
     let start = at-is-contracting .before .before .before .before .before .before .before .before .before .before .before .before in
-    λ h ceiling p q. called-as (any-moving (start .args .letter) (start .args .x) (start .args .y) (at-is-contracting .is-contracting .ensures) (at-if1 .if1 .left) (at-is-moving .is-moving .ensures) (at-if2 .if2 .taken)) refl (at-moving .moving .ensures (now (start .args .aboves)) (now (start .args .loadedsizes)) _ h ceiling q)
+    λ h ceiling p q f. called-as (any-moving (start .args .letter) (start .args .x) (start .args .y) (at-is-contracting .is-contracting .ensures) (at-if1 .if1 .left) (at-is-moving .is-moving .ensures) (at-if2 .if2 .taken)) refl
+    (called-stack (now (start .args .ceilings)) (start .pre) (at-fixed-in .fixed-in .ensures) (at-moving .moving .ensures (now (start .args .aboves)) (now (start .args .loadedsizes)) _) h ceiling q f)
 
 call-all-requires : tie.Need-call-all-requires
 call-all-requires c κs = search needs
@@ -131,7 +143,7 @@ returns-3 c =
     let at-if1 = at-is-moving .before in
     let at-is-contracting = at-if1 .before in
     let start = at-is-contracting .before .before .before .before .before .before .before .before .before .before .before .before in
-    λ h ceiling p q. called-as (any-all (start .args .letter) (start .args .x) (start .args .y) (at-is-contracting .is-contracting .ensures) (at-if1 .if1 .left) (at-is-moving .is-moving .ensures) (at-if2 .if2 .left)) (c .answer .ensures) (at-call-all .call-all .ensures h ceiling p q)
+    λ h ceiling p q f. called-as (any-all (start .args .letter) (start .args .x) (start .args .y) (at-is-contracting .is-contracting .ensures) (at-if1 .if1 .left) (at-is-moving .is-moving .ensures) (at-if2 .if2 .left)) (c .answer .ensures) (at-call-all .call-all .ensures h ceiling p q f)
 
 pub perform-spec : {M : Type 1} → statement M
 perform-spec =
@@ -150,6 +162,7 @@ perform-spec =
     same-length-9
     returns
     is-moving-requires
+    fixed-in-requires
     moving-requires
     same-length-10
     same-length-11
