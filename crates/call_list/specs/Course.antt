@@ -13,6 +13,7 @@ use Rattle.model.specs.Engine.{after, answers}
 use Rattle.model.specs.Lent.{callsOf, Two}
 use Rattle.model.specs.Demand.{Accepted, Course}
 use Rattle.guarantees.specs.Caps.{CeilingIs}
+use Rattle.fixed.specs.Starting.{FixedIs}
 use Rattle.fields.specs.Wrote.{Wrote}
 use Rattle.fields.proofs.Laws.{wrote-none, wrote-length, wrote-append}
 use Rattle.operations.specs.Tables.{Tables, Sound, Keeps}
@@ -27,8 +28,8 @@ use Rattle.memory.specs.Close.{answer-fits}
 
 -- ---- one step
 -- what it needs: a running sale, and space for the answer's line from `at` on
-pub record CanStep (T : Tables) (S J : Two) (average : ℕ) (ceilings : List ℕ) (room at : ℕ) (c : Call) : Type 0 where
-  pub ready : ReadyA T S J average
+pub record CanStep (T : Tables) (S J : Two) (average : ℕ) (ceilings fixedmarks : List ℕ) (room at : ℕ) (c : Call) : Type 0 where
+  pub ready : ReadyA T S J average fixedmarks
   pub ceiling : ℕ → ℕ
   pub ceiling-is : CeilingIs ceilings (ready .ready .h) ceiling
   pub fits : at + length (answerRow (callUnder (ready .ready .h) ceiling (ready .ready .s) c .answer)) ≤ room
@@ -39,28 +40,29 @@ pub record Steps (h : Hypergraph) (ceiling : ℕ → ℕ) (T T′ : Tables) (S S
   pub called : Called h ceiling T T′ S S′ J J′ c says
   pub wrote : Wrote out out′ at (answerRow says) at′
 
-pub answer-room : {T T′ : Tables} {S S′ J J′ : Two} {average : ℕ} {ceilings : List ℕ} {room at : ℕ} {c : Call} {a : Answer} (g : CanStep T S J average ceilings room at c) → Called (g .ready .ready .h) (g .ceiling) T T′ S S′ J J′ c a → at + length (answerRow a) ≤ room
+pub answer-room : {T T′ : Tables} {S S′ J J′ : Two} {average : ℕ} {ceilings fixedmarks : List ℕ} {room at : ℕ} {c : Call} {a : Answer} (g : CanStep T S J average ceilings fixedmarks room at c) → Called (g .ready .ready .h) (g .ceiling) T T′ S S′ J J′ c a → at + length (answerRow a) ≤ room
 answer-room {at = at} g d = omega (arith, g .fits, ap (λ (x : Answer). at + length (answerRow x)) (d .steps (g .ready .ready .s) (g .ready .ready .runs) .says))
 
 -- ---- the list
 -- the tables T are those of a fresh machine over the accepted catalogue h, and the table of calls holds `count` calls
-pub record Begins (limits : Limits) (h : Hypergraph) (T : Tables) (average : ℕ) (ceilings calls : List ℕ) (count room : ℕ) : Type 0 where
+pub record Begins (limits : Limits) (h : Hypergraph) (T : Tables) (average : ℕ) (ceilings fixedmarks calls : List ℕ) (count room : ℕ) : Type 0 where
   pub narrow : limits .blockLimit ≤ 16
   pub short : limits .vertexLimit ≤ 1024
   pub accepted : Accepted limits h
   pub sound : Sound h [] (drafted h) T
   pub average-is : average ≡ averageWeight h
   pub ceiling-is : CeilingIs ceilings h (capacities h)
+  pub fixed-is : FixedIs fixedmarks h []
   pub count-le : count ≤ 512
   pub known : length (callsOf count calls) ≡ count
   pub calls-fit : 3 * count ≤ length calls
   pub spacious : 60000 ≤ room
 
 -- of some catalogue
-pub record CanRun (T : Tables) (average : ℕ) (ceilings calls : List ℕ) (count room : ℕ) : Type 0 where
+pub record CanRun (T : Tables) (average : ℕ) (ceilings fixedmarks calls : List ℕ) (count room : ℕ) : Type 0 where
   pub limits : Limits
   pub h : Hypergraph
-  pub begins : Begins limits h T average ceilings calls count room
+  pub begins : Begins limits h T average ceilings fixedmarks calls count room
 
 -- what a list runs on between two calls
 pub record Point : Type 0 where
@@ -89,13 +91,13 @@ pub record Done (h : Hypergraph) (calls : List ℕ) (i : ℕ) (T₀ T : Tables) 
   pub journal-le : J .len ≤ i
   pub wrote : Wrote out₀ out 0 (answers h (fresh h) (callsOf i calls)) at
 
-pub done-none : {limits : Limits} {h : Hypergraph} {T : Tables} {average count room : ℕ} {ceilings calls : List ℕ} {S J : Two} (out : List ℕ) → Begins limits h T average ceilings calls count room → Empty S → Empty J → Done h calls 0 T T S J out out 0
+pub done-none : {limits : Limits} {h : Hypergraph} {T : Tables} {average count room : ℕ} {ceilings fixedmarks calls : List ℕ} {S J : Two} (out : List ℕ) → Begins limits h T average ceilings fixedmarks calls count room → Empty S → Empty J → Done h calls 0 T T S J out out 0
 unfolding callsOf after answers
 done-none {h = h} {T = T} {S = S} {J = J} out b e f =
     let start : RunsOn h T (fresh h) (point T S J) = record { runs = runs-fresh (b .sound) e f; keeps = keeps-none T; n-same = refl; m-same = refl; k-same = refl; firsts-same = refl; loaded-same = refl } in
     record { here = start; begun = point T S J; course = course-none (RunsOn h T) h (fresh h) (point T S J) start; journal-le = omega (arith, f .none); wrote = wrote-none out 0 }
 
-module _ {limits : Limits} {h : Hypergraph} {T₀ : Tables} {average count : ℕ} {ceilings calls out₀ : List ℕ} (b : Begins limits h T₀ average ceilings calls count (length out₀)) (i : ℕ) (l : i < count)
+module _ {limits : Limits} {h : Hypergraph} {T₀ : Tables} {average count : ℕ} {ceilings fixedmarks calls out₀ : List ℕ} (b : Begins limits h T₀ average ceilings fixedmarks calls count (length out₀)) (i : ℕ) (l : i < count)
     {T : Tables} {S J : Two} {out : List ℕ} {at : ℕ} (d : Done h calls i T₀ T S J out₀ out at) (x y : ℕ) (qx : x ≡ getD calls (3 * i + 1) 0) (qy : y ≡ getD calls (3 * i + 2) 0) where
   more : (length (callsOf i calls) ≡ i) × NextCall calls i
   more = callsOf-more count calls (b .known) i l
@@ -115,11 +117,12 @@ module _ {limits : Limits} {h : Hypergraph} {T₀ : Tables} {average count : ℕ
   same : {T′ : Tables} {S′ J′ : Two} → (T′ ≡ T) × (S′ ≡ S) × (J′ ≡ J) → point T′ S′ J′ ≡ point T S J
   same u = λ k. point (u .0 k) (u .1 k) (u .2 k)
 
-  pub can-step : CanStep T S J average ceilings (length out) at asked
+  pub can-step : CanStep T S J average ceilings fixedmarks (length out) at asked
   can-step = record {
     ready = record {
       ready = record { h = h; s = after h (fresh h) (callsOf i calls); runs = d .here .runs; room = omega (arith, d .journal-le, b .count-le) };
       average-is = b .average-is;
+      fixed = b .fixed-is;
     };
     ceiling = capacities h;
     ceiling-is = b .ceiling-is;

@@ -1,10 +1,12 @@
 // A list of calls on a running sale: each call steps the tables, and its answer's line goes to the output.
 ghost use Prim.Native.Nat.{ℕ};
 ghost use mathlib.Core.Path.{_≡_};
+ghost use mathlib.Core.List.{[]};
 ghost use lib.ListN.{length};
 ghost use Rattle.model.specs.Catalogue.{Limits, Hypergraph};
 ghost use Rattle.model.specs.Lent.{two};
 ghost use Rattle.guarantees.specs.Caps.{CeilingIs};
+ghost use Rattle.fixed.specs.Starting.{FixedIs};
 ghost use Rattle.operations.specs.Tables.{tables};
 ghost use Rattle.search_calls.specs.Cycling.{AverageIs};
 ghost use Rattle.any_call.specs.Kinds.{anyCall};
@@ -47,6 +49,7 @@ fn step(
     firsts: &[u16],
     loadedsizes: &[u16],
     ceilings: &[u64; 16],
+    fixedmarks: [u64; 48],
     size: Size,
     course: Course,
     letter: u32,
@@ -55,8 +58,8 @@ fn step(
 ) -> Course
     requires { ⌜ CanStep
         (tables (now counts) (now visited) (now gains) (now presentpins) (now presentsizes) (now bits) (now blocks) (now weights) (now aboves) (now loads) (now netweights) (now firsts) (now loadedsizes) (size .n) (size .m) (size .k) (course .total))
-        (two (course .stack .into) (course .stack .gone) (course .stack .len)) (two (course .journal .vertices) (course .journal .blocks) (course .journal .len)) (size .average) (now ceilings) (length (now output)) (course .at) (anyCall letter x y) ⌝ }
-    ensures { λ r. ⌜ ((h : Hypergraph) (ceiling : ℕ → ℕ) → AverageIs (size .average) h → CeilingIs (now (ceilings .entry)) h ceiling → Steps h ceiling
+        (two (course .stack .into) (course .stack .gone) (course .stack .len)) (two (course .journal .vertices) (course .journal .blocks) (course .journal .len)) (size .average) (now ceilings) fixedmarks (length (now output)) (course .at) (anyCall letter x y) ⌝ }
+    ensures { λ r. ⌜ ((h : Hypergraph) (ceiling : ℕ → ℕ) → AverageIs (size .average) h → CeilingIs (now (ceilings .entry)) h ceiling → FixedIs fixedmarks h [] → Steps h ceiling
         (tables (now (counts .entry)) (now (visited .entry)) (now (gains .entry)) (now (presentpins .entry)) (now (presentsizes .entry)) (now (bits .entry)) (now (blocks .entry)) (now (weights .entry)) (now (aboves .entry)) (now (loads .entry)) (now (netweights .entry)) (now (firsts .entry)) (now (loadedsizes .entry)) (size .n) (size .m) (size .k) (course .total))
         (tables (now (counts .exit)) (now (visited .exit)) (now (gains .exit)) (now (presentpins .exit)) (now (presentsizes .exit)) (now (bits .exit)) (now (blocks .exit)) (now (weights .exit)) (now (aboves .exit)) (now (loads .exit)) (now (netweights .exit)) (now (firsts .exit)) (now (loadedsizes .exit)) (size .n) (size .m) (size .k) (r .total))
         (two (course .stack .into) (course .stack .gone) (course .stack .len)) (two (r .stack .into) (r .stack .gone) (r .stack .len)) (two (course .journal .vertices) (course .journal .blocks) (course .journal .len)) (two (r .journal .vertices) (r .journal .blocks) (r .journal .len)) (anyCall letter x y) (now (output .entry)) (now (output .exit)) (course .at) (r .at)) ⌝ }
@@ -78,6 +81,7 @@ fn step(
         firsts,
         loadedsizes,
         ceilings,
+        fixedmarks,
         size,
         course.total,
         stack,
@@ -115,6 +119,7 @@ pub fn run_calls(
     firsts: &[u16],
     loadedsizes: &[u16],
     ceilings: &[u64; 16],
+    fixedmarks: [u64; 48],
     calls: &[u32],
     count: usize,
     size: Size,
@@ -122,10 +127,10 @@ pub fn run_calls(
 ) -> Course
     requires { ⌜ CanRun
         (tables (now counts) (now visited) (now gains) (now presentpins) (now presentsizes) (now bits) (now blocks) (now weights) (now aboves) (now loads) (now netweights) (now firsts) (now loadedsizes) (size .n) (size .m) (size .k) total)
-        (size .average) (now ceilings) (now calls) count (length (now output)) ⌝ }
+        (size .average) (now ceilings) fixedmarks (now calls) count (length (now output)) ⌝ }
     ensures { λ r. ⌜ ((limits : Limits) (h : Hypergraph) → Begins limits h
         (tables (now (counts .entry)) (now (visited .entry)) (now (gains .entry)) (now (presentpins .entry)) (now (presentsizes .entry)) (now (bits .entry)) (now (blocks .entry)) (now (weights .entry)) (now (aboves .entry)) (now (loads .entry)) (now (netweights .entry)) (now (firsts .entry)) (now (loadedsizes .entry)) (size .n) (size .m) (size .k) total)
-        (size .average) (now (ceilings .entry)) (now (calls .entry)) count (length (now (output .entry))) → Done h (now (calls .entry)) count
+        (size .average) (now (ceilings .entry)) fixedmarks (now (calls .entry)) count (length (now (output .entry))) → Done h (now (calls .entry)) count
         (tables (now (counts .entry)) (now (visited .entry)) (now (gains .entry)) (now (presentpins .entry)) (now (presentsizes .entry)) (now (bits .entry)) (now (blocks .entry)) (now (weights .entry)) (now (aboves .entry)) (now (loads .entry)) (now (netweights .entry)) (now (firsts .entry)) (now (loadedsizes .entry)) (size .n) (size .m) (size .k) total)
         (tables (now (counts .exit)) (now (visited .exit)) (now (gains .exit)) (now (presentpins .exit)) (now (presentsizes .exit)) (now (bits .exit)) (now (blocks .exit)) (now (weights .exit)) (now (aboves .exit)) (now (loads .exit)) (now (netweights .exit)) (now (firsts .exit)) (now (loadedsizes .exit)) (size .n) (size .m) (size .k) (r .total))
         (two (r .stack .into) (r .stack .gone) (r .stack .len)) (two (r .journal .vertices) (r .journal .blocks) (r .journal .len)) (now (output .entry)) (now (output .exit)) (r .at)) ⌝ }
@@ -157,6 +162,7 @@ pub fn run_calls(
             firsts,
             loadedsizes,
             ceilings,
+            fixedmarks,
             size,
             course,
             calls[at],

@@ -11,13 +11,13 @@ use Rattle.call_list.proofs.run_calls.Statement.{statement}
 use Rattle.call_list.proofs.run_calls.Tie as tie
 
 abbrev Inv-loop : tie.InvT-loop
-Inv-loop output₀ counts₀ visited₀ gains₀ pins₀ sizes₀ bits₀ blocks₀ weights₀ aboves₀ loads₀ netweights firsts loaded ceilings calls count size total course₀ i₀ output counts visited gains pins sizes bits blocks weights aboves loads course i =
-    ((limits : Limits) (h : Hypergraph) → Begins limits h (tables counts₀ visited₀ gains₀ pins₀ sizes₀ bits₀ blocks₀ weights₀ aboves₀ loads₀ netweights firsts loaded (size .n) (size .m) (size .k) total) (size .average) ceilings calls count (length output₀)
+Inv-loop output₀ counts₀ visited₀ gains₀ pins₀ sizes₀ bits₀ blocks₀ weights₀ aboves₀ loads₀ netweights firsts loaded ceilings fixedmarks calls count size total course₀ i₀ output counts visited gains pins sizes bits blocks weights aboves loads course i =
+    ((limits : Limits) (h : Hypergraph) → Begins limits h (tables counts₀ visited₀ gains₀ pins₀ sizes₀ bits₀ blocks₀ weights₀ aboves₀ loads₀ netweights firsts loaded (size .n) (size .m) (size .k) total) (size .average) ceilings fixedmarks calls count (length output₀)
     → Done h calls i (tables counts₀ visited₀ gains₀ pins₀ sizes₀ bits₀ blocks₀ weights₀ aboves₀ loads₀ netweights firsts loaded (size .n) (size .m) (size .k) total) (tables counts visited gains pins sizes bits blocks weights aboves loads netweights firsts loaded (size .n) (size .m) (size .k) (course .total)) (two (course .stack .into) (course .stack .gone) (course .stack .len)) (two (course .journal .vertices) (course .journal .blocks) (course .journal .len)) output₀ output (course .at))
     × (length output ≡ length output₀) × (length counts ≡ length counts₀) × (length visited ≡ length visited₀) × (length gains ≡ length gains₀) × (length pins ≡ length pins₀) × (length sizes ≡ length sizes₀) × (length bits ≡ length bits₀) × (length blocks ≡ length blocks₀) × (length weights ≡ length weights₀) × (length aboves ≡ length aboves₀) × (i ≤ count)
 
 abbrev μ-loop : tie.MeasureT-loop
-μ-loop output₀ counts₀ visited₀ gains₀ pins₀ sizes₀ bits₀ blocks₀ weights₀ aboves₀ loads₀ netweights firsts loaded ceilings calls count size total course₀ i₀ output counts visited gains pins sizes bits blocks weights aboves loads course i =
+μ-loop output₀ counts₀ visited₀ gains₀ pins₀ sizes₀ bits₀ blocks₀ weights₀ aboves₀ loads₀ netweights firsts loaded ceilings fixedmarks calls count size total course₀ i₀ output counts visited gains pins sizes bits blocks weights aboves loads course i =
     count - i
 
 new-requires : tie.Need-new-requires Inv-loop μ-loop
@@ -112,7 +112,7 @@ loop-again c =
     let at-index = at-index2 .before .before in
     let at-loop-test = at-index .before .before .before .before .before .before .before .before .before .before .before .before .before .before in
     let at-loop = at-loop-test .before in
-    (λ limits h b. done-more b _ (at-loop-test .loop-test .taken) (at-loop .loop .inv .0 limits h b) _ _ (at-index .index .ensures) (at-index2 .index2 .ensures) refl refl refl refl refl (at-step .step .ensures h (capacities h) (b .average-is) (b .ceiling-is)), omega (arith, at-loop .loop .inv, at-step .step .kept), omega (arith, at-loop .loop .inv, at-step .step .kept), omega (arith, at-loop .loop .inv, at-step .step .kept), omega (arith, at-loop .loop .inv, at-step .step .kept), omega (arith, at-loop .loop .inv, at-step .step .kept), omega (arith, at-loop .loop .inv, at-step .step .kept), omega (arith, at-loop .loop .inv, at-step .step .kept), omega (arith, at-loop .loop .inv, at-step .step .kept), omega (arith, at-loop .loop .inv, at-step .step .kept), omega (arith, at-loop .loop .inv, at-step .step .kept), omega (arith, at-loop-test .loop-test .taken))
+    (λ limits h b. done-more b _ (at-loop-test .loop-test .taken) (at-loop .loop .inv .0 limits h b) _ _ (at-index .index .ensures) (at-index2 .index2 .ensures) refl refl refl refl refl (at-step .step .ensures h (capacities h) (b .average-is) (b .ceiling-is) (b .fixed-is)), omega (arith, at-loop .loop .inv, at-step .step .kept), omega (arith, at-loop .loop .inv, at-step .step .kept), omega (arith, at-loop .loop .inv, at-step .step .kept), omega (arith, at-loop .loop .inv, at-step .step .kept), omega (arith, at-loop .loop .inv, at-step .step .kept), omega (arith, at-loop .loop .inv, at-step .step .kept), omega (arith, at-loop .loop .inv, at-step .step .kept), omega (arith, at-loop .loop .inv, at-step .step .kept), omega (arith, at-loop .loop .inv, at-step .step .kept), omega (arith, at-loop .loop .inv, at-step .step .kept), omega (arith, at-loop-test .loop-test .taken))
 
 same-length : tie.Need-same-length Inv-loop μ-loop
 same-length c = omega (arith, c .before .loop .inv)

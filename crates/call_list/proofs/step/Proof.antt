@@ -10,7 +10,7 @@ put-answer-requires : tie.Need-put-answer-requires
 put-answer-requires c κs =
     let at-perform = c .before .before .before .before .before .before .before .before .before .before .before .before .before .before .before .before .before .before .before .before in
     let start = at-perform .before .before .before .before .before .before .before .before .before .before .before .before .before .before .before .before .before .before .before .before .before .before .before .before .before in
-    answer-room (start .pre) (at-perform .perform .ensures ((start .pre) .ready .ready .h) ((start .pre) .ceiling) ((start .pre) .ready .average-is) ((start .pre) .ceiling-is))
+    answer-room (start .pre) (at-perform .perform .ensures ((start .pre) .ready .ready .h) ((start .pre) .ceiling) ((start .pre) .ready .average-is) ((start .pre) .ceiling-is) ((start .pre) .ready .fixed))
 
 same-length : tie.Need-same-length
 same-length c = search needs
@@ -45,7 +45,7 @@ same-length-10 c = search needs
 returns : tie.Need-returns
 returns c =
     let at-perform = c .before .before .before .before .before .before .before .before .before .before .before .before .before .before .before .before .before .before .before .before .before .before .before in
-    λ h ceiling p q. record { says = _; called = at-perform .perform .ensures h ceiling p q; wrote = c .before .before .put-answer .ensures }
+    λ h ceiling p q f. record { says = _; called = at-perform .perform .ensures h ceiling p q f; wrote = c .before .before .put-answer .ensures }
 
 pub step-spec : {M : Type 1} → statement M
 step-spec =
