@@ -21,12 +21,13 @@ use Rattle.loader.specs.declared.Sizes.{Sizes}
 use Rattle.loader.specs.declared.Loaded.the-variants.{Accepted}
 use Rattle.loader.specs.Tables.{LongLists, graph, Loads}
 use Rattle.opening.specs.Opening.{Opens, CanOpen, Opened}
+use Rattle.fixed.specs.Starting.{FixedMarked}
 use Rattle.fields.specs.Wrote.{Wrote}
 use Rattle.report.specs.Closing.{Ended}
 use Rattle.operations.specs.Tables.{Tables, tables}
 use Rattle.edit_calls.specs.Steps.{Whole}
 use Rattle.call_list.specs.Course.{Begins, CanRun, Point, RunsOn, Done}
-use Rattle.memory.specs.Open.{opens, none-above, is-accepted}
+use Rattle.memory.specs.Open.{opens, none-above, fixed-long, fixed-marked, is-accepted}
 use Rattle.memory.specs.Close.{draft-is, ended, report-length}
 use Rattle.memory.specs.Prefix.{course-as}
 use Rattle.memory.specs.Held.{memoryOf, held}
@@ -80,6 +81,11 @@ pub record Sold (limits : Limits) (h : Hypergraph) (calls : List Call) (old new 
   pub ended : Ended h (after h (fresh h) calls) (new .blocks) (new .aboves) (new .visited) (S .ys) n m (S .len) draft total
   pub fits : at + length (closing h (after h (fresh h) calls)) ≤ length out
 
+-- who is fixed can be marked
+pub can-mark : {limits : Limits} {file : List ℕ} {z : Sizes} {old new : Lists} {nw counts : List ℕ} {gains : List ℤ} {visited : List ℕ} → Catalogued limits file z old new nw counts gains visited
+    → (z .vertices ≤ 1024) × (z .vertices ≤ length (new .fixed))
+can-mark g = fixed-long (g .narrow) (g .short) (g .long) (g .loads)
+
 module _ {limits : Limits} {file : List ℕ} {z : Sizes} {old new : Lists} {nw counts : List ℕ} {gains : List ℤ} {visited : List ℕ} (g : Catalogued limits file z old new nw counts gains visited)
     {bits : List ℕ} (b : Blank bits) where
   abbrev h : Hypergraph
@@ -93,11 +99,11 @@ module _ {limits : Limits} {file : List ℕ} {z : Sizes} {old new : Lists} {nw c
 
   module _ {bits′ counts′ visited′ loads′ : List ℕ} {gains′ : List ℤ} {draft : ℕ}
       (o : Opened (new .presentPins) (new .blocks) (new .firsts) (new .presentSizes) (new .weights) nw (z .vertices) (z .nets) (z .blocks) bits bits′ counts counts′ visited visited′ gains gains′ loads′ draft)
-      {calls : List ℕ} {count : ℕ} {out : List ℕ} (l : Listed calls count out) where
+      {fixedmarks : List ℕ} (f : FixedMarked (new .fixed) (z .vertices) fixedmarks) {calls : List ℕ} {count : ℕ} {out : List ℕ} (l : Listed calls count out) where
     abbrev T₀ : Tables
     T₀ = tables counts′ visited′ gains′ (new .presentPins) (new .presentSizes) bits′ (new .blocks) (new .weights) (new .aboves) loads′ nw (new .firsts) (new .loadedSizes) (z .vertices) (z .nets) (z .blocks) draft
 
-    pub begins : Begins limits h T₀ (z .average) (replicate 16 (z .capacity)) calls count (length out)
+    pub begins : Begins limits h T₀ (z .average) (replicate 16 (z .capacity)) fixedmarks calls count (length out)
     begins = let a = g .loads .accepts z refl in record {
       narrow = g .narrow;
       short = g .short;
@@ -105,18 +111,19 @@ module _ {limits : Limits} {file : List ℕ} {z : Sizes} {old new : Lists} {nw c
       sound = let n = none-above (g .narrow) (g .short) (g .long) (g .loads) in o .sound h (new .loadedSizes) (new .aboves) can-open-h (n .0) (n .1);
       average-is = a .average;
       ceiling-is = λ t from to. getD-replicate 16 (t - 1) (z .capacity) 0 (omega (arith, a .range .k-high, g .narrow)) ∙ a .capacity;
+      fixed-is = fixed-marked (g .narrow) (g .short) (g .long) (g .loads) f;
       count-le = l .count-le;
       known = l .known;
       calls-fit = l .calls-fit;
       spacious = l .spacious;
     }
 
-    pub can-run : CanRun T₀ (z .average) (replicate 16 (z .capacity)) calls count (length out)
+    pub can-run : CanRun T₀ (z .average) (replicate 16 (z .capacity)) fixedmarks calls count (length out)
     can-run = record { limits = limits; h = h; begins = begins }
 
     -- what stands in lent memory between two calls is what the machine's state there says
     abbrev standingOf : Point → Standing
-    standingOf p = standing (memoryOf (p .tables) (new .loadedPins)) (stackOf (p .stack .xs) (p .stack .ys) (p .stack .len)) (journalOf (p .journal .xs) (p .journal .ys) (p .journal .len))
+    standingOf p = standing (memoryOf (p .tables) (new .fixed) (new .loadedPins)) (stackOf (p .stack .xs) (p .stack .ys) (p .stack .len)) (journalOf (p .journal .xs) (p .journal .ys) (p .journal .len))
 
     stands-as : (s : State) (p : Point) → RunsOn h T₀ s p → Stands h (lent old counts gains visited) s (standingOf p)
     stands-as s p r = record {
@@ -128,7 +135,7 @@ module _ {limits : Limits} {file : List ℕ} {z : Sizes} {old new : Lists} {nw c
     pub sold : {counts″ visited″ pins″ sizes″ bits″ blocks″ weights″ aboves″ loads″ out″ : List ℕ} {gains″ : List ℤ} {total at : ℕ} {S J : Two}
         → Done h calls count T₀ (tables counts″ visited″ gains″ pins″ sizes″ bits″ blocks″ weights″ aboves″ loads″ nw (new .firsts) (new .loadedSizes) (z .vertices) (z .nets) (z .blocks) total) S J out out″ at
         → Sold limits h (callsOf count calls) (lent old counts gains visited)
-        (record { weights = weights″; blocks = blocks″; aboves = aboves″; loadedPins = new .loadedPins; presentPins = pins″; firsts = new .firsts; loadedSizes = new .loadedSizes; presentSizes = sizes″; counts = counts″; gains = gains″; visited = visited″ })
+        (record { weights = weights″; blocks = blocks″; aboves = aboves″; fixed = new .fixed; loadedPins = new .loadedPins; presentPins = pins″; firsts = new .firsts; loadedSizes = new .loadedSizes; presentSizes = sizes″; counts = counts″; gains = gains″; visited = visited″ })
         out out″ S J (z .vertices) (z .nets) draft total at
     sold d =
         let q = draft-is (begins .sound) in

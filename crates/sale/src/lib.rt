@@ -6,6 +6,7 @@ ghost use Rattle.model.specs.Lent.{callsOf, Lists, lists, two, lent};
 ghost use Rattle.loader.specs.Tables.{graph};
 ghost use Rattle.sale.specs.Sale.{Catalogued, Listed, CanSell, Sold};
 use call_list::run_calls;
+use fixed::starting::mark_fixed;
 use loader::Sizes;
 use opening::open;
 use operations::pairs::Journal;
@@ -30,6 +31,7 @@ pub fn sell(
     weights: &mut [u32],
     blocks: &mut [u16],
     aboves: &mut [u16],
+    fixed: &[u16],
     presentpins: &mut [u16],
     presentsizes: &mut [u16],
     counts: &mut [u16],
@@ -43,14 +45,14 @@ pub fn sell(
     z: Sizes,
 ) -> Sale
     requires { ⌜ CanSell
-        (λ loadedpins. lists (now weights) (now blocks) (now aboves) loadedpins (now presentpins) (now firsts) (now loadedsizes) (now presentsizes))
+        (λ loadedpins. lists (now weights) (now blocks) (now aboves) (now fixed) loadedpins (now presentpins) (now firsts) (now loadedsizes) (now presentsizes))
         z (now netweights) (now counts) (now gains) (now visited) (now calls) count (now output) ⌝ }
     ensures { λ r. ⌜ ((limits : Limits) (file loadedpins : List ℕ) (old : Lists) → Catalogued limits file z old
-        (lists (now (weights .entry)) (now (blocks .entry)) (now (aboves .entry)) loadedpins (now (presentpins .entry)) (now (firsts .entry)) (now (loadedsizes .entry)) (now (presentsizes .entry)))
+        (lists (now (weights .entry)) (now (blocks .entry)) (now (aboves .entry)) (now (fixed .entry)) loadedpins (now (presentpins .entry)) (now (firsts .entry)) (now (loadedsizes .entry)) (now (presentsizes .entry)))
         (now (netweights .entry)) (now (counts .entry)) (now (gains .entry)) (now (visited .entry)) → Listed (now (calls .entry)) count (now (output .entry)) → Sold limits (graph z
-        (lists (now (weights .entry)) (now (blocks .entry)) (now (aboves .entry)) loadedpins (now (presentpins .entry)) (now (firsts .entry)) (now (loadedsizes .entry)) (now (presentsizes .entry)))
+        (lists (now (weights .entry)) (now (blocks .entry)) (now (aboves .entry)) (now (fixed .entry)) loadedpins (now (presentpins .entry)) (now (firsts .entry)) (now (loadedsizes .entry)) (now (presentsizes .entry)))
         (now (netweights .entry))) (callsOf count (now (calls .entry))) (lent old (now (counts .entry)) (now (gains .entry)) (now (visited .entry)))
-        (lent (lists (now (weights .exit)) (now (blocks .exit)) (now (aboves .exit)) loadedpins (now (presentpins .exit)) (now (firsts .exit)) (now (loadedsizes .exit)) (now (presentsizes .exit))) (now (counts .exit)) (now (gains .exit)) (now (visited .exit)))
+        (lent (lists (now (weights .exit)) (now (blocks .exit)) (now (aboves .exit)) (now (fixed .exit)) loadedpins (now (presentpins .exit)) (now (firsts .exit)) (now (loadedsizes .exit)) (now (presentsizes .exit))) (now (counts .exit)) (now (gains .exit)) (now (visited .exit)))
         (now (output .entry)) (now (output .exit)) (two (r .stack .into) (r .stack .gone) (r .stack .len)) (two (r .journal .vertices) (r .journal .blocks) (r .journal .len)) (z .vertices) (z .nets) (r .draft) (r .total) (r .at)) ⌝ }
 {
     let n = z.vertices as usize;
@@ -64,6 +66,7 @@ pub fn sell(
     };
     let capacity = z.capacity as u64;
     let ceilings = [capacity; 16];
+    let fixedmarks = mark_fixed(fixed, n);
     let mut bits = [0u64; 16384];
     let mut loads = [0u64; 16];
     let draft = open(
@@ -98,6 +101,7 @@ pub fn sell(
         firsts,
         loadedsizes,
         &ceilings,
+        fixedmarks,
         calls,
         count,
         size,

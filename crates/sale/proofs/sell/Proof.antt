@@ -3,7 +3,7 @@ use Prim.Native.Nat.{ℕ}
 use native.Mathlib.Omega.{arith}
 use mathlib.Core.Path.{refl}
 use lib.ListN.{length-replicate}
-use Rattle.sale.specs.Sale.{blank, can-open, begins, can-run, sold}
+use Rattle.sale.specs.Sale.{blank, can-mark, can-open, begins, can-run, sold}
 use Rattle.sale.proofs.sell.Statement.{statement}
 use Rattle.sale.proofs.sell.Tie as tie
 
@@ -24,7 +24,7 @@ slice-aggregate-open c = search needs
 
 open-requires : tie.Need-open-requires
 open-requires c κs =
-    let start = c .before .before .before .before .before .before .before .before .before .before .before .before .before .before .before .before .before .before .before .before .before .before .before .before .before .before in
+    let start = c .before .before .before .before .before .before .before .before .before .before .before .before .before .before .before .before .before .before .before .before .before .before .before .before .before .before .before .before in
     can-open (start .pre .catalogued) (blank 16384 refl) (length-replicate {A = ℕ} 16 0)
 
 slice-aggregate-run-calls : tie.Need-slice-aggregate-run-calls
@@ -33,8 +33,9 @@ slice-aggregate-run-calls c = search needs
 run-calls-requires : tie.Need-run-calls-requires
 run-calls-requires c κs =
     let state = c .before .before .before .before .before .before .before .before .before .before .before .before .before .before .before .before .before .before in
-    let start = state .before .before .before .before .before .before .before .before .before .before .before .before .before .before .before .before .before .before .before .before .before .before .before .before .before .before .before in
-    can-run (start .pre .catalogued) (blank 16384 refl) (state .«open» .ensures) (start .pre .listed)
+    let at-mark-fixed = state .before .before .before .before .before .before .before .before .before .before in
+    let start = at-mark-fixed .before .before .before .before .before .before .before .before .before .before .before .before .before .before .before .before .before .before .before in
+    can-run (start .pre .catalogued) (blank 16384 refl) (state .«open» .ensures) (at-mark-fixed .mark-fixed .ensures) (start .pre .listed)
 
 same-length : tie.Need-same-length
 same-length c = search needs
@@ -76,10 +77,18 @@ returns : tie.Need-returns
 returns c =
     let at-run-calls = c .before .before .before .before .before .before .before .before .before .before .before .before .before .before .before .before .before .before .before .before in
     let state = at-run-calls .before .before .before .before .before .before .before .before .before .before .before .before .before .before .before .before .before .before .before in
-    λ limits file pins old g l. sold g (blank 16384 refl) (state .«open» .ensures) l (at-run-calls .run-calls .ensures limits _ (begins g (blank 16384 refl) (state .«open» .ensures) l))
+    let at-mark-fixed = state .before .before .before .before .before .before .before .before .before .before in
+    let opened = state .«open» .ensures in
+    let marked = at-mark-fixed .mark-fixed .ensures in
+    λ limits file pins old g l. sold g (blank 16384 refl) opened marked l (at-run-calls .run-calls .ensures limits _ (begins g (blank 16384 refl) opened marked l))
 
-cast-t28 : tie.Need-cast-t28
-cast-t28 c = omega arith
+cast-t30 : tie.Need-cast-t30
+cast-t30 c = omega arith
+
+mark-fixed-requires : tie.Need-mark-fixed-requires
+mark-fixed-requires c κs =
+    let start = c .before .before .before .before .before .before .before .before .before .before .before .before .before .before .before .before .before .before in
+    can-mark (start .pre .catalogued)
 
 pub sell-spec : {M : Type 1} → statement M
 sell-spec =
@@ -88,8 +97,9 @@ sell-spec =
     cast-n
     cast-m
     cast-k
-    cast-t28
+    cast-t30
     cast-capacity
+    mark-fixed-requires
     slice-aggregate-open
     open-requires
     slice-aggregate-run-calls

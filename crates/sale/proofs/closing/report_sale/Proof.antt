@@ -15,7 +15,7 @@ sell-requires c κs = search needs
 put-closing-requires : tie.Need-put-closing-requires
 put-closing-requires c κs =
     let at-sell = c .before .before .before .before .before .before .before .before .before .before .before .before .before .before .before .before .before .before .before .before .before .before .before .before in
-    let start = at-sell .before .before .before .before .before .before .before .before .before .before .before .before .before .before .before .before .before .before .before .before .before .before .before .before in
+    let start = at-sell .before .before .before .before .before .before .before .before .before .before .before .before .before .before .before .before .before .before .before .before .before .before .before .before .before in
     closes (at-sell .sell .ensures (start .pre .limits) (start .pre .file) (start .pre .pins) (start .pre .old) (start .pre .catalogued) (start .pre .listed))
 
 same-length : tie.Need-same-length
