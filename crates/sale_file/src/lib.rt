@@ -25,6 +25,7 @@ pub fn work_file(
     weights: &mut [u32],
     blocks: &mut [u16],
     aboves: &mut [u16],
+    fixed: &mut [u16],
     loadedpins: &mut [u16],
     presentpins: &mut [u16],
     firsts: &mut [u16],
@@ -35,11 +36,11 @@ pub fn work_file(
     visited: &mut [u16],
 ) -> Served
     requires { ⌜ Long (limitsOf vmax bmax) (now output)
-        (lists (now weights) (now blocks) (now aboves) (now loadedpins) (now presentpins) (now firsts) (now loadedsizes) (now presentsizes))
+        (lists (now weights) (now blocks) (now aboves) (now fixed) (now loadedpins) (now presentpins) (now firsts) (now loadedsizes) (now presentsizes))
         (now counts) (now gains) (now visited) ⌝ }
     ensures { λ r. ⌜ Worked (parse (limitsOf vmax bmax) (now (file .entry)))
-        (memory (now (output .entry)) (lent (lists (now (weights .entry)) (now (blocks .entry)) (now (aboves .entry)) (now (loadedpins .entry)) (now (presentpins .entry)) (now (firsts .entry)) (now (loadedsizes .entry)) (now (presentsizes .entry))) (now (counts .entry)) (now (gains .entry)) (now (visited .entry))))
-        (memory (now (output .exit)) (lent (lists (now (weights .exit)) (now (blocks .exit)) (now (aboves .exit)) (now (loadedpins .exit)) (now (presentpins .exit)) (now (firsts .exit)) (now (loadedsizes .exit)) (now (presentsizes .exit))) (now (counts .exit)) (now (gains .exit)) (now (visited .exit))))
+        (memory (now (output .entry)) (lent (lists (now (weights .entry)) (now (blocks .entry)) (now (aboves .entry)) (now (fixed .entry)) (now (loadedpins .entry)) (now (presentpins .entry)) (now (firsts .entry)) (now (loadedsizes .entry)) (now (presentsizes .entry))) (now (counts .entry)) (now (gains .entry)) (now (visited .entry))))
+        (memory (now (output .exit)) (lent (lists (now (weights .exit)) (now (blocks .exit)) (now (aboves .exit)) (now (fixed .exit)) (now (loadedpins .exit)) (now (presentpins .exit)) (now (firsts .exit)) (now (loadedsizes .exit)) (now (presentsizes .exit))) (now (counts .exit)) (now (gains .exit)) (now (visited .exit))))
         (r .code) (r .written) × (r .lots ≡ lotsIn (parse (limitsOf vmax bmax) (now (file .entry)))) ⌝ }
 {
     let mut netweights = [0u16; 1024];
@@ -51,6 +52,7 @@ pub fn work_file(
         weights,
         blocks,
         aboves,
+        fixed,
         loadedpins,
         presentpins,
         firsts,
@@ -74,6 +76,7 @@ pub fn work_file(
                 weights,
                 blocks,
                 aboves,
+                fixed,
                 presentpins,
                 presentsizes,
                 counts,

@@ -81,6 +81,7 @@ pub fn work_list(
     weights: &mut [u32],
     blocks: &mut [u16],
     aboves: &mut [u16],
+    fixed: &mut [u16],
     loadedpins: &mut [u16],
     presentpins: &mut [u16],
     firsts: &mut [u16],
@@ -91,11 +92,11 @@ pub fn work_list(
     visited: &mut [u16],
 ) -> ListRan
     requires { ⌜ Long (limitsOf vmax bmax) (now output)
-        (lists (now weights) (now blocks) (now aboves) (now loadedpins) (now presentpins) (now firsts) (now loadedsizes) (now presentsizes))
+        (lists (now weights) (now blocks) (now aboves) (now fixed) (now loadedpins) (now presentpins) (now firsts) (now loadedsizes) (now presentsizes))
         (now counts) (now gains) (now visited) × (listRefusal (now list) ≡ 0) ⌝ }
     ensures { λ r. ⌜ ListWorked (limitsOf vmax bmax) (parse (limitsOf vmax bmax) (now (file .entry))) (listCalls (now (list .entry)))
-        (memory (now (output .entry)) (lent (lists (now (weights .entry)) (now (blocks .entry)) (now (aboves .entry)) (now (loadedpins .entry)) (now (presentpins .entry)) (now (firsts .entry)) (now (loadedsizes .entry)) (now (presentsizes .entry))) (now (counts .entry)) (now (gains .entry)) (now (visited .entry))))
-        (memory (now (output .exit)) (lent (lists (now (weights .exit)) (now (blocks .exit)) (now (aboves .exit)) (now (loadedpins .exit)) (now (presentpins .exit)) (now (firsts .exit)) (now (loadedsizes .exit)) (now (presentsizes .exit))) (now (counts .exit)) (now (gains .exit)) (now (visited .exit))))
+        (memory (now (output .entry)) (lent (lists (now (weights .entry)) (now (blocks .entry)) (now (aboves .entry)) (now (fixed .entry)) (now (loadedpins .entry)) (now (presentpins .entry)) (now (firsts .entry)) (now (loadedsizes .entry)) (now (presentsizes .entry))) (now (counts .entry)) (now (gains .entry)) (now (visited .entry))))
+        (memory (now (output .exit)) (lent (lists (now (weights .exit)) (now (blocks .exit)) (now (aboves .exit)) (now (fixed .exit)) (now (loadedpins .exit)) (now (presentpins .exit)) (now (firsts .exit)) (now (loadedsizes .exit)) (now (presentsizes .exit))) (now (counts .exit)) (now (gains .exit)) (now (visited .exit))))
         (returned (r .code) (r .written) (r .total) (two (r .stack .into) (r .stack .gone) (r .stack .len)) (two (r .journal .vertices) (r .journal .blocks) (r .journal .len))) ⌝ }
 {
     let mut netweights = [0u16; 1024];
@@ -107,6 +108,7 @@ pub fn work_list(
         weights,
         blocks,
         aboves,
+        fixed,
         loadedpins,
         presentpins,
         firsts,
@@ -135,6 +137,7 @@ pub fn work_list(
                 weights,
                 blocks,
                 aboves,
+                fixed,
                 presentpins,
                 presentsizes,
                 counts,
