@@ -48,13 +48,14 @@ unfolding longMemory longTables
 long-is limits out t counts gains visited short narrow e q =
     let m : Lent = lent t counts gains visited in
     let n : ℕ = limits .vertexLimit in
-    let vs : Bool = leb n (length (t .weights)) && leb n (length (t .blocks)) && leb n (length (t .aboves)) in
+    let vs : Bool = leb n (length (t .weights)) && leb n (length (t .blocks)) && leb n (length (t .aboves)) && leb n (length (t .fixed)) in
     let all : (leb 60000 (length out) && (vs && longLists m && leb 16384 (length counts) && leb (16 * n) (length gains) && leb 1024 (length visited))) ≡ true = sym e ∙ q in
     let v = cut (vs && longLists m && leb 16384 (length counts) && leb (16 * n) (length gains)) 1024 (length visited) (and-right (leb 60000 (length out)) _ all) in
     let g = cut (vs && longLists m && leb 16384 (length counts)) (16 * n) (length gains) (v .0) in
     let c = cut (vs && longLists m) 16384 (length counts) (g .0) in
     let l = lists-of m (and-right vs (longLists m) (c .0)) in
-    let a = cut (leb n (length (t .weights)) && leb n (length (t .blocks))) n (length (t .aboves)) (and-left vs (longLists m) (c .0)) in
+    let x = cut (leb n (length (t .weights)) && leb n (length (t .blocks)) && leb n (length (t .aboves))) n (length (t .fixed)) (and-left vs (longLists m) (c .0)) in
+    let a = cut (leb n (length (t .weights)) && leb n (length (t .blocks))) n (length (t .aboves)) (x .0) in
     let b = cut (leb n (length (t .weights))) n (length (t .blocks)) (a .0) in
     record {
       narrow = narrow;
@@ -64,6 +65,7 @@ long-is limits out t counts gains visited short narrow e q =
         weights = leb-true n (length (t .weights)) (b .0);
         blocks = b .1;
         aboves = a .1;
+        fixed = x .1;
         loadedPins = l .0;
         presentPins = l .1;
         firsts = l .2;

@@ -1,4 +1,4 @@
-// The engine with the lots as three tables, which the entry over records and the program share: 8 is tested first, then the file is
+// The engine with the lots as four tables, which the entry over records and the program share: 8 is tested first, then the file is
 // loaded, and worked to its end or turned down.
 ghost use Prim.Native.Nat.{_≤_};
 ghost use Rattle.model.specs.Lent.{lists, lent, memory};
@@ -8,7 +8,7 @@ use lengths::is_long;
 use sale_file::Served;
 use sale_file::work_file;
 
-// A sale file, the limits of an entry, vmax lots and bmax sessions, and lent memory: the lots' bales, sessions and lots above, vmax each; marks as
+// A sale file, the limits of an entry, vmax lots and bmax sessions, and lent memory: the lots' bales, sessions, lots above and whether each is kept, vmax each; marks as
 // loaded and as they stand, 8,192 each; the buyers' first places, loaded marks and present marks, 1,024 each; counts, 16,384; gains, 16 for
 // each of vmax lots; visited, 1,024; the output, 60,000 bytes.
 pub fn serve(
@@ -19,6 +19,7 @@ pub fn serve(
     weights: &mut [u32],
     blocks: &mut [u16],
     aboves: &mut [u16],
+    fixed: &mut [u16],
     loadedpins: &mut [u16],
     presentpins: &mut [u16],
     firsts: &mut [u16],
@@ -30,8 +31,8 @@ pub fn serve(
 ) -> Served
     requires { ⌜ (vmax ≤ 1024) × (bmax ≤ 16) ⌝ }
     ensures { λ r. ⌜ ServesLots (limitsOf vmax bmax) (now (file .entry))
-        (memory (now (output .entry)) (lent (lists (now (weights .entry)) (now (blocks .entry)) (now (aboves .entry)) (now (loadedpins .entry)) (now (presentpins .entry)) (now (firsts .entry)) (now (loadedsizes .entry)) (now (presentsizes .entry))) (now (counts .entry)) (now (gains .entry)) (now (visited .entry))))
-        (memory (now (output .exit)) (lent (lists (now (weights .exit)) (now (blocks .exit)) (now (aboves .exit)) (now (loadedpins .exit)) (now (presentpins .exit)) (now (firsts .exit)) (now (loadedsizes .exit)) (now (presentsizes .exit))) (now (counts .exit)) (now (gains .exit)) (now (visited .exit))))
+        (memory (now (output .entry)) (lent (lists (now (weights .entry)) (now (blocks .entry)) (now (aboves .entry)) (now (fixed .entry)) (now (loadedpins .entry)) (now (presentpins .entry)) (now (firsts .entry)) (now (loadedsizes .entry)) (now (presentsizes .entry))) (now (counts .entry)) (now (gains .entry)) (now (visited .entry))))
+        (memory (now (output .exit)) (lent (lists (now (weights .exit)) (now (blocks .exit)) (now (aboves .exit)) (now (fixed .exit)) (now (loadedpins .exit)) (now (presentpins .exit)) (now (firsts .exit)) (now (loadedsizes .exit)) (now (presentsizes .exit))) (now (counts .exit)) (now (gains .exit)) (now (visited .exit))))
         (r .code) (r .written) (r .lots) ⌝ }
 {
     if !is_long(
@@ -40,6 +41,7 @@ pub fn serve(
         weights,
         blocks,
         aboves,
+        fixed,
         loadedpins,
         presentpins,
         firsts,
@@ -63,6 +65,7 @@ pub fn serve(
         weights,
         blocks,
         aboves,
+        fixed,
         loadedpins,
         presentpins,
         firsts,
