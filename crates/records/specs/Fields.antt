@@ -12,7 +12,7 @@ use Rattle.records.specs.declared.Lot.{Lot}
 use Rattle.records.specs.Over.{over, length-over, over-entry, map-over}
 
 abbrev pub blank : Lot
-blank = record { bales = 0; session = 0; above = 0 }
+blank = record { bales = 0; session = 0; above = 0; kept = 0 }
 
 abbrev pub balesOf : List Lot → List ℕ
 balesOf lots = map (λ (l : Lot). l .bales) lots
@@ -22,6 +22,9 @@ sessionsOf lots = map (λ (l : Lot). l .session) lots
 
 abbrev pub abovesOf : List Lot → List ℕ
 abovesOf lots = map (λ (l : Lot). l .above) lots
+
+abbrev pub keptOf : List Lot → List ℕ
+keptOf lots = map (λ (l : Lot). l .kept) lots
 
 -- a field's table, once the first n records are written
 pub over-field : (f : Lot → ℕ) (n i : ℕ) (new old : List Lot) → n ≤ length new → getD (map f (over n new old)) i 0 ≡ cond (ltb i n) (getD (map f new) i 0) (getD (map f old) i 0)

@@ -1,4 +1,4 @@
-// The engine on three tables of its own for the lots, and the records that are then to be written.
+// The engine on four tables of its own for the lots, and the records that are then to be written.
 ghost use Prim.Native.Nat.{_≤_};
 ghost use Rattle.model.specs.Lent.{others};
 ghost use Rattle.lines.specs.Line.{limitsOf};
@@ -40,6 +40,7 @@ pub fn core(
             bales: 0,
             session: 0,
             above: 0,
+            kept: 0,
         };
         let none = [blank; 1024];
         return Answer {
@@ -52,6 +53,7 @@ pub fn core(
     let mut weights = [0u32; 1024];
     let mut blocks = [0u16; 1024];
     let mut aboves = [0u16; 1024];
+    let mut fixed = [0u16; 1024];
     let served = serve(
         file,
         vmax,
@@ -60,6 +62,7 @@ pub fn core(
         &mut weights,
         &mut blocks,
         &mut aboves,
+        &mut fixed,
         loadedpins,
         presentpins,
         firsts,
@@ -69,7 +72,7 @@ pub fn core(
         gains,
         visited,
     );
-    let lots = gather(weights, blocks, aboves);
+    let lots = gather(weights, blocks, aboves, fixed);
     Answer {
         n: served.lots,
         lots: lots,

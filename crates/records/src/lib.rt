@@ -1,9 +1,9 @@
-// The lots as records: document 01's lent slice of structs, over the three tables that the engine works on.
+// The lots as records: document 01's lent slice of structs, over the four tables that the engine works on.
 ghost use mathlib.Core.Path.{_≡_};
 ghost use Prim.Native.Nat.{_≤_};
 ghost use lib.ListN.{length};
 ghost use Rattle.records.specs.Over.{over};
-ghost use Rattle.records.specs.Fields.{balesOf, sessionsOf, abovesOf};
+ghost use Rattle.records.specs.Fields.{balesOf, sessionsOf, abovesOf, keptOf};
 
 pub mod answering;
 pub mod limits;
@@ -13,6 +13,7 @@ pub struct Lot {
     pub bales: u32,
     pub session: u16,
     pub above: u16,
+    pub kept: u16,
 }
 
 // The first n records of new go over the first n places of lots; the others keep what they held.
@@ -27,14 +28,20 @@ pub fn write(lots: &mut [Lot], n: usize, new: [Lot; 1024])
     }
 }
 
-// The records of three tables.
-fn gather(weights: [u32; 1024], blocks: [u16; 1024], aboves: [u16; 1024]) -> [Lot; 1024]
-    ensures { λ r. ⌜ (balesOf r ≡ weights) × (sessionsOf r ≡ blocks) × (abovesOf r ≡ aboves) ⌝ }
+// The records of four tables.
+fn gather(
+    weights: [u32; 1024],
+    blocks: [u16; 1024],
+    aboves: [u16; 1024],
+    fixed: [u16; 1024],
+) -> [Lot; 1024]
+    ensures { λ r. ⌜ (balesOf r ≡ weights) × (sessionsOf r ≡ blocks) × (abovesOf r ≡ aboves) × (keptOf r ≡ fixed) ⌝ }
 {
     let blank = Lot {
         bales: 0,
         session: 0,
         above: 0,
+        kept: 0,
     };
     let mut lots = [blank; 1024];
     let mut i: usize = 0;
@@ -43,6 +50,7 @@ fn gather(weights: [u32; 1024], blocks: [u16; 1024], aboves: [u16; 1024]) -> [Lo
             bales: weights[i],
             session: blocks[i],
             above: aboves[i],
+            kept: fixed[i],
         };
         i += 1;
     }

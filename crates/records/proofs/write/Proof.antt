@@ -169,14 +169,14 @@ module _ {M : Type 1} (𝓤 : URA M) (H : Heap 𝓤) (A : Atoms 𝓤) (W : Given
         assigns ! (bin ! (load ! (from ! (stop !)) (look ! 2 refl)) (lit ! tt) (record { fits = times })) (from ! (stop !)) (init ! 4 refl (tt, record { fits = times })) $
         assigns ! (addr ! (from ! (stop !))) (from ! (stop !)) (init ! 5 refl (tt, tt)) $
         assigns ! (bin ! (load ! (from ! (stop !)) (look ! 5 refl)) (load ! (from ! (stop !)) (look ! 4 refl)) tt) (from ! (stop !)) (init ! 6 refl (tt, tt)) $
-        rewrite ! 6 (λ (p : ℕ). ‵ (fat fullShare tyPtr l₉ 0 (vptr l₄ p))) (sym (place-is 8 0 i)) refl $
+        rewrite ! 6 (λ (p : ℕ). ‵ (fat fullShare tyPtr l₉ 0 (vptr l₄ p))) (sym (place-is 12 0 i)) refl $
         move ! (1 ∷ []) $ elem-out ! L.the-row (Is L.the-row) (shows 𝓤 H A L.the-row) vals (LL.tells L.the-type L′.the-laws) fullShare xs i blank l₄ 0 i<xs (λ was.
         assigns ! (of-opd ! (load ! (from ! (hop ! (look ! 8 refl) (stop !))) (look-raw ! 0 refl))) (from ! (stop !)) (init ! 9 refl (LL.lawful L.the-type L′.the-laws 𝓤 H A W .typed (getD xs i blank) _ was .0)) $
         elem-back ! L.the-row fullShare xs i blank (vals (getD xs i blank)) l₄ 0 i<xs $ move ! (1 ∷ 0 ∷ []) $
         -- lots[i] is written
         assigns ! (bin ! (load ! (from ! (stop !)) (look ! 2 refl)) (lit ! tt) (record { fits = times })) (from ! (stop !)) (init ! 8 refl (tt, record { fits = times })) $
         assigns ! (bin ! (load ! (from ! (fld ! refl (stop !))) (look-in ! 10 (sub ! 0 refl (whole !)))) (load ! (from ! (stop !)) (look ! 8 refl)) tt) (from ! (stop !)) (init ! 9 refl (tt, tt)) $
-        rewrite ! 9 (λ (p : ℕ). ‵ (fat fullShare tyPtr l₁₂ 0 (vptr b p))) (sym (place-is 8 o i)) refl $
+        rewrite ! 9 (λ (p : ℕ). ‵ (fat fullShare tyPtr l₁₂ 0 (vptr b p))) (sym (place-is 12 o i)) refl $
         elem-out ! L.the-row (Is L.the-row) (shows 𝓤 H A L.the-row) vals (LL.tells L.the-type L′.the-laws) fullShare (zs i) i blank b o i<zs (λ _.
         assigns ! (of-opd ! (load ! (from ! (stop !)) (look ! 9 refl))) (from ! (hop ! (look ! 11 refl) (stop !))) (store-raw ! 0 refl (LL.lawful L.the-type L′.the-laws 𝓤 H A W .typed (getD xs i blank) _ was .0)) $
         move ! (1 ∷ []) $ drop ! $ owned ! L.the-row (Is L.the-row) (LL.makes L.the-type L′.the-plain 𝓤 H A) (getD xs i blank) _ was $ move ! (1 ∷ 0 ∷ []) $
@@ -195,7 +195,7 @@ module _ {M : Type 1} (𝓤 : URA M) (H : Heap 𝓤) (A : Atoms 𝓤) (W : Given
         i<zs : i < length (zs i)
         i<zs = subst (λ (m : ℕ). i < m) (sym (len i (omega (arith, small)))) i<ys
 
-        times : i * 8 < 2 ^ 64
+        times : i * 12 < 2 ^ 64
         times = omega (arith, i<ys, room .1)
 
         next : i + 1 < 2 ^ 64

@@ -1,4 +1,4 @@
--- `records::answering::core` meets its contract: too few records are 8; else the engine's promise on its own three tables, carried over to the records. Assumes nothing.
+-- `records::answering::core` meets its contract: too few records are 8; else the engine's promise on its own four tables, carried over to the records. Assumes nothing.
 use native.Mathlib.Omega.{arith}
 use borrow.Author.Needs.{needs}
 use Prim.Native.Nat.{ℕ, _≤_}
@@ -25,6 +25,9 @@ slice-aggregate-serve-2 c = search needs
 
 slice-aggregate-serve-3 : tie.Need-slice-aggregate-serve-3
 slice-aggregate-serve-3 c = search needs
+
+slice-aggregate-serve-4 : tie.Need-slice-aggregate-serve-4
+slice-aggregate-serve-4 c = search needs
 
 serve-requires : tie.Need-serve-requires
 serve-requires c κs = search needs
@@ -61,21 +64,21 @@ same-length-9 c = search needs
 
 returns-2 : tie.Need-returns-2
 returns-2 c =
-    let start = c .before .before .before .before .before .before .before .before .before .before .before .before .before .before .before .before .before .before .before .before .before .before .before .before .before .before .before .before .before .before .before .before .before .before .before .before .before .before .before .before .before .before .before .before in
+    let start = c .before .before .before .before .before .before .before .before .before .before .before .before .before .before .before .before .before .before .before .before .before .before .before .before .before .before .before .before .before .before .before .before .before .before .before .before .before .before .before .before .before .before .before .before .before .before in
     let a = start .args in
-    let at-serve = c .before .before .before .before .before .before .before .before .before .before .before .before .before .before .before .before .before .before .before .before .before in
+    let at-serve = c .before .before .before .before .before .before .before .before .before .before .before .before .before .before .before .before .before .before .before .before .before .before in
     let told = at-serve .serve .ensures in
     let last = at-serve .serve .last in
     let zeros : List ℕ = replicate 1024 0 in
     let long : a .vmax ≤ length zeros = omega (arith, length-replicate {A = ℕ} 1024 0, start .pre) in
-    let room : a .vmax ≤ a .room = c .before .before .before .before .before .before .before .before .before .before .before .before .before .before .before .before .before .before .before .before .before .before .before .before .before .before .before .before .before .before .before .before .before .before .if1 .left in
-    let few : at-serve .serve .result .lots ≤ a .vmax = omega (arith, told .lots-are, lots-few (limitsOf (a .vmax) (a .bmax)) (a .file .now) (longMemory (limitsOf (a .vmax) (a .bmax)) (inTables (a .output .now) zeros zeros zeros (others (a .loadedpins .now) (a .presentpins .now) (a .firsts .now) (a .loadedsizes .now) (a .presentsizes .now) (a .counts .now) (a .gains .now) (a .visited .now))))) in
+    let room : a .vmax ≤ a .room = c .before .before .before .before .before .before .before .before .before .before .before .before .before .before .before .before .before .before .before .before .before .before .before .before .before .before .before .before .before .before .before .before .before .before .before .before .if1 .left in
+    let few : at-serve .serve .result .lots ≤ a .vmax = omega (arith, told .lots-are, lots-few (limitsOf (a .vmax) (a .bmax)) (a .file .now) (longMemory (limitsOf (a .vmax) (a .bmax)) (inTables (a .output .now) zeros zeros zeros zeros (others (a .loadedpins .now) (a .presentpins .now) (a .firsts .now) (a .loadedsizes .now) (a .presentsizes .now) (a .counts .now) (a .gains .now) (a .visited .now))))) in
     record {
       fits = omega (arith, few, room);
       small = omega (arith, few, start .pre);
-      serves = λ lots e. serves-records (limitsOf (a .vmax) (a .bmax)) (a .file .now) (a .output .now) (last .1 .1 .1 .0) zeros zeros zeros (last .1 .1 .1 .1 .0) (last .1 .1 .1 .1 .1 .0) (last .1 .1 .1 .1 .1 .1 .0)
-          (others (a .loadedpins .now) (a .presentpins .now) (a .firsts .now) (a .loadedsizes .now) (a .presentsizes .now) (a .counts .now) (a .gains .now) (a .visited .now)) (others (last .1 .1 .1 .1 .1 .1 .1 .0) (last .1 .1 .1 .1 .1 .1 .1 .1 .0) (last .1 .1 .1 .1 .1 .1 .1 .1 .1 .0) (last .1 .1 .1 .1 .1 .1 .1 .1 .1 .1 .0) (last .1 .1 .1 .1 .1 .1 .1 .1 .1 .1 .1 .0) (last .1 .1 .1 .1 .1 .1 .1 .1 .1 .1 .1 .1 .0) (last .1 .1 .1 .1 .1 .1 .1 .1 .1 .1 .1 .1 .1 .0) (last .1 .1 .1 .1 .1 .1 .1 .1 .1 .1 .1 .1 .1 .1 .0)) (c .gather .result) lots (at-serve .serve .result .lots) _ _
-          long long long (omega (arith, e, room)) few (c .gather .ensures) (told .lots-are) (told .serves);
+      serves = λ lots e. serves-records (limitsOf (a .vmax) (a .bmax)) (a .file .now) (a .output .now) (last .1 .1 .1 .0) zeros zeros zeros zeros (last .1 .1 .1 .1 .0) (last .1 .1 .1 .1 .1 .0) (last .1 .1 .1 .1 .1 .1 .0) (last .1 .1 .1 .1 .1 .1 .1 .0)
+          (others (a .loadedpins .now) (a .presentpins .now) (a .firsts .now) (a .loadedsizes .now) (a .presentsizes .now) (a .counts .now) (a .gains .now) (a .visited .now)) (others (last .1 .1 .1 .1 .1 .1 .1 .1 .0) (last .1 .1 .1 .1 .1 .1 .1 .1 .1 .0) (last .1 .1 .1 .1 .1 .1 .1 .1 .1 .1 .0) (last .1 .1 .1 .1 .1 .1 .1 .1 .1 .1 .1 .0) (last .1 .1 .1 .1 .1 .1 .1 .1 .1 .1 .1 .1 .0) (last .1 .1 .1 .1 .1 .1 .1 .1 .1 .1 .1 .1 .1 .0) (last .1 .1 .1 .1 .1 .1 .1 .1 .1 .1 .1 .1 .1 .1 .0) (last .1 .1 .1 .1 .1 .1 .1 .1 .1 .1 .1 .1 .1 .1 .1 .0)) (c .gather .result) lots (at-serve .serve .result .lots) _ _
+          long long long long (omega (arith, e, room)) few (c .gather .ensures) (told .lots-are) (told .serves);
     }
 
 pub core-spec : {M : Type 1} → statement M
@@ -86,6 +89,7 @@ core-spec =
     slice-aggregate-serve
     slice-aggregate-serve-2
     slice-aggregate-serve-3
+    slice-aggregate-serve-4
     serve-requires
     gather-requires
     same-length
