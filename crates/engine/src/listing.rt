@@ -34,6 +34,7 @@ pub extern "C" fn kapokdrill_list(
     weights: &mut [u32],
     blocks: &mut [u16],
     aboves: &mut [u16],
+    fixed: &mut [u16],
     loadedpins: &mut [u16],
     presentpins: &mut [u16],
     firsts: &mut [u16],
@@ -44,8 +45,8 @@ pub extern "C" fn kapokdrill_list(
     visited: &mut [u16],
 ) -> ListRan
     ensures { λ r. ⌜ ListServes mainLimits (now (file .entry)) (now (list .entry))
-        (memory (now (output .entry)) (lent (lists (now (weights .entry)) (now (blocks .entry)) (now (aboves .entry)) (now (loadedpins .entry)) (now (presentpins .entry)) (now (firsts .entry)) (now (loadedsizes .entry)) (now (presentsizes .entry))) (now (counts .entry)) (now (gains .entry)) (now (visited .entry))))
-        (memory (now (output .exit)) (lent (lists (now (weights .exit)) (now (blocks .exit)) (now (aboves .exit)) (now (loadedpins .exit)) (now (presentpins .exit)) (now (firsts .exit)) (now (loadedsizes .exit)) (now (presentsizes .exit))) (now (counts .exit)) (now (gains .exit)) (now (visited .exit))))
+        (memory (now (output .entry)) (lent (lists (now (weights .entry)) (now (blocks .entry)) (now (aboves .entry)) (now (fixed .entry)) (now (loadedpins .entry)) (now (presentpins .entry)) (now (firsts .entry)) (now (loadedsizes .entry)) (now (presentsizes .entry))) (now (counts .entry)) (now (gains .entry)) (now (visited .entry))))
+        (memory (now (output .exit)) (lent (lists (now (weights .exit)) (now (blocks .exit)) (now (aboves .exit)) (now (fixed .exit)) (now (loadedpins .exit)) (now (presentpins .exit)) (now (firsts .exit)) (now (loadedsizes .exit)) (now (presentsizes .exit))) (now (counts .exit)) (now (gains .exit)) (now (visited .exit))))
         (returned (r .code) (r .written) (r .total) (two (r .stack .into) (r .stack .gone) (r .stack .len)) (two (r .journal .vertices) (r .journal .blocks) (r .journal .len))) ⌝ }
 {
     if !is_long(
@@ -54,6 +55,7 @@ pub extern "C" fn kapokdrill_list(
         weights,
         blocks,
         aboves,
+        fixed,
         loadedpins,
         presentpins,
         firsts,
@@ -78,6 +80,7 @@ pub extern "C" fn kapokdrill_list(
         weights,
         blocks,
         aboves,
+        fixed,
         loadedpins,
         presentpins,
         firsts,

@@ -1,4 +1,4 @@
-// The entries that customers call: a sale file and lent memory, the lots as a lent slice of records. The engine works on three tables of its
+// The entries that customers call: a sale file and lent memory, the lots as a lent slice of records. The engine works on four tables of its
 // own, and each lot's record is then written. The two differ in their limits alone. Rests on records.
 ghost use Rattle.model.specs.Catalogue.{mainLimits, fineLimits};
 ghost use Rattle.model.specs.Memory.{Serves};
@@ -32,7 +32,7 @@ pub extern "C" fn kapokdrill_run(
     gains: &mut [i32],
     visited: &mut [u16],
 ) -> Ran
-    ensures { λ r. ⌜ Serves mainLimits (now (file .entry)) (inRecords (λ (l : Lot). l .bales) (λ (l : Lot). l .session) (λ (l : Lot). l .above) (now (output .entry)) (now (lots .entry)) (others (now (loadedpins .entry)) (now (presentpins .entry)) (now (firsts .entry)) (now (loadedsizes .entry)) (now (presentsizes .entry)) (now (counts .entry)) (now (gains .entry)) (now (visited .entry)))) (inRecords (λ (l : Lot). l .bales) (λ (l : Lot). l .session) (λ (l : Lot). l .above) (now (output .exit)) (now (lots .exit)) (others (now (loadedpins .exit)) (now (presentpins .exit)) (now (firsts .exit)) (now (loadedsizes .exit)) (now (presentsizes .exit)) (now (counts .exit)) (now (gains .exit)) (now (visited .exit)))) (r .code) (r .written) ⌝ }
+    ensures { λ r. ⌜ Serves mainLimits (now (file .entry)) (inRecords (λ (l : Lot). l .bales) (λ (l : Lot). l .session) (λ (l : Lot). l .above) (λ (l : Lot). l .kept) (now (output .entry)) (now (lots .entry)) (others (now (loadedpins .entry)) (now (presentpins .entry)) (now (firsts .entry)) (now (loadedsizes .entry)) (now (presentsizes .entry)) (now (counts .entry)) (now (gains .entry)) (now (visited .entry)))) (inRecords (λ (l : Lot). l .bales) (λ (l : Lot). l .session) (λ (l : Lot). l .above) (λ (l : Lot). l .kept) (now (output .exit)) (now (lots .exit)) (others (now (loadedpins .exit)) (now (presentpins .exit)) (now (firsts .exit)) (now (loadedsizes .exit)) (now (presentsizes .exit)) (now (counts .exit)) (now (gains .exit)) (now (visited .exit)))) (r .code) (r .written) ⌝ }
 {
     let answer = at_main(
         file,
@@ -71,7 +71,7 @@ pub extern "C" fn kapokdrill_run_fine(
     gains: &mut [i32],
     visited: &mut [u16],
 ) -> Ran
-    ensures { λ r. ⌜ Serves fineLimits (now (file .entry)) (inRecords (λ (l : Lot). l .bales) (λ (l : Lot). l .session) (λ (l : Lot). l .above) (now (output .entry)) (now (lots .entry)) (others (now (loadedpins .entry)) (now (presentpins .entry)) (now (firsts .entry)) (now (loadedsizes .entry)) (now (presentsizes .entry)) (now (counts .entry)) (now (gains .entry)) (now (visited .entry)))) (inRecords (λ (l : Lot). l .bales) (λ (l : Lot). l .session) (λ (l : Lot). l .above) (now (output .exit)) (now (lots .exit)) (others (now (loadedpins .exit)) (now (presentpins .exit)) (now (firsts .exit)) (now (loadedsizes .exit)) (now (presentsizes .exit)) (now (counts .exit)) (now (gains .exit)) (now (visited .exit)))) (r .code) (r .written) ⌝ }
+    ensures { λ r. ⌜ Serves fineLimits (now (file .entry)) (inRecords (λ (l : Lot). l .bales) (λ (l : Lot). l .session) (λ (l : Lot). l .above) (λ (l : Lot). l .kept) (now (output .entry)) (now (lots .entry)) (others (now (loadedpins .entry)) (now (presentpins .entry)) (now (firsts .entry)) (now (loadedsizes .entry)) (now (presentsizes .entry)) (now (counts .entry)) (now (gains .entry)) (now (visited .entry)))) (inRecords (λ (l : Lot). l .bales) (λ (l : Lot). l .session) (λ (l : Lot). l .above) (λ (l : Lot). l .kept) (now (output .exit)) (now (lots .exit)) (others (now (loadedpins .exit)) (now (presentpins .exit)) (now (firsts .exit)) (now (loadedsizes .exit)) (now (presentsizes .exit)) (now (counts .exit)) (now (gains .exit)) (now (visited .exit)))) (r .code) (r .written) ⌝ }
 {
     let answer = at_fine(
         file,

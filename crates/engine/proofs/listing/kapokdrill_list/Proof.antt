@@ -50,6 +50,9 @@ same-length-11 c = search needs
 same-length-12 : tie.Need-same-length-12
 same-length-12 c = search needs
 
+same-length-13 : tie.Need-same-length-13
+same-length-13 c = search needs
+
 returns : tie.Need-returns
 returns c = untouched-8 mainLimits _ _ _ _ (c .before .before .is-long .ensures _ refl) (not-true _ (c .before .if1 .taken)) (c .refused-list .ensures .0) (c .refused-list .ensures .1) (c .refused-list .ensures .2)
 
@@ -58,9 +61,6 @@ list-refusal-requires c κs = search needs
 
 refused-list-requires-2 : tie.Need-refused-list-requires-2
 refused-list-requires-2 c κs = search needs
-
-same-length-13 : tie.Need-same-length-13
-same-length-13 c = search needs
 
 same-length-14 : tie.Need-same-length-14
 same-length-14 c = search needs
@@ -95,6 +95,12 @@ same-length-23 c = search needs
 same-length-24 : tie.Need-same-length-24
 same-length-24 c = search needs
 
+same-length-25 : tie.Need-same-length-25
+same-length-25 c = search needs
+
+same-length-26 : tie.Need-same-length-26
+same-length-26 c = search needs
+
 returns-2 : tie.Need-returns-2
 returns-2 c =
     let at-if1 = c .before .before .before in
@@ -103,41 +109,49 @@ returns-2 c =
 
 work-list-requires : tie.Need-work-list-requires
 work-list-requires c κs =
-    let at-if2 = c .before .before .before .before .before .before .before .before .before .before .before .before in
+    let at-if2 = c .before .before .before .before .before .before .before .before .before .before .before .before .before in
     let at-list-refusal = at-if2 .before in
     let at-if1 = at-list-refusal .before in
     let at-is-long = at-if1 .before in
     (long-is mainLimits _ _ _ _ _ (omega arith) (omega arith) (at-is-long .is-long .ensures _ refl) (not-false _ (at-if1 .if1 .left)), sym (at-list-refusal .list-refusal .ensures) ∙ at-if2 .if2 .left)
 
-same-length-25 : tie.Need-same-length-25
-same-length-25 c = search needs
-
-same-length-26 : tie.Need-same-length-26
-same-length-26 c = search needs
-
 same-length-27 : tie.Need-same-length-27
 same-length-27 c = search needs
 
 same-length-28 : tie.Need-same-length-28
-same-length-28 c = search needs
+same-length-28 c =
+    let at-work-list = c .before .before .before .before .before .before .before .before .before .before .before .before .before .before .before .before .before .before .before .before .before .before .before .before .before in
+    omega (arith, at-work-list .work-list .kept)
 
 same-length-29 : tie.Need-same-length-29
-same-length-29 c = search needs
+same-length-29 c =
+    let at-work-list = c .before .before .before .before .before .before .before .before .before .before .before .before .before .before .before .before .before .before .before .before .before .before .before .before .before in
+    omega (arith, at-work-list .work-list .kept)
 
 same-length-30 : tie.Need-same-length-30
-same-length-30 c = search needs
+same-length-30 c =
+    let at-work-list = c .before .before .before .before .before .before .before .before .before .before .before .before .before .before .before .before .before .before .before .before .before .before .before .before .before in
+    omega (arith, at-work-list .work-list .kept)
 
 same-length-31 : tie.Need-same-length-31
-same-length-31 c = search needs
+same-length-31 c =
+    let at-work-list = c .before .before .before .before .before .before .before .before .before .before .before .before .before .before .before .before .before .before .before .before .before .before .before .before .before in
+    omega (arith, at-work-list .work-list .kept)
 
 same-length-32 : tie.Need-same-length-32
-same-length-32 c = search needs
+same-length-32 c =
+    let at-work-list = c .before .before .before .before .before .before .before .before .before .before .before .before .before .before .before .before .before .before .before .before .before .before .before .before .before in
+    omega (arith, at-work-list .work-list .kept)
 
 same-length-33 : tie.Need-same-length-33
-same-length-33 c = search needs
+same-length-33 c =
+    let at-work-list = c .before .before .before .before .before .before .before .before .before .before .before .before .before .before .before .before .before .before .before .before .before .before .before .before .before in
+    omega (arith, at-work-list .work-list .kept)
 
 same-length-34 : tie.Need-same-length-34
-same-length-34 c = search needs
+same-length-34 c =
+    let at-work-list = c .before .before .before .before .before .before .before .before .before .before .before .before .before .before .before .before .before .before .before .before .before .before .before .before .before in
+    omega (arith, at-work-list .work-list .kept)
 
 same-length-35 : tie.Need-same-length-35
 same-length-35 c = search needs
@@ -145,10 +159,19 @@ same-length-35 c = search needs
 same-length-36 : tie.Need-same-length-36
 same-length-36 c = search needs
 
+same-length-37 : tie.Need-same-length-37
+same-length-37 c = search needs
+
+same-length-38 : tie.Need-same-length-38
+same-length-38 c = search needs
+
+same-length-39 : tie.Need-same-length-39
+same-length-39 c = search needs
+
 returns-3 : tie.Need-returns-3
 returns-3 c =
-    let at-work-list = c .before .before .before .before .before .before .before .before .before .before .before .before .before .before .before .before .before .before .before .before .before .before .before in
-    let at-if2 = at-work-list .before .before .before .before .before .before .before .before .before .before .before .before .before in
+    let at-work-list = c .before .before .before .before .before .before .before .before .before .before .before .before .before .before .before .before .before .before .before .before .before .before .before .before .before in
+    let at-if2 = at-work-list .before .before .before .before .before .before .before .before .before .before .before .before .before .before in
     let at-list-refusal = at-if2 .before in
     let at-if1 = at-list-refusal .before in
     let at-is-long = at-if1 .before in
@@ -172,10 +195,10 @@ kapokdrill-list-spec =
     same-length-10
     same-length-11
     same-length-12
+    same-length-13
     returns
     list-refusal-requires
     refused-list-requires-2
-    same-length-13
     same-length-14
     same-length-15
     same-length-16
@@ -187,10 +210,10 @@ kapokdrill-list-spec =
     same-length-22
     same-length-23
     same-length-24
-    returns-2
-    work-list-requires
     same-length-25
     same-length-26
+    returns-2
+    work-list-requires
     same-length-27
     same-length-28
     same-length-29
@@ -201,4 +224,7 @@ kapokdrill-list-spec =
     same-length-34
     same-length-35
     same-length-36
+    same-length-37
+    same-length-38
+    same-length-39
     returns-3)
