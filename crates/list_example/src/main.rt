@@ -9,6 +9,7 @@ fn main() {
     let mut weights = [0u32; 1024];
     let mut blocks = [0u16; 1024];
     let mut aboves = [0u16; 1024];
+    let mut fixed = [0u16; 1024];
     let mut loadedpins = [0u16; 8192];
     let mut presentpins = [0u16; 8192];
     let mut firsts = [0u16; 1024];
@@ -27,6 +28,7 @@ fn main() {
         &mut weights,
         &mut blocks,
         &mut aboves,
+        &mut fixed,
         &mut loadedpins,
         &mut presentpins,
         &mut firsts,
