@@ -24,13 +24,15 @@ pub record Net : Type 0 where
   pub pins : List ℕ
 
 -- vertex: a lot. block: a session. imbalance: the slack in thousandths.
--- totalWeight: W, the bales that the catalogue's lines announce, all together.
--- weights: the loaded bales of the lots 1, 2, ..; draft: their sessions in the file; fixed: 1 for each lot that is kept, else 0 (M-104);
+-- totalWeight: W, the bales that the catalogue's lines announce, all together: in an estimate the lows (M-109).
+-- lows, weights: the least and the most bales of the lots 1, 2, ..; in a sale that is no estimate both are the bales of its line. All but W goes by
+-- the most, which are the loaded bales. draft: their sessions in the file; fixed: 1 for each lot that is kept, else 0 (M-104);
 -- nets: the buyers 1, 2, ..
 pub record Hypergraph : Type 0 where
   pub blocks : ℕ
   pub imbalance : ℕ
   pub totalWeight : ℕ
+  pub lows : List ℕ
   pub weights : List ℕ
   pub draft : List ℕ
   pub fixed : List ℕ
@@ -43,6 +45,10 @@ vertices h = length (h .weights)
 -- a lot's bales, as loaded
 abbrev pub loaded : Hypergraph → ℕ → ℕ
 loaded h v = getD (h .weights) (v - 1) 0
+
+-- a lot's least bales
+abbrev pub least : Hypergraph → ℕ → ℕ
+least h v = getD (h .lows) (v - 1) 0
 
 -- a lot's session in the draft; 0 for no lot
 abbrev pub drafted : Hypergraph → ℕ → ℕ

@@ -40,7 +40,7 @@ netOf e = record { weight = e .weight; pins = e .pins }
 
 -- lots, buyers and marks in the input's order, and block b as session b + 1
 unfoldable pub catalogueOf : Hmetis → Hypergraph
-catalogueOf f = record { blocks = f .blocks; imbalance = f .imbalance; totalWeight = sumOver (f .weights) (λ w. w); weights = f .weights; draft = map suc (f .listing); fixed = map (λ b. 0) (f .listing); nets = map netOf (f .edges) }
+catalogueOf f = record { blocks = f .blocks; imbalance = f .imbalance; totalWeight = sumOver (f .weights) (λ w. w); lows = f .weights; weights = f .weights; draft = map suc (f .listing); fixed = map (λ b. 0) (f .listing); nets = map netOf (f .edges) }
 
 -- no session is overfull, and the text has its length (18 again)
 unfoldable pub fits : Hypergraph → Bool

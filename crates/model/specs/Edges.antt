@@ -2,6 +2,7 @@
 -- computing, by refusal. Rests on Grammar and Report. Assumes nothing.
 use Prim.Native.Nat.{ℕ, zero, suc}
 use mathlib.Core.Path.{_≡_, refl}
+use mathlib.Core.Bool.{true, false}
 use mathlib.Core.List.{List, [], _∷_, _++_}
 use Rattle.laws.specs.Sum.{sum, sumTo, foldTo}
 use Rattle.laws.specs.Fold.{sumOver, any, all}
@@ -34,7 +35,7 @@ nineMarks = bytes "BUY,1,1,2,3,4,5,6,7,8,9\n"
 
 -- a catalogue of one lot
 abbrev pub oneLot : Hypergraph
-oneLot = record { blocks = 2; imbalance = 0; totalWeight = 1; weights = 1 ∷ []; draft = 1 ∷ []; fixed = 0 ∷ []; nets = [] }
+oneLot = record { blocks = 2; imbalance = 0; totalWeight = 1; lows = 1 ∷ []; weights = 1 ∷ []; draft = 1 ∷ []; fixed = 0 ∷ []; nets = [] }
 
 pub edges :
     -- 1: 60,001 bytes on line 0; 60,000 are read
@@ -96,16 +97,18 @@ pub edges :
     × (says (bytes "SALE,1,0,2,0\nLOT,7,1\nx\n") ≡ stopped 6 2)
     -- accepted: slack 1,000; the greatest numbers of the lines; no buyer, no call
     × (says (bytes "SALE,1,0,2,1000\nLOT,65535,1\n") ≡ reading (record {
+      estimated = false;
       lots = 1;
       buyers = 0;
-      graph = record { blocks = 2; imbalance = 1000; totalWeight = 65535; weights = 65535 ∷ []; draft = 1 ∷ []; fixed = 0 ∷ []; nets = [] };
+      graph = record { blocks = 2; imbalance = 1000; totalWeight = 65535; lows = 65535 ∷ []; weights = 65535 ∷ []; draft = 1 ∷ []; fixed = 0 ∷ []; nets = [] };
       marks = 0;
       calls = [];
     }))
     × (says (bytes "SALE,1,1,16,1000\nLOT,1,16\nBUY,1000,1\nM,999999999,0\nW,1,1\n") ≡ reading (record {
+      estimated = false;
       lots = 1;
       buyers = 1;
-      graph = record { blocks = 16; imbalance = 1000; totalWeight = 1; weights = 1 ∷ []; draft = 16 ∷ []; fixed = 0 ∷ []; nets = record { weight = 1000; pins = 1 ∷ [] } ∷ [] };
+      graph = record { blocks = 16; imbalance = 1000; totalWeight = 1; lows = 1 ∷ []; weights = 1 ∷ []; draft = 16 ∷ []; fixed = 0 ∷ []; nets = record { weight = 1000; pins = 1 ∷ [] } ∷ [] };
       marks = 1;
       calls = callM 999999999 0 ∷ callW 1 1 ∷ [];
     }))
@@ -115,9 +118,10 @@ edges = (refl, refl, refl, refl, refl, refl, refl, refl, refl, refl, refl, refl,
 -- M-104: a LOT line may end in `,K`. Any other end is 2, and so is `,K` on another line; the form of the whole line comes before its ranges
 pub kept-edges :
     (says (bytes "SALE,2,0,2,1000\nLOT,7,1,K\nLOT,6,2\n") ≡ reading (record {
+      estimated = false;
       lots = 2;
       buyers = 0;
-      graph = record { blocks = 2; imbalance = 1000; totalWeight = 13; weights = 7 ∷ 6 ∷ []; draft = 1 ∷ 2 ∷ []; fixed = 1 ∷ 0 ∷ []; nets = [] };
+      graph = record { blocks = 2; imbalance = 1000; totalWeight = 13; lows = 7 ∷ 6 ∷ []; weights = 7 ∷ 6 ∷ []; draft = 1 ∷ 2 ∷ []; fixed = 1 ∷ 0 ∷ []; nets = [] };
       marks = 0;
       calls = [];
     }))
@@ -140,6 +144,37 @@ pub kept-edges :
     × (says (bytes "SALE,1,0,2,0\nLOT,7,1,K\n") ≡ stopped 6 2)
 unfolding sum sumTo foldTo sumOver any all averageWeight nearest capacity above climb representative weight blockWeight bytes same parts isNumber onward value fields isLine saleLine overfull grown withLot endsInK beforeK lotLine mark marking withNet netRead buyLine asked withCall callLine line ending lines parse
 kept-edges = (refl, refl, refl, refl, refl, refl, refl, refl, refl, refl, refl, refl, refl, refl, refl, refl, refl, refl)
+
+-- M-109, an estimate: low and high, then 21, then the session; `,K` behind them as in a sale. W is the sum of the lows
+pub estimate-edges :
+    (says (bytes "EST,2,0,2,1000\nLOT,5,7,1,K\nLOT,6,6,2\n") ≡ reading (record {
+      estimated = true;
+      lots = 2;
+      buyers = 0;
+      graph = record { blocks = 2; imbalance = 1000; totalWeight = 11; lows = 5 ∷ 6 ∷ []; weights = 7 ∷ 6 ∷ []; draft = 1 ∷ 2 ∷ []; fixed = 1 ∷ 0 ∷ []; nets = [] };
+      marks = 0;
+      calls = [];
+    }))
+    -- form: three numbers in an estimate, two in a sale
+    × (says (bytes "EST,1,0,2,1000\nLOT,7,1\n") ≡ stopped 2 2)
+    × (says (bytes "EST,1,0,2,1000\nLOT,7,1,K\n") ≡ stopped 2 2)
+    × (says (bytes "EST,1,0,2,1000\nLOT,7,7,1,1\n") ≡ stopped 2 2)
+    × (says (bytes "SALE,1,0,2,1000\nLOT,7,7,1\n") ≡ stopped 2 2)
+    × (says (bytes "ESTI,1,0,2,1000\n") ≡ stopped 2 1)
+    -- low 3, high 3, 21, session 3, in this order
+    × (says (bytes "EST,1,0,2,1000\nLOT,0,7,1\n") ≡ stopped 3 2)
+    × (says (bytes "EST,1,0,2,1000\nLOT,7,0,1\n") ≡ stopped 3 2)
+    × (says (bytes "EST,1,0,2,1000\nLOT,65536,7,1\n") ≡ stopped 3 2)
+    × (says (bytes "EST,1,0,2,1000\nLOT,7,65536,1\n") ≡ stopped 3 2)
+    × (says (bytes "EST,1,0,2,1000\nLOT,8,7,1\n") ≡ stopped 21 2)
+    × (says (bytes "EST,1,0,2,1000\nLOT,8,7,3\n") ≡ stopped 21 2)
+    × (says (bytes "EST,1,0,2,1000\nLOT,7,8,3\n") ≡ stopped 3 2)
+    × (says (bytes "EST,1,0,2,1000\nLOT,8,7,x\n") ≡ stopped 2 2)
+    -- 6: the highs of a session against the cap of the lows
+    × (says (bytes "EST,2,0,2,0\nLOT,5,6,1\nLOT,5,5,2\n") ≡ stopped 6 3)
+    × (says (bytes "SALE,2,0,2,0\nLOT,6,1\nLOT,5,2\nx\n") ≡ stopped 2 4)
+unfolding sum sumTo foldTo sumOver any all averageWeight nearest capacity above climb representative weight blockWeight bytes same parts isNumber onward value fields isLine saleLine overfull grown withLot endsInK beforeK lotLine mark marking withNet netRead buyLine asked withCall callLine line ending lines parse
+estimate-edges = (refl, refl, refl, refl, refl, refl, refl, refl, refl, refl, refl, refl, refl, refl, refl, refl)
 
 -- M-102, the superfine desk's entry: 257 lots and 9 sessions are out of range; 256 and 8 are read, so that the first LOT line is missing
 pub fine-edges :

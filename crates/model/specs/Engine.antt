@@ -28,7 +28,7 @@ pub record Outcome : Type 0 where
   pub code : ℕ
   pub report : List ℕ
 
--- 1 to 7 write NO,number,line alone; `unread` does not come: a file without a first line is 2 on line 1
+-- 1 to 7 and 21 write NO,number,line alone; `unread` does not come: a file without a first line is 2 on line 1
 unfoldable pub outcome : Reading → Outcome
 outcome unread = record { code = 2; report = row "NO" (digits 2 ∷ digits 1 ∷ []) }
 outcome (stopped q n) = record { code = q; report = row "NO" (digits q ∷ digits n ∷ []) }

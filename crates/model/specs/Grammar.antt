@@ -1,4 +1,4 @@
--- Document 01, "The sale file" and "When the hammer stays up": lines, fields, numbers, and the refusals 1 to 7 in order. Rests on
+-- Document 01, "The sale file" and "When the hammer stays up": lines, fields, numbers, and the refusals 1 to 7 and 21 in order. Rests on
 -- Machine for the calls and on Measure for the draft's weights. Assumes nothing.
 use Prim.Native.Nat.{ℕ, zero, suc, _+_, _-_, _*_}
 use Prim.Native.String.{String, [] as endText, _∷_ as _then_}
@@ -79,8 +79,10 @@ abbrev pub isLineOf : String → ℕ → Fields → Bool
 isLineOf word n fs = isLine word fs && eqb (length fs) (suc n)
 
 -- ---- reading, line by line
--- what has been read: the numbers of lots and buyers that the first line announces, the catalogue so far, its marks, the calls
+-- what has been read: whether the file is an estimate (M-109), the numbers of lots and buyers that the first line announces, the catalogue so
+-- far, its marks, the calls
 pub record Book : Type 0 where
+  pub estimated : Bool
   pub lots : ℕ
   pub buyers : ℕ
   pub graph : Hypergraph
@@ -97,15 +99,16 @@ pub data Reading : Type 0 where
 abbrev pub within : ℕ → ℕ → ℕ → Bool
 within low high x = leb low x && leb x high
 
--- SALE,lots,buyers,sessions,slack
+-- SALE,lots,buyers,sessions,slack; an estimate starts with EST in place of SALE (M-109)
 unfoldable pub saleLine : Limits → ℕ → Fields → Reading
 saleLine limits n fs =
-    cond (not (isLineOf "SALE" 4 fs)) (stopped 2 n)
+    cond (not (isLineOf "SALE" 4 fs || isLineOf "EST" 4 fs)) (stopped 2 n)
     (cond (not (within 1 (limits .vertexLimit) (at fs 1) && within 0 1024 (at fs 2) && within 2 (limits .blockLimit) (at fs 3) && within 0 1000 (at fs 4))) (stopped 3 n)
     (reading (record {
+      estimated = isLineOf "EST" 4 fs;
       lots = at fs 1;
       buyers = at fs 2;
-      graph = record { blocks = at fs 3; imbalance = at fs 4; totalWeight = 0; weights = []; draft = []; fixed = []; nets = [] };
+      graph = record { blocks = at fs 3; imbalance = at fs 4; totalWeight = 0; lows = []; weights = []; draft = []; fixed = []; nets = [] };
       marks = 0;
       calls = [];
     })))
@@ -122,13 +125,14 @@ overfull h = foldTo (h .blocks) (λ b s. b || ltb (capacity h) (blockWeight h []
 unfoldable pub grown : ℕ → Book → Reading
 grown n k = cond (whole k && overfull (k .graph)) (stopped 6 n) (reading k)
 
--- one lot more, with its bales, its session and whether it is kept
-unfoldable pub withLot : Hypergraph → ℕ → ℕ → Bool → Hypergraph
-withLot h w b fixed = record {
+-- one lot more, with its least and its most bales, its session and whether it is kept
+unfoldable pub withLot : Hypergraph → ℕ → ℕ → ℕ → Bool → Hypergraph
+withLot h low high b fixed = record {
   blocks = h .blocks;
   imbalance = h .imbalance;
-  totalWeight = h .totalWeight + w;
-  weights = h .weights ++ (w ∷ []);
+  totalWeight = h .totalWeight + low;
+  lows = h .lows ++ (low ∷ []);
+  weights = h .weights ++ (high ∷ []);
   draft = h .draft ++ (b ∷ []);
   fixed = h .fixed ++ (one fixed ∷ []);
   nets = h .nets;
@@ -142,18 +146,25 @@ endsInK l = leb 2 (length l) && eqb (getD l (length l - 2) 0) 44 && eqb (getD l 
 unfoldable pub beforeK : List ℕ → List ℕ
 beforeK l = cond (endsInK l) (take (length l - 2) l) l
 
--- LOT,bales,session, and whether `,K` stood behind it
+-- LOT,bales,session, or in an estimate LOT,low,high,session; and whether `,K` stood behind it. A low above its high is 21
 unfoldable pub lotLine : ℕ → Book → Bool → Fields → Reading
 lotLine n k fixed fs =
-    cond (not (isLineOf "LOT" 2 fs)) (stopped 2 n)
-    (cond (not (within 1 65535 (at fs 1) && isBlock (k .graph) (at fs 2))) (stopped 3 n)
+    let numbers : ℕ = cond (k .estimated) 3 2 in
+    let low : ℕ = at fs 1 in
+    let high : ℕ = at fs (numbers - 1) in
+    let session : ℕ = at fs numbers in
+    cond (not (isLineOf "LOT" numbers fs)) (stopped 2 n)
+    (cond (not (within 1 65535 low && within 1 65535 high)) (stopped 3 n)
+    (cond (ltb high low) (stopped 21 n)
+    (cond (not (isBlock (k .graph) session)) (stopped 3 n)
     (grown n (record {
+      estimated = k .estimated;
       lots = k .lots;
       buyers = k .buyers;
-      graph = withLot (k .graph) (at fs 1) (at fs 2) fixed;
+      graph = withLot (k .graph) low high session fixed;
       marks = k .marks;
       calls = [];
-    })))
+    })))))
 
 -- the marks of a buyer so far, with how many there are in all; or the first refusal
 pub data Marking : Type 0 where
@@ -175,12 +186,13 @@ marking h m (f ∷ fs) = marking h (mark h m (value f)) fs
 
 -- one buyer more
 unfoldable pub withNet : Hypergraph → ℕ → List ℕ → Hypergraph
-withNet h w vs = record { blocks = h .blocks; imbalance = h .imbalance; totalWeight = h .totalWeight; weights = h .weights; draft = h .draft; fixed = h .fixed; nets = h .nets ++ (record { weight = w; pins = vs } ∷ []) }
+withNet h w vs = record { blocks = h .blocks; imbalance = h .imbalance; totalWeight = h .totalWeight; lows = h .lows; weights = h .weights; draft = h .draft; fixed = h .fixed; nets = h .nets ++ (record { weight = w; pins = vs } ∷ []) }
 
 -- a buyer with its marks
 unfoldable pub netRead : ℕ → Book → ℕ → Marking → Reading
 netRead n k w (wrong q) = stopped q n
 netRead n k w (marked vs m) = grown n (record {
+  estimated = k .estimated;
   lots = k .lots;
   buyers = k .buyers;
   graph = withNet (k .graph) w vs;
@@ -214,7 +226,7 @@ asked fs =
 -- one call more, or 2
 unfoldable pub withCall : ℕ → Book → Asked → Reading
 withCall n k nothing = stopped 2 n
-withCall n k (asks c) = reading (record { lots = k .lots; buyers = k .buyers; graph = k .graph; marks = k .marks; calls = k .calls ++ (c ∷ []) })
+withCall n k (asks c) = reading (record { estimated = k .estimated; lots = k .lots; buyers = k .buyers; graph = k .graph; marks = k .marks; calls = k .calls ++ (c ∷ []) })
 
 -- 512 calls are there
 abbrev pub full : Book → Bool

@@ -3,13 +3,14 @@
 -- Measure    representative, pins, pin counts, weights, connectivity metric, gain and its halves
 -- Machine    the plain machine's state; the calls J, S, M, B and their refusals
 -- Search     the best pair, walks, polish, ratings; the calls W, P, A; what every call does
--- Grammar    the sale file: lines, fields, numbers, refusals 1 to 7
+-- Grammar    the sale file: lines, fields, numbers, refusals 1 to 7 and 21
 -- Report     answers and the closing report as bytes
 -- Engine     a list of calls; the file to a code and a report
 -- Memory     lent memory: what each table holds, what is free, what keeps; what the engine leaves
 -- Clump      request M-108: what a clump's gain means in the unjoined catalogue
 -- Lent       how lent slices, returned arrays and lists of numbers read as lent memory, stack, record of moves and calls
 -- Demand     demand 3, one statement about a catalogue and a list of calls
+-- Estimate   request M-109: what holds of every count of bales within the ranges
 -- ListEntry  what the entry for a catalogue and a list of calls apart returns and leaves
 -- Order      request M-110: the order of moves, and when two sets of tables are the same, free layouts aside
 -- Hmetis     what a converter's input says: an hMETIS file and its partition listing; M-100
@@ -33,6 +34,7 @@ pub mod Memory
 pub mod Clump
 pub mod Lent
 pub mod Demand
+pub mod Estimate
 pub mod ListEntry
 pub mod Order
 pub mod Table

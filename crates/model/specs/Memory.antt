@@ -155,13 +155,13 @@ pub record Written (report old new : List ℕ) (written : ℕ) : Type 0 where
   pub bytes : written ≡ length report
   pub output : new ≡ report ++ drop written old
 
--- after an accepted file all tables are told; after 1 to 7 they are free
+-- after an accepted file all tables are told; after 1 to 7 and 21 they are free
 abbrev pub TablesLeft : Reading → Tables → Tables → Type 0
 TablesLeft (reading k) old new = Holds (k .graph) (after (k .graph) (fresh (k .graph)) (k .calls)) old new
 TablesLeft (stopped q n) old new = Unit {0}
 TablesLeft unread old new = Unit {0}
 
--- 0 or 1 to 7: the code, the output and the tables
+-- 0, 1 to 7 or 21: the code, the output and the tables
 pub record Worked (r : Reading) (old new : Memory) (code written : ℕ) : Type 0 where
   pub code-is : code ≡ outcome r .code
   pub output : Written (outcome r .report) (old .output) (new .output) written

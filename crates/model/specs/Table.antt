@@ -21,6 +21,7 @@ five = record {
   blocks = 2;
   imbalance = 200;
   totalWeight = 50;
+  lows = 10 ∷ 10 ∷ 10 ∷ 10 ∷ 10 ∷ [];
   weights = 10 ∷ 10 ∷ 10 ∷ 10 ∷ 10 ∷ [];
   draft = 1 ∷ 1 ∷ 2 ∷ 2 ∷ 1 ∷ [];
   fixed = 0 ∷ 0 ∷ 0 ∷ 0 ∷ 0 ∷ [];
@@ -33,22 +34,22 @@ joined = record { into = 2; gone = 5 } ∷ []
 
 -- W 51, k 2, slack 100
 abbrev pub fiftyOne : Hypergraph
-fiftyOne = record { blocks = 2; imbalance = 100; totalWeight = 51; weights = 50 ∷ 1 ∷ []; draft = 1 ∷ 2 ∷ []; fixed = 0 ∷ 0 ∷ []; nets = [] }
+fiftyOne = record { blocks = 2; imbalance = 100; totalWeight = 51; lows = 50 ∷ 1 ∷ []; weights = 50 ∷ 1 ∷ []; draft = 1 ∷ 2 ∷ []; fixed = 0 ∷ 0 ∷ []; nets = [] }
 
 -- one lot of w bales in two sessions, and a slack
 abbrev pub lotOf : ℕ → ℕ → Hypergraph
-lotOf w slack = record { blocks = 2; imbalance = slack; totalWeight = w; weights = w ∷ []; draft = 1 ∷ []; fixed = 0 ∷ []; nets = [] }
+lotOf w slack = record { blocks = 2; imbalance = slack; totalWeight = w; lows = w ∷ []; weights = w ∷ []; draft = 1 ∷ []; fixed = 0 ∷ []; nets = [] }
 
 -- a buyer with one mark
 abbrev pub oneMark : Hypergraph
-oneMark = record { blocks = 2; imbalance = 0; totalWeight = 1; weights = 1 ∷ []; draft = 1 ∷ []; fixed = 0 ∷ []; nets = record { weight = 7; pins = 1 ∷ [] } ∷ [] }
+oneMark = record { blocks = 2; imbalance = 0; totalWeight = 1; lows = 1 ∷ []; weights = 1 ∷ []; draft = 1 ∷ []; fixed = 0 ∷ []; nets = record { weight = 7; pins = 1 ∷ [] } ∷ [] }
 
 -- lot i in session i, and a buyer of weight 1,000 with a mark at each
 abbrev sixteen : List ℕ
 sixteen = 1 ∷ 2 ∷ 3 ∷ 4 ∷ 5 ∷ 6 ∷ 7 ∷ 8 ∷ 9 ∷ 10 ∷ 11 ∷ 12 ∷ 13 ∷ 14 ∷ 15 ∷ 16 ∷ []
 
 abbrev pub spread : Hypergraph
-spread = record { blocks = 16; imbalance = 0; totalWeight = 136; weights = sixteen; draft = sixteen; fixed = map (λ v. 0) sixteen; nets = record { weight = 1000; pins = sixteen } ∷ [] }
+spread = record { blocks = 16; imbalance = 0; totalWeight = 136; lows = sixteen; weights = sixteen; draft = sixteen; fixed = map (λ v. 0) sixteen; nets = record { weight = 1000; pins = sixteen } ∷ [] }
 
 -- the starred cases in document 01's order
 pub table :
@@ -96,6 +97,7 @@ clumped = record {
   blocks = 2;
   imbalance = 1000;
   totalWeight = 5;
+  lows = 1 ∷ 1 ∷ 1 ∷ 1 ∷ 1 ∷ [];
   weights = 1 ∷ 1 ∷ 1 ∷ 1 ∷ 1 ∷ [];
   draft = 1 ∷ 1 ∷ 1 ∷ 2 ∷ 1 ∷ [];
   fixed = 0 ∷ 0 ∷ 0 ∷ 0 ∷ 0 ∷ [];
@@ -143,6 +145,7 @@ fiveKept = record {
   blocks = five .blocks;
   imbalance = five .imbalance;
   totalWeight = five .totalWeight;
+  lows = five .lows;
   weights = five .weights;
   draft = five .draft;
   fixed = 0 ∷ 0 ∷ 0 ∷ 0 ∷ 1 ∷ [];

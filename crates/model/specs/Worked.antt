@@ -39,5 +39,7 @@ pub sales :
     × Gives "SALE,3,0,2,1000\nLOT,10,1\nLOT,10,1\nLOT,5,1\nW,1,1\nW,3,3\nW,1,1\n" "W,1,1,0\nW,1,0,0\nW,1,0,0\nTOTAL,0,0\nLOT,1,2\nLOT,2,1\nLOT,3,1\n"
     -- M-104: the worked sale with lot 1 kept: M on it is 20 after 12, P and A leave it, W on it moves nothing; 2 is kept while 1 is joined into it
     × Gives "SALE,5,3,2,200\nLOT,10,1,K\nLOT,10,1\nLOT,10,2\nLOT,10,2\nLOT,10,1\nBUY,3,1,3\nBUY,2,2,5\nBUY,1,3,4\nM,1,1\nM,1,2\nP\nW,1,1\nJ,2,1\nM,2,1\nM,2,2\nS\nM,2,2\nM,1,2\nB\nA\n" "NO,12\nNO,20\nP,0,3\nW,0,0,3\nJ,20\nNO,12\nNO,20\nS,2,1\nM,0,2,5\nNO,20\nB,2,1,3\nA,1,1,0,0,3\nTOTAL,3,3\nLOT,1,1\nLOT,2,1\nLOT,3,2\nLOT,4,2\nLOT,5,1\nBUY,1,2\nBUY,2,1\nBUY,3,1\n"
+    -- M-109: three lots of a buyer; by the lows ⌈W/k⌉ is 12, so that A joins no pair of highs 14
+    × Gives "EST,5,1,2,1000\nLOT,4,7,1\nLOT,4,7,1\nLOT,4,7,1\nLOT,6,6,2\nLOT,6,6,2\nBUY,1,1,2,3\nJ,1,2\nS\nM,1,2\nM,2,2\nB\nB\nA\n" "J,14\nS,1,2\nM,0,1,1\nNO,14\nB,1,1,0\nNO,15\nA,0,0,0,0,0\nTOTAL,0,0\nLOT,1,1\nLOT,2,1\nLOT,3,1\nLOT,4,2\nLOT,5,2\nBUY,1,1\n"
 unfolding sum sumTo foldTo sumOver any all averageWeight nearest capacity above climb representative weight isFixed blockWeight heaviest bytes same parts isNumber onward value fields isLine saleLine overfull grown withLot endsInK beforeK lotLine mark marking withNet netRead buyLine asked withCall callLine line ending lines parse pin size pinCount connectivity metric freed drawn gain hasRoom adjacent place fresh settle refusesJ contract doesJ refusesM doesM uncontract doesS doesB better consider bestPair reversed isKept canGo isOpen walkBest walkMove walkTurn walkOn walk walked polishBest polishTurn polishOn polish rating canJoin joinBest boardSize joinTurn coarsen refine refusesW doesW doesP refusesA doesA callUnder digitsOf digits tail row answerRow lotRows buyRows closing after answers run outcome engine
-sales = (refl, refl, refl, refl, refl, refl, refl, refl, refl)
+sales = (refl, refl, refl, refl, refl, refl, refl, refl, refl, refl)
