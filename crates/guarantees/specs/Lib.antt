@@ -17,6 +17,7 @@
 -- 6. An accepted file is within every range of document 01: Ranges (accepted-ranges, accepted-book).
 --    What an entry accepts, one with wider limits reads alike, to the same report: Wider (wider-reads, wider-report).
 -- 7. The cap is between ⌈W/k⌉ and twice that, and does not fall where W grows: Capacity (average-capacity, capacity-twice, capacity-grows).
+--    So for every count of bales within the ranges of an estimate no block passes the cap of that count: Counts (every-count).
 --    Bounds for the code: ReachedBounds (reached-bounds), SearchBounds (walk-counts, refine-counts, polish-count), AnswerBounds (bounded-call),
 --    Stretches (size-le, size-fresh, stretch-le, marks-le). The report fits into the lent output: ReportFits (report-fits), whatever the file:
 --    Refusals (engine-fits).
@@ -50,6 +51,7 @@ pub mod Wider
 pub mod Numbers
 pub mod Bounds
 pub mod Capacity
+pub mod Counts
 pub mod WeightBounds
 pub mod SearchBounds
 pub mod StateBounds

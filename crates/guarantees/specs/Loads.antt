@@ -9,7 +9,7 @@ use mathlib.Core.Bool.{Bool, true, false, _||_, _&&_}
 use mathlib.Core.List.{List, [], _∷_, _++_}
 use borrow.Author.Tests.{eqb-true, eq-eqb, ltb-false, leb-false}
 use lib.Dec.{eqb, leb, ltb}
-use lib.ListN.{length, length-append}
+use lib.ListN.{length, length-append, getD}
 use Rattle.laws.specs.Fold.{sumOver, sumOver-more, All, all-map, all-more, all-get}
 use Rattle.laws.specs.Occurrence.{Distinct}
 use Rattle.laws.specs.Sum.{foldTo}
@@ -30,7 +30,9 @@ pub record Loaded (limits : Limits) (h : Hypergraph) : Type 0 where
   pub as-long : length (h .draft) ≡ length (h .weights)
   pub fixed-long : length (h .fixed) ≡ length (h .weights)
   pub fixed-in : All (h .fixed) (λ x. x ≤ 1)
-  pub total-is : h .totalWeight ≡ sumOver (h .weights) (λ w. w)
+  pub lows-long : length (h .lows) ≡ length (h .weights)
+  pub lows-in : (i : ℕ) → i < length (h .weights) → getD (h .lows) i 0 ≤ getD (h .weights) i 0
+  pub total-is : h .totalWeight ≡ sumOver (h .lows) (λ w. w)
   pub nets-in : All (h .nets) (Within (vertices h))
   pub nets-distinct : All (h .nets) (λ e. Distinct (e .pins) 0 (length (e .pins)))
   pub nets-some : All (h .nets) (λ e. 1 ≤ length (e .pins))
@@ -49,6 +51,27 @@ pub record Sized (limits : Limits) (k : Book) : Type 0 where
   pub marks-high : k .marks ≤ 8192
   pub calls-high : length (k .calls) ≤ 512
 
+-- one lot more keeps every low at most its high
+lows-more : (ls ws : List ℕ) (low high : ℕ) → length ls ≡ length ws → low ≤ high → ((i : ℕ) → i < length ws → getD ls i 0 ≤ getD ws i 0)
+    → (i : ℕ) → i < length (ws ++ (high ∷ [])) → getD (ls ++ (low ∷ [])) i 0 ≤ getD (ws ++ (high ∷ [])) i 0
+lows-more [] [] low high q m f i l = at i l
+  where
+    at : (i : ℕ) → i < 1 → getD (low ∷ []) i 0 ≤ getD (high ∷ []) i 0
+    at zero l = m
+    at (suc i) l = absurd (omega arith)
+lows-more [] (w ∷ ws) low high q m f i l = absurd (omega arith)
+lows-more (x ∷ ls) [] low high q m f i l = absurd (omega arith)
+lows-more (x ∷ ls) (w ∷ ws) low high q m f zero l = f 0 (omega arith)
+lows-more (x ∷ ls) (w ∷ ws) low high q m f (suc i) l = lows-more ls ws low high (omega arith) m (λ j k. f (suc j) (omega arith)) i (omega arith)
+
+-- lists that are entry by entry at most others have no larger sum
+pub sum-below : (ls ws : List ℕ) → length ls ≡ length ws → ((i : ℕ) → i < length ws → getD ls i 0 ≤ getD ws i 0) → sumOver ls (λ w. w) ≤ sumOver ws (λ w. w)
+unfolding sumOver
+sum-below [] [] q f = omega arith
+sum-below [] (w ∷ ws) q f = absurd (omega arith)
+sum-below (x ∷ ls) [] q f = absurd (omega arith)
+sum-below (x ∷ ls) (w ∷ ws) q f = omega (arith, f 0 (omega arith), sum-below ls ws (omega arith) (λ j k. f (suc j) (omega arith)))
+
 module _ (limits : Limits) where
   -- ---- what is read so far
   pub record Read (k : Book) : Type 0 where
@@ -56,21 +79,22 @@ module _ (limits : Limits) where
     pub even : Even k
     pub sized : Sized limits k
 
-  read-first : (n m k s : ℕ) → 1 ≤ n → n ≤ limits .vertexLimit → m ≤ 1024 → 2 ≤ k → k ≤ limits .blockLimit → s ≤ 1000 → Read (blank n m k s)
+  read-first : (estimated : Bool) (n m k s : ℕ) → 1 ≤ n → n ≤ limits .vertexLimit → m ≤ 1024 → 2 ≤ k → k ≤ limits .blockLimit → s ≤ 1000 → Read (blank estimated n m k s)
   unfolding sumOver
-  read-first n m k s nl nu mu kl ku su = record {
-    loads = record { blocks-low = kl; blocks-high = ku; draft-in = tt; as-long = refl; fixed-long = refl; fixed-in = tt; total-is = refl; nets-in = tt; nets-distinct = tt; nets-some = tt; weights-in = tt; net-weights = tt; imbalance-high = su };
+  read-first estimated n m k s nl nu mu kl ku su = record {
+    loads = record { blocks-low = kl; blocks-high = ku; draft-in = tt; as-long = refl; fixed-long = refl; fixed-in = tt; lows-long = refl; lows-in = λ i l. absurd (omega arith); total-is = refl; nets-in = tt; nets-distinct = tt; nets-some = tt; weights-in = tt; net-weights = tt; imbalance-high = su };
     even = λ w. absurd (omega (arith, eqb-true 0 n (and-left _ _ w)));
     sized = record { lots-low = nl; lots-high = nu; buyers-high = mu; lots-le = omega arith; nets-le = omega arith; marks-are = refl; marks-high = omega arith; calls-high = omega arith };
   }
 
-  read-vertex : (k : Book) (w b : ℕ) (fixed : Bool) → Read k → vertices (k .graph) < k .lots → 1 ≤ w → w ≤ 65535 → 1 ≤ b → b ≤ k .graph .blocks → Even (lotted k w b fixed) → Read (lotted k w b fixed)
+  read-vertex : (k : Book) (low high b : ℕ) (fixed : Bool) → Read k → vertices (k .graph) < k .lots → 1 ≤ low → low ≤ high → high ≤ 65535 → 1 ≤ b → b ≤ k .graph .blocks
+      → Even (lotted k low high b fixed) → Read (lotted k low high b fixed)
   unfolding withLot
-  read-vertex k w b fixed r l wl wu bl bu e =
+  read-vertex k low high b fixed r l wl wm wu bl bu e =
       let g = r .loads in
       let z = r .sized in
       let h = k .graph in
-      let longer : length (h .weights ++ (w ∷ [])) ≡ length (h .weights) + 1 = length-append (h .weights) (w ∷ []) in
+      let longer : length (h .weights ++ (high ∷ [])) ≡ length (h .weights) + 1 = length-append (h .weights) (high ∷ []) in
       record {
         loads = record {
           blocks-low = g .blocks-low;
@@ -79,11 +103,13 @@ module _ (limits : Limits) where
           as-long = length-append (h .draft) (b ∷ []) ∙ ap (λ (n : ℕ). n + 1) (g .as-long) ∙ sym longer;
           fixed-long = length-append (h .fixed) (one fixed ∷ []) ∙ ap (λ (n : ℕ). n + 1) (g .fixed-long) ∙ sym longer;
           fixed-in = all-more (h .fixed) _ (one fixed) (g .fixed-in) (one-le fixed);
-          total-is = ap (λ (n : ℕ). n + w) (g .total-is) ∙ sym (sumOver-more (h .weights) w (λ x. x));
+          lows-long = length-append (h .lows) (low ∷ []) ∙ ap (λ (n : ℕ). n + 1) (g .lows-long) ∙ sym longer;
+          lows-in = lows-more (h .lows) (h .weights) low high (g .lows-long) wm (g .lows-in);
+          total-is = ap (λ (n : ℕ). n + low) (g .total-is) ∙ sym (sumOver-more (h .lows) low (λ x. x));
           nets-in = all-map (h .nets) _ _ (λ e. all-map (e .pins) _ _ (λ x r. (r .0, omega (arith, r .1, longer)))) (g .nets-in);
           nets-distinct = g .nets-distinct;
           nets-some = g .nets-some;
-          weights-in = all-more (h .weights) _ w (g .weights-in) (wl, wu);
+          weights-in = all-more (h .weights) _ high (g .weights-in) (omega arith, wu);
           net-weights = g .net-weights;
           imbalance-high = g .imbalance-high;
         };
@@ -106,6 +132,8 @@ module _ (limits : Limits) where
           as-long = g .as-long;
           fixed-long = g .fixed-long;
           fixed-in = g .fixed-in;
+          lows-long = g .lows-long;
+          lows-in = g .lows-in;
           total-is = g .total-is;
           nets-in = all-more ns _ _ (g .nets-in) (a .in-range);
           nets-distinct = all-more ns _ _ (g .nets-distinct) (a .distinct);

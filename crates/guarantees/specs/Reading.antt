@@ -1,9 +1,9 @@
 -- What holds of the book after the first line, and is kept by each line of a vertex, of a net and of a call, holds of every accepted
 -- file's book, and the catalogue is whole (accepted-keeps). Rests on model's Grammar alone. Assumes nothing.
-use Prim.Native.Nat.{ℕ, suc, _+_, _≤_, _<_}
+use Prim.Native.Nat.{ℕ, suc, _+_, _≤_, _<_, _-_}
 use native.Mathlib.Omega.{arith}
 use mathlib.Core.Path.{_≡_, refl, sym, ap, _∙_, subst}
-use mathlib.Core.Bool.{Bool, true, false, not, _&&_, cond}
+use mathlib.Core.Bool.{Bool, true, false, not, _&&_, cond, _||_}
 use mathlib.Core.List.{List, [], _∷_, _++_}
 use borrow.Author.Tests.{leb-true, leb-false, ltb-true, ltb-false, not-false}
 use lib.Dec.{eqb, leb, ltb}
@@ -73,17 +73,17 @@ module _ (h : Hypergraph) (before : ℕ) where
       one-more n k = omega arith
 
 -- ---- the book after one line more
-abbrev pub blank : ℕ → ℕ → ℕ → ℕ → Book
-blank n m k s = record { lots = n; buyers = m; graph = record { blocks = k; imbalance = s; totalWeight = 0; weights = []; draft = []; fixed = []; nets = [] }; marks = 0; calls = [] }
+abbrev pub blank : Bool → ℕ → ℕ → ℕ → ℕ → Book
+blank estimated n m k s = record { estimated = estimated; lots = n; buyers = m; graph = record { blocks = k; imbalance = s; totalWeight = 0; lows = []; weights = []; draft = []; fixed = []; nets = [] }; marks = 0; calls = [] }
 
-abbrev pub lotted : Book → ℕ → ℕ → Bool → Book
-lotted k w b fixed = record { lots = k .lots; buyers = k .buyers; graph = withLot (k .graph) w b fixed; marks = k .marks; calls = [] }
+abbrev pub lotted : Book → ℕ → ℕ → ℕ → Bool → Book
+lotted k low high b fixed = record { estimated = k .estimated; lots = k .lots; buyers = k .buyers; graph = withLot (k .graph) low high b fixed; marks = k .marks; calls = [] }
 
 abbrev pub netted : Book → ℕ → List ℕ → ℕ → Book
-netted k w vs m = record { lots = k .lots; buyers = k .buyers; graph = withNet (k .graph) w vs; marks = m; calls = [] }
+netted k w vs m = record { estimated = k .estimated; lots = k .lots; buyers = k .buyers; graph = withNet (k .graph) w vs; marks = m; calls = [] }
 
 abbrev pub called : Book → Call → Book
-called k c = record { lots = k .lots; buyers = k .buyers; graph = k .graph; marks = k .marks; calls = k .calls ++ (c ∷ []) }
+called k c = record { estimated = k .estimated; lots = k .lots; buyers = k .buyers; graph = k .graph; marks = k .marks; calls = k .calls ++ (c ∷ []) }
 
 -- on the last line of the catalogue no block of the draft is above its capacity
 abbrev pub Even : Book → Type 0
@@ -91,8 +91,9 @@ Even k = whole k ≡ true → overfull (k .graph) ≡ false
 
 -- what a fact about books must be kept by
 pub record Kept (limits : Limits) (P : Book → Type 0) : Type 0 where
-  pub first : (n m k s : ℕ) → 1 ≤ n → n ≤ limits .vertexLimit → m ≤ 1024 → 2 ≤ k → k ≤ limits .blockLimit → s ≤ 1000 → P (blank n m k s)
-  pub vertex : (k : Book) (w b : ℕ) (fixed : Bool) → P k → vertices (k .graph) < k .lots → 1 ≤ w → w ≤ 65535 → 1 ≤ b → b ≤ k .graph .blocks → Even (lotted k w b fixed) → P (lotted k w b fixed)
+  pub first : (estimated : Bool) (n m k s : ℕ) → 1 ≤ n → n ≤ limits .vertexLimit → m ≤ 1024 → 2 ≤ k → k ≤ limits .blockLimit → s ≤ 1000 → P (blank estimated n m k s)
+  pub vertex : (k : Book) (low high b : ℕ) (fixed : Bool) → P k → vertices (k .graph) < k .lots → 1 ≤ low → low ≤ high → high ≤ 65535 → 1 ≤ b → b ≤ k .graph .blocks
+      → Even (lotted k low high b fixed) → P (lotted k low high b fixed)
   pub net : (k : Book) (w : ℕ) (vs : List ℕ) (m : ℕ) → P k → length (k .graph .nets) < k .buyers → 1 ≤ w → w ≤ 1000 → 1 ≤ length vs → Marks (k .graph) (k .marks) vs m → Even (netted k w vs m) → P (netted k w vs m)
   pub asking : (k : Book) (c : Call) → P k → k .lots ≤ vertices (k .graph) → k .buyers ≤ length (k .graph .nets) → full k ≡ false → P (called k c)
 
@@ -129,12 +130,12 @@ module _ (limits : Limits) (P : Book → Type 0) (keeps : Kept limits P) where
 
   good-sale : (n : ℕ) (fs : Fields) → Good (saleLine limits n fs)
   unfolding saleLine
-  good-sale n fs = good-or (not (isLineOf "SALE" 4 fs)) 2 n _ (λ _. good-or (not ranges) 3 n _ (λ q. inside (not-false _ q)))
+  good-sale n fs = good-or (not (isLineOf "SALE" 4 fs || isLineOf "EST" 4 fs)) 2 n _ (λ _. good-or (not ranges) 3 n _ (λ q. inside (not-false _ q)))
     where
       ranges : Bool
       ranges = within 1 (limits .vertexLimit) (at fs 1) && within 0 1024 (at fs 2) && within 2 (limits .blockLimit) (at fs 3) && within 0 1000 (at fs 4)
 
-      inside : ranges ≡ true → Good (reading (blank (at fs 1) (at fs 2) (at fs 3) (at fs 4)))
+      inside : ranges ≡ true → Good (reading (blank (isLineOf "EST" 4 fs) (at fs 1) (at fs 2) (at fs 3) (at fs 4)))
       inside q4 =
           let q3 = and-left _ _ q4 in
           let q2 = and-left _ _ q3 in
@@ -142,14 +143,20 @@ module _ (limits : Limits) (P : Book → Type 0) (keeps : Kept limits P) where
           let m = within-range 0 1024 (at fs 2) (and-right (within 1 (limits .vertexLimit) (at fs 1)) _ q2) in
           let k = within-range 2 (limits .blockLimit) (at fs 3) (and-right (within 1 (limits .vertexLimit) (at fs 1) && within 0 1024 (at fs 2)) _ q3) in
           let s = within-range 0 1000 (at fs 4) (and-right (within 1 (limits .vertexLimit) (at fs 1) && within 0 1024 (at fs 2) && within 2 (limits .blockLimit) (at fs 3)) _ q4) in
-          good-reading _ (keeps .first (at fs 1) (at fs 2) (at fs 3) (at fs 4) (n .0) (n .1) (m .1) (k .0) (k .1) (s .1))
+          good-reading _ (keeps .first (isLineOf "EST" 4 fs) (at fs 1) (at fs 2) (at fs 3) (at fs 4) (n .0) (n .1) (m .1) (k .0) (k .1) (s .1))
 
   good-lot : (n : ℕ) (k : Book) (fixed : Bool) (fs : Fields) → P k → ltb (vertices (k .graph)) (k .lots) ≡ true → Good (lotLine n k fixed fs)
   unfolding lotLine
-  good-lot n k fixed fs g t = good-or (not (isLineOf "LOT" 2 fs)) 2 n _ (λ _. good-or (not (within 1 65535 (at fs 1) && isBlock (k .graph) (at fs 2))) 3 n _ (λ q.
-      let w = within-range 1 65535 (at fs 1) (and-left _ _ (not-false _ q)) in
-      let b = block-range (k .graph) (at fs 2) (and-right (within 1 65535 (at fs 1)) _ (not-false _ q)) in
-      good-grown n (lotted k (at fs 1) (at fs 2) fixed) (keeps .vertex k (at fs 1) (at fs 2) fixed g (ltb-true _ _ t) (w .0) (w .1) (b .0) (b .1))))
+  good-lot n k fixed fs g t =
+      let numbers : ℕ = cond (k .estimated) 3 2 in
+      let low : ℕ = at fs 1 in
+      let high : ℕ = at fs (numbers - 1) in
+      let session : ℕ = at fs numbers in
+      good-or (not (isLineOf "LOT" numbers fs)) 2 n _ (λ _. good-or (not (within 1 65535 low && within 1 65535 high)) 3 n _ (λ q. good-or (ltb high low) 21 n _ (λ o. good-or (not (isBlock (k .graph) session)) 3 n _ (λ r.
+      let l = within-range 1 65535 low (and-left _ _ (not-false _ q)) in
+      let w = within-range 1 65535 high (and-right (within 1 65535 low) _ (not-false _ q)) in
+      let b = block-range (k .graph) session (not-false _ r) in
+      good-grown n (lotted k low high session fixed) (keeps .vertex k low high session fixed g (ltb-true _ _ t) (l .0) (ltb-false _ _ o) (w .1) (b .0) (b .1))))))
 
   good-net-read : (n : ℕ) (k : Book) (w i : ℕ) (m : Marking) → P k → ltb (length (k .graph .nets)) (k .buyers) ≡ true → 1 ≤ w → w ≤ 1000 → 1 ≤ i → Marked (k .graph) (k .marks) i m → Good (netRead n k w m)
   unfolding netRead

@@ -1,9 +1,9 @@
--- A file is turned down with a number from 1 to 7 and a line number of at most 60,001 (refused-in), so whatever a file holds, the engine's code is
+-- A file is turned down with a number from 1 to 21 and a line number of at most 60,001 (refused-in), so whatever a file holds, the engine's code is
 -- at most 7 and its report fits into the lent 60,000 bytes (code-in, engine-fits). Rests on model's Grammar and on ReportFits. Assumes nothing.
 use Prim.Native.Nat.{ℕ, suc, _+_, _-_, _≤_}
 use native.Mathlib.Omega.{arith}
 use mathlib.Core.Path.{_≡_, refl, subst}
-use mathlib.Core.Bool.{Bool, true, false, not, _&&_, cond}
+use mathlib.Core.Bool.{Bool, true, false, not, _&&_, cond, _||_}
 use mathlib.Core.List.{List, [], _∷_}
 use borrow.Author.Tests.{ltb-false}
 use lib.Dec.{eqb, leb, ltb}
@@ -17,14 +17,14 @@ use Rattle.guarantees.specs.Numbers.{digits-le}
 use Rattle.guarantees.specs.Ranges.{accepted-book}
 use Rattle.guarantees.specs.ReportFits.{row-length, report-fits}
 
--- stopped, if it is, by a number from 1 to 7 on line m at the latest
+-- stopped, if it is, by a number from 1 to 21 on line m at the latest
 -- (no abbreviation: what `Stops m r` is of is then read off from its type)
 Stops : ℕ → Reading → Type 0
 Stops m unread = Unit {0}
 Stops m (reading k) = Unit {0}
-Stops m (stopped q n) = (1 ≤ q) × (q ≤ 7) × (n ≤ m)
+Stops m (stopped q n) = (1 ≤ q) × (q ≤ 21) × (n ≤ m)
 
-stops-at : (q n : ℕ) → 1 ≤ q → q ≤ 7 → Stops n (stopped q n)
+stops-at : (q n : ℕ) → 1 ≤ q → q ≤ 21 → Stops n (stopped q n)
 unfolding Stops
 stops-at q n l u = (l, u, omega arith)
 
@@ -61,15 +61,19 @@ module _ (limits : Limits) (n : ℕ) where
 
   stops-sale : (fs : Fields) → Stops n (saleLine limits n fs)
   unfolding saleLine
-  stops-sale fs = or-2 (not (isLineOf "SALE" 4 fs)) _ (or-3 (not (within 1 (limits .vertexLimit) (at fs 1) && within 0 1024 (at fs 2) && within 2 (limits .blockLimit) (at fs 3) && within 0 1000 (at fs 4))) _ (stops-not n _))
+  stops-sale fs = or-2 (not (isLineOf "SALE" 4 fs || isLineOf "EST" 4 fs)) _ (or-3 (not (within 1 (limits .vertexLimit) (at fs 1) && within 0 1024 (at fs 2) && within 2 (limits .blockLimit) (at fs 3) && within 0 1000 (at fs 4))) _ (stops-not n _))
 
   stops-lot : (k : Book) (fixed : Bool) (fs : Fields) → Stops n (lotLine n k fixed fs)
   unfolding lotLine
-  stops-lot k fixed fs = or-2 (not (isLineOf "LOT" 2 fs)) _ (or-3 (not (within 1 65535 (at fs 1) && isBlock (k .graph) (at fs 2))) _ (stops-grown _))
+  stops-lot k fixed fs =
+      let numbers : ℕ = cond (k .estimated) 3 2 in
+      or-2 (not (isLineOf "LOT" numbers fs)) _ (or-3 (not (within 1 65535 (at fs 1) && within 1 65535 (at fs (numbers - 1)))) _
+      (stops-if n (ltb (at fs (numbers - 1)) (at fs 1)) (stopped 21 n) _ (stops-at 21 n (omega arith) (omega arith))
+      (or-3 (not (isBlock (k .graph) (at fs numbers))) _ (stops-grown _))))
 
   -- a mark is refused by 3, 4 or 5
   abbrev Wrong : Marking → Type 0
-  Wrong (wrong q) = (1 ≤ q) × (q ≤ 7)
+  Wrong (wrong q) = (1 ≤ q) × (q ≤ 21)
   Wrong (marked vs m) = Unit {0}
 
   wrong-if : (b : Bool) (x y : Marking) → Wrong x → Wrong y → Wrong (cond b x y)
@@ -89,14 +93,14 @@ module _ (limits : Limits) (n : ℕ) where
   wrong-marking h m [] s = s
   wrong-marking h m (f ∷ fs) s = wrong-marking h (mark h m (value f)) fs (wrong-mark h m (value f) s)
 
-  stops-bought : (k : Book) (w : ℕ) (m : Marking) → Wrong m → Stops n (netRead n k w m)
+  stops-net : (k : Book) (w : ℕ) (m : Marking) → Wrong m → Stops n (netRead n k w m)
   unfolding netRead
-  stops-bought k w (wrong q) s = stops-at q n (s .0) (s .1)
-  stops-bought k w (marked vs m) s = stops-grown _
+  stops-net k w (wrong q) s = stops-at q n (s .0) (s .1)
+  stops-net k w (marked vs m) s = stops-grown _
 
   stops-buy : (k : Book) (fs : Fields) → Stops n (buyLine n k fs)
   unfolding buyLine
-  stops-buy k fs = or-2 (not (isLine "BUY" fs && leb 3 (length fs))) _ (or-3 (not (within 1 1000 (at fs 1))) _ (stops-bought k (at fs 1) _ (wrong-marking (k .graph) (marked [] (k .marks)) (drop 2 fs) tt)))
+  stops-buy k fs = or-2 (not (isLine "BUY" fs && leb 3 (length fs))) _ (or-3 (not (within 1 1000 (at fs 1))) _ (stops-net k (at fs 1) _ (wrong-marking (k .graph) (marked [] (k .marks)) (drop 2 fs) tt)))
 
   stops-asked : (k : Book) (a : Asked) → Stops n (withCall n k a)
   unfolding withCall
@@ -152,26 +156,26 @@ module _ (limits : Limits) where
           stops-later (1 + (length (parts 10 file) - 1)) 60001 (lines limits 1 unread (parts 10 file)) (omega (arith, parts-le 10 file, ltb-false 60000 (length file) e))
           (stops-lines 1 unread (parts 10 file) (stops-none 1))
 
-  stopped-in : (m q n : ℕ) → Stops m (stopped q n) → (1 ≤ q) × (q ≤ 7) × (n ≤ m)
+  stopped-in : (m q n : ℕ) → Stops m (stopped q n) → (1 ≤ q) × (q ≤ 21) × (n ≤ m)
   unfolding Stops
   stopped-in m q n s = s
 
-  pub refused-in : (file : List ℕ) (q n : ℕ) → parse limits file ≡ stopped q n → (1 ≤ q) × (q ≤ 7) × (n ≤ 60001)
+  pub refused-in : (file : List ℕ) (q n : ℕ) → parse limits file ≡ stopped q n → (1 ≤ q) × (q ≤ 21) × (n ≤ 60001)
   refused-in file q n e = stopped-in 60001 q n (subst (Stops 60001) e (stops-parse file))
 
-  pub code-in : (file : List ℕ) → engine limits file .code ≤ 7
+  pub code-in : (file : List ℕ) → engine limits file .code ≤ 21
   unfolding engine outcome
   code-in file = go (parse limits file) refl
     where
-      go : (r : Reading) → parse limits file ≡ r → outcome r .code ≤ 7
+      go : (r : Reading) → parse limits file ≡ r → outcome r .code ≤ 21
       go unread e = omega arith
       go (stopped q n) e = refused-in file q n e .1
       go (reading k) e = omega arith
 
-  -- NO, a number of one digit and one of up to five
-  no-le : (q n : ℕ) → q ≤ 7 → n ≤ 60001 → length (row "NO" (digits q ∷ digits n ∷ [])) ≤ 11
+  -- NO, a number of up to two digits and one of up to five
+  no-le : (q n : ℕ) → q ≤ 21 → n ≤ 60001 → length (row "NO" (digits q ∷ digits n ∷ [])) ≤ 12
   unfolding sumOver bytes
-  no-le q n l m = omega (arith, row-length "NO" (digits q ∷ digits n ∷ []), digits-le 0 q (omega arith), digits-le 4 n (omega arith))
+  no-le q n l m = omega (arith, row-length "NO" (digits q ∷ digits n ∷ []), digits-le 1 q (omega arith), digits-le 4 n (omega arith))
 
   pub engine-fits : limits .vertexLimit ≤ 1024 → limits .blockLimit ≤ 16 → (file : List ℕ) → length (engine limits file .report) ≤ 60000
   unfolding engine outcome

@@ -14,6 +14,7 @@ use Rattle.laws.specs.Sum.{sumTo, sumTo-list, sumTo-mono, sumTo-swap, sumTo-onc
 use Rattle.model.specs.Catalogue.{Limits, Hypergraph, vertices, loaded, averageWeight, capacity}
 use Rattle.model.specs.Measure.{Contraction, onBoard, representative, weight, blockWeight}
 use Rattle.guarantees.specs.Capacity.{nearest-le}
+use Rattle.guarantees.specs.Loads.{sum-below}
 use Rattle.guarantees.specs.Ranges.{Ranges}
 
 module _ (h : Hypergraph) where
@@ -64,7 +65,7 @@ module _ (limits : Limits) (small : limits .vertexLimit ≤ 1024) (h : Hypergrap
 
   pub total-le : h .totalWeight ≤ 67107840
   unfolding loadedWeight
-  total-le = omega (arith, loaded-le, r .loaded .total-is)
+  total-le = omega (arith, loaded-le, r .loaded .total-is, sum-below (h .lows) (h .weights) (r .loaded .lows-long) (r .loaded .lows-in))
 
   pub average-le : averageWeight h ≤ 33553920
   unfolding averageWeight

@@ -3,7 +3,7 @@
 use Prim.Native.Nat.{ℕ, suc, _≤_}
 use native.Mathlib.Omega.{arith}
 use mathlib.Core.Path.{_≡_, refl, sym, ap, _∙_}
-use mathlib.Core.Bool.{Bool, true, false, not, _&&_, cond}
+use mathlib.Core.Bool.{Bool, true, false, not, _&&_, cond, _||_}
 use mathlib.Core.List.{List, [], _∷_}
 use borrow.Author.Tests.{leb-true, le-leb}
 use lib.Dec.{leb, ltb}
@@ -56,7 +56,7 @@ module _ (limits wide : Limits) (lots : limits .vertexLimit ≤ wide .vertexLimi
   -- the first line is the one that goes by the limits
   first-line : (n i : ℕ) (fs : Fields) (ls : List (List ℕ)) (k : Book) → lines wide i (saleLine limits n fs) ls ≡ reading k → lines wide i (saleLine wide n fs) ls ≡ reading k
   unfolding saleLine
-  first-line n i fs ls k = go (isLineOf "SALE" 4 fs) (ranges limits fs) (ranges wide fs) _ (ranges-wide fs)
+  first-line n i fs ls k = go (isLineOf "SALE" 4 fs || isLineOf "EST" 4 fs) (ranges limits fs) (ranges wide fs) _ (ranges-wide fs)
     where
       go : (form r r′ : Bool) (book : Reading) → (r ≡ true → r′ ≡ true) → lines wide i (cond (not form) (stopped 2 n) (cond (not r) (stopped 3 n) book)) ls ≡ reading k
           → lines wide i (cond (not form) (stopped 2 n) (cond (not r′) (stopped 3 n) book)) ls ≡ reading k
