@@ -32,7 +32,7 @@ module _ (h : Hypergraph) (count : List ℕ) (r : InRanges h count) where
     arith,
     ap (λ (n : ℕ). sumTo n (λ v. cond (eqb (representative cs v) u) (getD count (v - 1) 0) 0)) (r .each-lot),
     sumTo-mono (vertices h) (λ v. cond (eqb (representative cs v) u) (getD count (v - 1) 0) 0) (λ v. cond (eqb (representative cs v) u) (loaded h v) 0)
-    (λ v l k. part-below (eqb (representative cs v) u) (getD count (v - 1) 0) (loaded h v) (r .to-high v l k)),
+        (λ v l k. part-below (eqb (representative cs v) u) (getD count (v - 1) 0) (loaded h v) (r .to-high v l k)),
   )
 
   block-below : (cs : List Contraction) (p : ℕ → ℕ) (b : ℕ) → blockWeight (counted h count) cs p b ≤ blockWeight h cs p b
@@ -41,7 +41,7 @@ module _ (h : Hypergraph) (count : List ℕ) (r : InRanges h count) where
     arith,
     ap (λ (n : ℕ). sumTo n (λ u. cond (onBoard cs u && eqb (p u) b) (weight (counted h count) cs u) 0)) (r .each-lot),
     sumTo-mono (vertices h) (λ u. cond (onBoard cs u && eqb (p u) b) (weight (counted h count) cs u) 0) (λ u. cond (onBoard cs u && eqb (p u) b) (weight h cs u) 0)
-    (λ u l k. part-below (onBoard cs u && eqb (p u) b) (weight (counted h count) cs u) (weight h cs u) (weight-below cs u)),
+        (λ u l k. part-below (onBoard cs u && eqb (p u) b) (weight (counted h count) cs u) (weight h cs u) (weight-below cs u)),
   )
 
   -- place i is that of the vertex i + 1
