@@ -2,10 +2,10 @@
 use Prim.Native.Nat.{ℕ}
 use mathlib.Core.Path.{_≡_, refl, sym, _∙_}
 use mathlib.Core.List.{[], _∷_}
-use mathlib.Core.Bool.{Bool, true, false, not, _&&_, cond}
-use Rattle.model.specs.Catalogue.{Limits, isBlock}
+use mathlib.Core.Bool.{Bool, true, false, not, _&&_, _||_, cond}
+use Rattle.model.specs.Catalogue.{Limits}
 use Rattle.model.specs.Machine.{callJ, callS, callM, callB, callW, callP, callA}
-use Rattle.model.specs.Grammar.{Fields, bytes, Book, reading, stopped, at, isLineOf, within, Asked, asks, nothing, asked, callOf, saleLine, lotLine, grown, withLot}
+use Rattle.model.specs.Grammar.{Fields, bytes, reading, stopped, at, isLineOf, within, Asked, asks, nothing, asked, callOf, saleLine}
 use Rattle.lines.specs.Line.{Named, book}
 
 abbrev choose : Fields → Bool → Bool → Bool → Bool → Bool → Bool → Bool → Asked
@@ -91,17 +91,20 @@ module _ (fs : Fields) where
               pub asked-none : isLineOf "A" 0 fs ≡ false → nothing ≡ asked fs
               asked-none e = sym (chosen fs ∙ chose-none fs (isLineOf "J" 2 fs) (isLineOf "S" 0 fs) (isLineOf "M" 2 fs) (isLineOf "B" 0 fs) (isLineOf "W" 2 fs) (isLineOf "P" 0 fs) (isLineOf "A" 0 fs) ej es em eb ew ep e)
 
--- ---- SALE
+-- ---- SALE, EST
 module _ (limits : Limits) (n : ℕ) (fs : Fields) where
-  sale-is : (f r : Bool) → isLineOf "SALE" 4 fs ≡ f → (within 1 (limits .vertexLimit) (at fs 1) && within 0 1024 (at fs 2) && within 2 (limits .blockLimit) (at fs 3) && within 0 1000 (at fs 4)) ≡ r
-      → saleLine limits n fs ≡ cond (not f) (stopped 2 n) (cond (not r) (stopped 3 n) (reading (book (at fs 1) (at fs 2) (record { blocks = at fs 3; imbalance = at fs 4; totalWeight = 0; weights = []; draft = []; fixed = []; nets = [] }) 0 [])))
+  sale-is : (f r : Bool) → (isLineOf "SALE" 4 fs || isLineOf "EST" 4 fs) ≡ f → (within 1 (limits .vertexLimit) (at fs 1) && within 0 1024 (at fs 2) && within 2 (limits .blockLimit) (at fs 3) && within 0 1000 (at fs 4)) ≡ r
+      → saleLine limits n fs ≡ cond (not f) (stopped 2 n) (cond (not r) (stopped 3 n) (reading (book (isLineOf "EST" 4 fs) (at fs 1) (at fs 2) (record { blocks = at fs 3; imbalance = at fs 4; totalWeight = 0; lows = []; weights = []; draft = []; fixed = []; nets = [] }) 0 [])))
   unfolding saleLine
   sale-is f r p q = rw (← p, ← q)
 
-  pub sale-form : isLineOf "SALE" 4 fs ≡ false → stopped 2 n ≡ saleLine limits n fs
-  sale-form e = sym (sale-is false _ e refl)
+  pub sale-form : isLineOf "SALE" 4 fs ≡ false → isLineOf "EST" 4 fs ≡ false → stopped 2 n ≡ saleLine limits n fs
+  sale-form p q = sym (sale-is false _ (neither (isLineOf "SALE" 4 fs) (isLineOf "EST" 4 fs) p q) refl)
+    where
+      neither : (x y : Bool) → x ≡ false → y ≡ false → (x || y) ≡ false
+      neither x y p q = rw (p, q)
 
-  module _ (is : isLineOf "SALE" 4 fs ≡ true) (l b k t : ℕ) (el : l ≡ at fs 1) (eb : b ≡ at fs 2) (ek : k ≡ at fs 3) (et : t ≡ at fs 4) where
+  module _ (is : (isLineOf "SALE" 4 fs || isLineOf "EST" 4 fs) ≡ true) (l b k t : ℕ) (el : l ≡ at fs 1) (eb : b ≡ at fs 2) (ek : k ≡ at fs 3) (et : t ≡ at fs 4) where
     ranges : (within 1 (limits .vertexLimit) l && within 0 1024 b && within 2 (limits .blockLimit) k && within 0 1000 t) ≡ false → stopped 3 n ≡ saleLine limits n fs
     ranges e = sym (sale-is true false is (rw (← el, ← eb, ← ek, ← et) e))
 
@@ -132,44 +135,11 @@ module _ (limits : Limits) (n : ℕ) (fs : Fields) where
               and3 : (x y z u : Bool) → x ≡ true → y ≡ true → z ≡ true → u ≡ false → (x && y && z && u) ≡ false
               and3 x y z u b c d e = rw (b, c, d, e)
 
-          pub sale-read : within 0 1000 t ≡ true → reading (book l b (record { blocks = k; imbalance = t; totalWeight = 0; weights = []; draft = []; fixed = []; nets = [] }) 0 []) ≡ saleLine limits n fs
-          sale-read e = rw (el, eb, ek, et) (sym (sale-is true true is (rw (← el, ← eb, ← ek, ← et) (and3 _ _ _ _ e1 e2 e3 e))))
+          pub sale-read : (estimated : Bool) → isLineOf "EST" 4 fs ≡ estimated → within 0 1000 t ≡ true → reading (book estimated l b (record { blocks = k; imbalance = t; totalWeight = 0; lows = []; weights = []; draft = []; fixed = []; nets = [] }) 0 []) ≡ saleLine limits n fs
+          sale-read estimated kind e = rw (el, eb, ek, et, ← kind) (sym (sale-is true true is (rw (← el, ← eb, ← ek, ← et) (and3 _ _ _ _ e1 e2 e3 e))))
             where
               and3 : (x y z u : Bool) → x ≡ true → y ≡ true → z ≡ true → u ≡ true → (x && y && z && u) ≡ true
               and3 x y z u b c d e = rw (b, c, d, e)
-
--- ---- LOT
-module _ (n : ℕ) (k : Book) (fixed : Bool) (fs : Fields) where
-  lot-is : (f r : Bool) → isLineOf "LOT" 2 fs ≡ f → (within 1 65535 (at fs 1) && isBlock (k .graph) (at fs 2)) ≡ r
-      → lotLine n k fixed fs ≡ cond (not f) (stopped 2 n) (cond (not r) (stopped 3 n) (grown n (book (k .lots) (k .buyers) (withLot (k .graph) (at fs 1) (at fs 2) fixed) (k .marks) [])))
-  unfolding lotLine
-  lot-is f r p q = rw (← p, ← q)
-
-  pub lot-form : isLineOf "LOT" 2 fs ≡ false → stopped 2 n ≡ lotLine n k fixed fs
-  lot-form e = sym (lot-is false _ e refl)
-
-  module _ (is : isLineOf "LOT" 2 fs ≡ true) (w b m : ℕ) (ew : w ≡ at fs 1) (eb : b ≡ at fs 2) (em : k .graph .blocks ≡ m) where
-    lot-ranges : (r : Bool) → (within 1 65535 w && within 1 m b) ≡ r → (within 1 65535 (at fs 1) && isBlock (k .graph) (at fs 2)) ≡ r
-    lot-ranges r e = rw (← ew, ← eb, em) e
-
-    pub lot-1 : within 1 65535 w ≡ false → stopped 3 n ≡ lotLine n k fixed fs
-    lot-1 e = sym (lot-is true false is (lot-ranges false (and1 _ _ e)))
-      where
-        and1 : (x y : Bool) → x ≡ false → (x && y) ≡ false
-        and1 x y e = rw e
-
-    module _ (e1 : within 1 65535 w ≡ true) where
-      pub lot-2 : within 1 m b ≡ false → stopped 3 n ≡ lotLine n k fixed fs
-      lot-2 e = sym (lot-is true false is (lot-ranges false (and1 _ _ e1 e)))
-        where
-          and1 : (x y : Bool) → x ≡ true → y ≡ false → (x && y) ≡ false
-          and1 x y d e = rw (d, e)
-
-      pub lot-read : within 1 m b ≡ true → grown n (book (k .lots) (k .buyers) (withLot (k .graph) w b fixed) (k .marks) []) ≡ lotLine n k fixed fs
-      lot-read e = rw (ew, eb) (sym (lot-is true true is (lot-ranges true (and1 _ _ e1 e))))
-        where
-          and1 : (x y : Bool) → x ≡ true → y ≡ true → (x && y) ≡ true
-          and1 x y d e = rw (d, e)
 
 -- ---- the words
 pub word-J : bytes "J" ≡ 74 ∷ []
@@ -203,6 +173,10 @@ word-A = refl
 pub word-SALE : bytes "SALE" ≡ 83 ∷ 65 ∷ 76 ∷ 69 ∷ []
 unfolding bytes
 word-SALE = refl
+
+pub word-EST : bytes "EST" ≡ 69 ∷ 83 ∷ 84 ∷ []
+unfolding bytes
+word-EST = refl
 
 pub word-LOT : bytes "LOT" ≡ 76 ∷ 79 ∷ 84 ∷ []
 unfolding bytes

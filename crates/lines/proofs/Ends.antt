@@ -1,4 +1,4 @@
--- A line that may end in `,K`: where its fields end, by its last two bytes; and what a lot line says then. Rests on Line of specs.
+-- A line that may end in `,K`: where its fields end, by its last two bytes. Rests on Line of specs.
 use Prim.Native.Nat.{ℕ, _+_, _-_, _≤_, _<_}
 use mathlib.Core.Path.{_≡_, ap, sym, _∙_}
 use mathlib.Core.Bool.{Bool, true, false, _&&_, cond, and-false}
@@ -8,7 +8,7 @@ use lib.Dec.{eqb, leb, ltb}
 use lib.ListN.{length, getD, take}
 use lib.Seq.{slice, length-slice, getD-drop, getD-take}
 use borrow.Author.Tests.{eq-eqb, ne-eqb, lt-ltb, le-ltb, le-leb, lt-leb}
-use Rattle.model.specs.Grammar.{Book, Reading, endsInK, beforeK, fields, lotLine}
+use Rattle.model.specs.Grammar.{endsInK, beforeK}
 use Rattle.text.proofs.Walk.{take-slice}
 use Rattle.lines.specs.Line.{FieldsEnd}
 
@@ -55,7 +55,3 @@ module _ (s : List ℕ) (at end : ℕ) (le : at ≤ end) (within : end ≤ lengt
           before = sym (ap (λ (t : Bool). cond t (take (length whole - 2) whole) whole) is ∙ take-slice s at end (length whole - 2) (omega arith) ∙ ap (λ (n : ℕ). slice at n s) e);
           fixed = lt-ltb (end - 2) end (omega arith) ∙ sym is;
         }
-
--- what a lot line says, by where its fields end
-pub lot-by : (n : ℕ) (k : Book) (s : List ℕ) (at end last : ℕ) → FieldsEnd s at end last → (r : Reading) → r ≡ lotLine n k (ltb last end) (fields (slice at last s)) → r ≡ lotLine n k (endsInK (slice at end s)) (fields (beforeK (slice at end s)))
-lot-by n k s at end last f r e = e ∙ ap (λ (t : Bool). lotLine n k t (fields (slice at last s))) (f .fixed) ∙ ap (λ (l : List ℕ). lotLine n k (endsInK (slice at end s)) (fields l)) (f .before)

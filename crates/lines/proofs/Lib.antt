@@ -1,5 +1,6 @@
 pub mod Asks
 pub mod Ends
+pub mod LotLines
 pub mod Stamps
 pub mod Fields
 pub mod Bids

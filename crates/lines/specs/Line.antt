@@ -1,13 +1,15 @@
 -- What the functions for the first line, a lot line and a call line answer. Rests on model's grammar. Assumes nothing.
 use Prim.Native.Nat.{ℕ, _-_, _≤_}
 use mathlib.Core.Path.{_≡_}
+use mathlib.Core.Bool.{Bool, true, cond, not, _&&_, _||_}
 use mathlib.Core.List.{List, []}
-use lib.Dec.{ltb}
+use lib.Dec.{eqb, ltb}
 use lib.ListN.{getD}
 use lib.Seq.{slice}
 use Rattle.model.specs.Catalogue.{Limits, Hypergraph}
 use Rattle.model.specs.Machine.{Call}
-use Rattle.model.specs.Grammar.{Fields, Book, Reading, reading, stopped, asks, nothing, asked, callOf, grown, withLot, endsInK, beforeK, fields, saleLine, lotLine}
+use Rattle.model.specs.Grammar.{Fields, Book, Reading, reading, stopped, asks, nothing, asked, callOf, grown, withLot, endsInK, beforeK, fields, at as fieldAt, within, isLineOf, saleLine, lotLine}
+use Rattle.text.specs.Field.{Numbered}
 use Rattle.lines.specs.declared.Ask.{Ask}
 use Rattle.lines.specs.declared.Ask.the-variants.{Asks, Nothing}
 use Rattle.lines.specs.declared.Head.{Head}
@@ -16,8 +18,8 @@ use Rattle.lines.specs.declared.Lot.{Lot}
 use Rattle.lines.specs.declared.Lot.the-variants.{Of, NoLot}
 
 -- a book by its parts
-abbrev pub book : ℕ → ℕ → Hypergraph → ℕ → List Call → Book
-book lots buyers h marks calls = record { lots = lots; buyers = buyers; graph = h; marks = marks; calls = calls }
+abbrev pub book : Bool → ℕ → ℕ → Hypergraph → ℕ → List Call → Book
+book estimated lots buyers h marks calls = record { estimated = estimated; lots = lots; buyers = buyers; graph = h; marks = marks; calls = calls }
 
 -- limits by their parts
 abbrev pub limitsOf : ℕ → ℕ → Limits
@@ -39,6 +41,12 @@ CallRead fs (Asks k a b) = Named fs k a b
 CallRead fs Nothing = nothing ≡ asked fs
 
 -- ---- the first line
+-- it announces a sale or an estimate, and its four numbers are there
+pub record Announces (fs : Fields) (estimated : Bool) : Type 0 where
+  pub form : (isLineOf "SALE" 4 fs || isLineOf "EST" 4 fs) ≡ true
+  pub kind : isLineOf "EST" 4 fs ≡ estimated
+  pub numbered : (i : ℕ) → 1 ≤ i → i ≤ 4 → Numbered fs i
+
 -- its numbers are in their ranges
 pub record InRange (limits : Limits) (l b k t : ℕ) : Type 0 where
   pub l-low : 1 ≤ l
@@ -49,12 +57,12 @@ pub record InRange (limits : Limits) (l b k t : ℕ) : Type 0 where
   pub t-high : t ≤ 1000
 
 abbrev pub opened : ℕ → Head → Reading
-opened n (Sale lots buyers blocks imbalance) = reading (book lots buyers (record { blocks = blocks; imbalance = imbalance; totalWeight = 0; weights = []; draft = []; fixed = []; nets = [] }) 0 [])
+opened n (Sale lots buyers blocks imbalance estimated) = reading (book estimated lots buyers (record { blocks = blocks; imbalance = imbalance; totalWeight = 0; lows = []; weights = []; draft = []; fixed = []; nets = [] }) 0 [])
 opened n (NoSale q) = stopped q n
 
 pub record SaleRead (limits : Limits) (fs : Fields) (r : Head) : Type 0 where
   pub says : (n : ℕ) → opened n r ≡ saleLine limits n fs
-  pub ranges : (l b k t : ℕ) → r ≡ Sale l b k t → InRange limits l b k t
+  pub ranges : (l b k t : ℕ) (estimated : Bool) → r ≡ Sale l b k t estimated → InRange limits l b k t
 
 -- ---- the lots
 -- r is where the fields of a line that may end in `,K` end
@@ -64,10 +72,29 @@ pub record FieldsEnd (s : List ℕ) (at end r : ℕ) : Type 0 where
   pub before : slice at r s ≡ beforeK (slice at end s)
   pub fixed : ltb r end ≡ endsInK (slice at end s)
 
+-- how many numbers a lot line has: LOT,bales,session or LOT,low,high,session
+abbrev pub numbersOf : Bool → ℕ
+numbersOf estimated = cond estimated 3 2
+
+-- the first number is read, and in an estimate there is a second
+pub record LowRead (fs : Fields) (estimated : Bool) (low : ℕ) : Type 0 where
+  pub low-is : low ≡ fieldAt fs 1
+  pub second : estimated ≡ true → Numbered fs 2
+
+-- the refusal of a lot's bales, of its session, and the first of two: 0 for none
+abbrev pub balesRefusal : ℕ → ℕ → ℕ
+balesRefusal low high = cond (not (within 1 65535 low && within 1 65535 high)) 3 (cond (ltb high low) 21 0)
+
+abbrev pub sessionRefusal : ℕ → ℕ → ℕ
+sessionRefusal block blocks = cond (within 1 blocks block) 0 3
+
+abbrev pub firstOf : ℕ → ℕ → ℕ
+firstOf one other = cond (eqb one 0) other one
+
 -- a lot line, after a book
 abbrev pub lotted : ℕ → Book → Lot → Reading
-lotted n k (Of w b fixed) = grown n (book (k .lots) (k .buyers) (withLot (k .graph) w b fixed) (k .marks) [])
+lotted n k (Of low high b fixed) = grown n (book (k .estimated) (k .lots) (k .buyers) (withLot (k .graph) low high b fixed) (k .marks) [])
 lotted n k (NoLot q) = stopped q n
 
-abbrev pub LotRead : ℕ → List ℕ → Lot → Type 0
-LotRead blocks l r = (n : ℕ) (k : Book) → k .graph .blocks ≡ blocks → lotted n k r ≡ lotLine n k (endsInK l) (fields (beforeK l))
+abbrev pub LotRead : ℕ → Bool → List ℕ → Lot → Type 0
+LotRead blocks estimated l r = (n : ℕ) (k : Book) → k .estimated ≡ estimated → k .graph .blocks ≡ blocks → lotted n k r ≡ lotLine n k (endsInK l) (fields (beforeK l))

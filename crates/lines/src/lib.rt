@@ -2,12 +2,12 @@
 use text::between;
 ghost use mathlib.Core.Path.{_≡_};
 ghost use mathlib.Core.Bool.{true};
-ghost use Prim.Native.Nat.{_≤_};
+ghost use Prim.Native.Nat.{_-_, _≤_};
 ghost use lib.ListN.{length};
 ghost use lib.Seq.{slice};
 ghost use Rattle.laws.specs.Fold.{all};
-ghost use Rattle.model.specs.Grammar.{parts, fields, isNumber};
-ghost use Rattle.lines.specs.Line.{limitsOf, CallRead, SaleRead, FieldsEnd, LotRead};
+ghost use Rattle.model.specs.Grammar.{parts, fields, isNumber, at as fieldAt};
+ghost use Rattle.lines.specs.Line.{limitsOf, CallRead, Announces, SaleRead, FieldsEnd, numbersOf, LowRead, balesRefusal, sessionRefusal, firstOf, LotRead};
 ghost use Rattle.lines.specs.Mark.{Fresh, MarkOne, MarksRead, BuyRead};
 
 // A call line's call: the byte of its letter and its numbers.
@@ -16,15 +16,15 @@ pub enum Ask {
     Nothing,
 }
 
-// The first line: lots, buyers, sessions, slack.
+// The first line: lots, buyers, sessions, slack and whether the file is an estimate.
 pub enum Head {
-    Sale(u32, u32, u32, u32),
+    Sale(u32, u32, u32, u32, bool),
     NoSale(u8),
 }
 
-// A lot line: bales, session and whether the lot is kept.
+// A lot line: least and most bales, which are the same in a sale, session and whether the lot is kept.
 pub enum Lot {
-    Of(u32, u16, bool),
+    Of(u32, u32, u16, bool),
     NoLot(u8),
 }
 
@@ -81,14 +81,11 @@ pub fn call_line(s: &[u8], at: usize, end: usize) -> Ask
     Ask::Nothing
 }
 
-// The first line.
-pub fn sale_line(s: &[u8], at: usize, end: usize, vmax: u32, bmax: u32) -> Head
-    requires { ⌜ (at ≤ end) × (end ≤ length (now s)) ⌝ }
+// The numbers of the first line.
+fn read_head(s: &[u8], at: usize, end: usize, vmax: u32, bmax: u32, estimated: bool) -> Head
+    requires { ⌜ (at ≤ end) × (end ≤ length (now s)) × Announces (fields (slice at end (now s))) estimated ⌝ }
     ensures { λ r. ⌜ SaleRead (limitsOf vmax bmax) (fields (slice at end (now (s .entry)))) r ⌝ }
 {
-    if text::form(s, at, end, b"SALE") != 5 {
-        return Head::NoSale(2);
-    }
     let vertices = text::get(s, at, end, 1);
     let nets = text::get(s, at, end, 2);
     let blocks = text::get(s, at, end, 3);
@@ -105,7 +102,21 @@ pub fn sale_line(s: &[u8], at: usize, end: usize, vmax: u32, bmax: u32) -> Head
     if !between(0, 1000, imbalance) {
         return Head::NoSale(3);
     }
-    Head::Sale(vertices, nets, blocks, imbalance)
+    Head::Sale(vertices, nets, blocks, imbalance, estimated)
+}
+
+// The first line.
+pub fn sale_line(s: &[u8], at: usize, end: usize, vmax: u32, bmax: u32) -> Head
+    requires { ⌜ (at ≤ end) × (end ≤ length (now s)) ⌝ }
+    ensures { λ r. ⌜ SaleRead (limitsOf vmax bmax) (fields (slice at end (now (s .entry)))) r ⌝ }
+{
+    if text::form(s, at, end, b"EST") == 5 {
+        return read_head(s, at, end, vmax, bmax, true);
+    }
+    if text::form(s, at, end, b"SALE") == 5 {
+        return read_head(s, at, end, vmax, bmax, false);
+    }
+    Head::NoSale(2)
 }
 
 // Where the fields of a lot line end: before a `,K` at its end, or at the end itself.
@@ -125,24 +136,74 @@ fn before_k(s: &[u8], at: usize, end: usize) -> usize
     end - 2
 }
 
+// How many numbers a lot line has.
+fn numbers_of(estimated: bool) -> usize
+    ensures { λ r. ⌜ r ≡ numbersOf estimated ⌝ }
+{
+    if estimated { 3 } else { 2 }
+}
+
+// A lot's most bales: the second number of an estimate's line; in a sale they are its least.
+fn high_of(s: &[u8], at: usize, end: usize, low: u32, estimated: bool) -> u32
+    requires { ⌜ (at ≤ end) × (end ≤ length (now s)) × LowRead (fields (slice at end (now s))) estimated low ⌝ }
+    ensures { λ r. ⌜ r ≡ fieldAt (fields (slice at end (now (s .entry)))) (numbersOf estimated - 1) ⌝ }
+{
+    if estimated {
+        return text::get(s, at, end, 2);
+    }
+    low
+}
+
+// The refusal of a lot's bales, or 0.
+fn refuses_bales(low: u32, high: u32) -> u8
+    ensures { λ r. ⌜ r ≡ balesRefusal low high ⌝ }
+{
+    if !between(1, 65535, low) {
+        return 3;
+    }
+    if !between(1, 65535, high) {
+        return 3;
+    }
+    if high < low {
+        return 21;
+    }
+    0
+}
+
+// The refusal of a lot's session, or 0.
+fn refuses_session(block: u32, blocks: u32) -> u8
+    ensures { λ r. ⌜ r ≡ sessionRefusal block blocks ⌝ }
+{
+    if between(1, blocks, block) { 0 } else { 3 }
+}
+
+// The first of two refusals, or 0.
+fn first_of(one: u8, other: u8) -> u8
+    ensures { λ r. ⌜ r ≡ firstOf one other ⌝ }
+{
+    if one == 0 { other } else { one }
+}
+
 // A lot line.
-pub fn lot_line(s: &[u8], at: usize, end: usize, blocks: u16) -> Lot
+pub fn lot_line(s: &[u8], at: usize, end: usize, blocks: u16, estimated: bool) -> Lot
     requires { ⌜ (at ≤ end) × (end ≤ length (now s)) ⌝ }
-    ensures { λ r. ⌜ LotRead blocks (slice at end (now (s .entry))) r ⌝ }
+    ensures { λ r. ⌜ LotRead blocks estimated (slice at end (now (s .entry))) r ⌝ }
 {
     let last = before_k(s, at, end);
-    if text::form(s, at, last, b"LOT") != 3 {
+    let numbers = numbers_of(estimated);
+    if text::form(s, at, last, b"LOT") != numbers + 1 {
         return Lot::NoLot(2);
     }
-    let weight = text::get(s, at, last, 1);
-    let block = text::get(s, at, last, 2);
-    if !between(1, 65535, weight) {
-        return Lot::NoLot(3);
+    let low = text::get(s, at, last, 1);
+    let high = high_of(s, at, last, low, estimated);
+    let block = text::get(s, at, last, numbers);
+    let bales = refuses_bales(low, high);
+    let session = refuses_session(block, blocks as u32);
+    let q = first_of(bales, session);
+    if q != 0 {
+        return Lot::NoLot(q);
     }
-    if !between(1, blocks as u32, block) {
-        return Lot::NoLot(3);
-    }
-    Lot::Of(weight, block as u16, last < end)
+    Lot::Of(low, high, block as u16, last < end)
 }
 
 // One mark more of buyer j: 0, or the refusal.
