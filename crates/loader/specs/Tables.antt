@@ -1,6 +1,7 @@
 -- What loading leaves in lent memory: for an accepted file, exactly what document 01's "Lent memory" says before any call. Rests on model's Memory and on reader. Assumes nothing.
 use Prim.Native.Nat.{ℕ, _≤_}
 use mathlib.Core.Path.{_≡_}
+use mathlib.Core.Bool.{Bool}
 use mathlib.Core.List.{List, []}
 use lib.Dec.{ltb}
 use lib.ListN.{length, getD}
@@ -46,28 +47,29 @@ pub record Started (h : Hypergraph) (old new : Lists) : Type 0 where
 abbrev pub sizesOf : ℕ → ℕ → ℕ → ℕ → ℕ → ℕ → ℕ → ℕ → Sizes
 sizesOf l b k t m n a c = record { vertices = l; nets = b; blocks = k; imbalance = t; pins = m; calls = n; average = a; capacity = c }
 
--- the catalogue that sizes, lists and net weights show
-abbrev pub graph : Sizes → Lists → List ℕ → Hypergraph
-graph z t nw = graphOf (z .vertices) (z .nets) (z .blocks) (z .imbalance) (t .weights) (t .blocks) (t .fixed) nw (t .firsts) (t .loadedSizes) (t .loadedPins)
+-- the catalogue that sizes, lists, net weights and lows show
+abbrev pub graph : Sizes → Lists → List ℕ → List ℕ → Hypergraph
+graph z t nw lo = graphOf (z .vertices) (z .nets) (z .blocks) (z .imbalance) (t .weights) (t .blocks) (t .fixed) nw lo (t .firsts) (t .loadedSizes) (t .loadedPins)
 
 -- what the loader's answer and the tables say
-abbrev pub seen : Loaded → Lists → List ℕ → List ℕ → Reading
-seen (Accepted z) t nw calls = reading (book (z .vertices) (z .nets) (graph z t nw) (z .pins) (callsOf (z .calls) calls))
-seen (Refused q n) t nw calls = stopped q n
+abbrev pub seen : Bool → Loaded → Lists → List ℕ → List ℕ → List ℕ → Reading
+seen estimated (Accepted z) t nw lo calls = reading (book estimated (z .vertices) (z .nets) (graph z t nw lo) (z .pins) (callsOf (z .calls) calls))
+seen estimated (Refused q n) t nw lo calls = stopped q n
 
 -- an accepted file: sizes in range, net weights of 1,024 entries, each three numbers of the table a call, the capacity and ⌈W/k⌉, no session above its cap, the lists
-pub record Accepts (limits : Limits) (z : Sizes) (old new : Lists) (nw calls : List ℕ) : Type 0 where
+pub record Accepts (limits : Limits) (z : Sizes) (old new : Lists) (nw lo calls : List ℕ) : Type 0 where
   pub range : InRange limits (z .vertices) (z .nets) (z .blocks) (z .imbalance)
   pub pins-le : z .pins ≤ 8192
   pub calls-le : z .calls ≤ 512
   pub costs : length nw ≡ 1024
   pub known : length (callsOf (z .calls) calls) ≡ z .calls
-  pub average : z .average ≡ averageWeight (graph z new nw)
-  pub capacity : z .capacity ≡ capacity (graph z new nw)
-  pub capped : Capped (graph z new nw) (capacities (graph z new nw)) [] (drafted (graph z new nw))
-  pub started : Started (graph z new nw) old new
+  pub average : z .average ≡ averageWeight (graph z new nw lo)
+  pub capacity : z .capacity ≡ capacity (graph z new nw lo)
+  pub capped : Capped (graph z new nw lo) (capacities (graph z new nw lo)) [] (drafted (graph z new nw lo))
+  pub started : Started (graph z new nw lo) old new
 
--- the loader's promise: model's grammar on the same bytes, and the tables of an accepted file
-pub record Loads (limits : Limits) (file : List ℕ) (r : Loaded) (old new : Lists) (nw calls : List ℕ) : Type 0 where
-  pub says : seen r new nw calls ≡ parse limits file
-  pub accepts : (z : Sizes) → r ≡ Accepted z → Accepts limits z old new nw calls
+-- the loader's promise: model's grammar on the same bytes, a sale's or an estimate's, and the tables of an accepted file
+pub record Loads (limits : Limits) (file : List ℕ) (r : Loaded) (old new : Lists) (nw lo calls : List ℕ) : Type 0 where
+  pub estimated : Bool
+  pub says : seen estimated r new nw lo calls ≡ parse limits file
+  pub accepts : (z : Sizes) → r ≡ Accepted z → Accepts limits z old new nw lo calls

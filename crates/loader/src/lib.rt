@@ -75,9 +75,9 @@ fn start(
     copy(loadedsizes, presentsizes, nets);
 }
 
-// The sizes of an accepted catalogue, with ⌈W/k⌉ and the cap.
+// The sizes of an accepted catalogue, with ⌈W/k⌉ and the cap, which are of the lows.
 fn measure(
-    weights: &[u32],
+    lows: &[u32],
     vertices: u32,
     nets: u32,
     blocks: u32,
@@ -85,11 +85,11 @@ fn measure(
     pins: usize,
     calls: usize,
 ) -> Sizes
-    requires { ⌜ (vertices ≤ 1024) × (vertices ≤ length (now weights)) × (1 ≤ blocks) × (blocks ≤ 16) × (imbalance ≤ 1000)
-        × (averageOf blocks (take vertices (now weights)) ≤ 67107871) ⌝ }
-    ensures { λ r. ⌜ r ≡ sizesOf vertices nets blocks imbalance pins calls (averageOf blocks (take vertices (now (weights .entry)))) (nearest ((1000 + imbalance) * averageOf blocks (take vertices (now (weights .entry))))) ⌝ }
+    requires { ⌜ (vertices ≤ 1024) × (vertices ≤ length (now lows)) × (1 ≤ blocks) × (blocks ≤ 16) × (imbalance ≤ 1000)
+        × (averageOf blocks (take vertices (now lows)) ≤ 67107871) ⌝ }
+    ensures { λ r. ⌜ r ≡ sizesOf vertices nets blocks imbalance pins calls (averageOf blocks (take vertices (now (lows .entry)))) (nearest ((1000 + imbalance) * averageOf blocks (take vertices (now (lows .entry))))) ⌝ }
 {
-    let average = reader::average_weight(weights, vertices as usize, blocks);
+    let average = reader::average_weight(lows, vertices as usize, blocks);
     let capacity = reader::capacity(average, imbalance);
     Sizes {
         vertices: vertices,
@@ -118,14 +118,15 @@ pub fn load(
     loadedsizes: &mut [u16],
     presentsizes: &mut [u16],
     netweights: &mut [u16; 1024],
+    lows: &mut [u32; 1024],
     calls: &mut [u32],
 ) -> Loaded
-    requires { ⌜ (vmax ≤ 1024) × (bmax ≤ 16) × (length (now netweights) ≡ 1024) × (1536 ≤ length (now calls)) × LongLists vmax
+    requires { ⌜ (vmax ≤ 1024) × (bmax ≤ 16) × (length (now netweights) ≡ 1024) × (length (now lows) ≡ 1024) × (1536 ≤ length (now calls)) × LongLists vmax
         (lists (now weights) (now blocks) (now aboves) (now fixed) (now loadedpins) (now presentpins) (now firsts) (now loadedsizes) (now presentsizes)) ⌝ }
     ensures { λ r. ⌜ Loads (limitsOf vmax bmax) (now (s .entry)) r
         (lists (now (weights .entry)) (now (blocks .entry)) (now (aboves .entry)) (now (fixed .entry)) (now (loadedpins .entry)) (now (presentpins .entry)) (now (firsts .entry)) (now (loadedsizes .entry)) (now (presentsizes .entry)))
         (lists (now (weights .exit)) (now (blocks .exit)) (now (aboves .exit)) (now (fixed .exit)) (now (loadedpins .exit)) (now (presentpins .exit)) (now (firsts .exit)) (now (loadedsizes .exit)) (now (presentsizes .exit)))
-        (now (netweights .exit)) (now (calls .exit)) ⌝ }
+        (now (netweights .exit)) (now (lows .exit)) (now (calls .exit)) ⌝ }
 {
     match reader::read(
         s,
@@ -135,6 +136,7 @@ pub fn load(
         blocks,
         fixed,
         netweights,
+        lows,
         firsts,
         loadedsizes,
         loadedpins,
@@ -152,7 +154,7 @@ pub fn load(
                 presentpins,
                 presentsizes,
             );
-            Loaded::Accepted(measure(weights, l, b, k, t, m, n))
+            Loaded::Accepted(measure(lows, l, b, k, t, m, n))
         }
     }
 }

@@ -39,15 +39,15 @@ module _ (x : ℕ) where
   nearest-up l n = rw (le-ltb (x % 1000) 500 l, ne-eqb (x % 1000) 500 n)
 
 -- the catalogue that the tables show, whichever lots are kept and whoever its buyers are
-module _ (l k t : ℕ) (w d fx : List ℕ) (ns : List Net) where
+module _ (l k t : ℕ) (w d fx lo : List ℕ) (ns : List Net) where
   abbrev graph : Hypergraph
-  graph = withNets (lotsGraph k t l w d fx) ns
+  graph = withNets (lotsGraph k t l w d fx lo) ns
 
-  pub average-is : averageWeight graph ≡ averageOf k (take l w)
+  pub average-is : averageWeight graph ≡ averageOf k (take l lo)
   unfolding averageWeight
   average-is = refl
 
-  pub capacity-is : capacity graph ≡ nearest ((1000 + t) * averageOf k (take l w))
+  pub capacity-is : capacity graph ≡ nearest ((1000 + t) * averageOf k (take l lo))
   unfolding capacity
   capacity-is = ap (λ (a : ℕ). nearest ((1000 + t) * a)) average-is
 
@@ -80,7 +80,7 @@ module _ (l k t : ℕ) (w d fx : List ℕ) (ns : List Net) where
         let z : suc i - 1 ≡ i = omega arith in
         rw (z, getD-take l d i 0 u, getD-take l w i 0 u)))
 
-    module _ (b a c r : ℕ) (ea : a ≡ averageOf k (take l w)) (ec : c ≡ nearest ((1000 + t) * a)) (er : r ≡ sum l (blockTerm (b + 1) w d)) where
+    module _ (b a c r : ℕ) (ea : a ≡ averageOf k (take l lo)) (ec : c ≡ nearest ((1000 + t) * a)) (er : r ≡ sum l (blockTerm (b + 1) w d)) where
       over-here : over (suc b) ≡ ltb c r
       over-here = ap over (sym (add-one b)) ∙ rw (capacity-is, block-is (b + 1), ← ea, ← ec, ← er)
 

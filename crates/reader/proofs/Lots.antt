@@ -39,109 +39,115 @@ partly-end k e n [] = ap (λ (t : Bool). cond t (reading k) (stopped 2 n)) e
 partly-end k e n (x ∷ xs) = ap (λ (t : Bool). cond (t && leb 512 (length (k .calls))) (stopped 7 n) (stopped 2 n)) e
 
 -- lots are missing
-module _ (l b : ℕ) (h : Hypergraph) (m : ℕ) (cs : List Call) (lt : length (h .weights) < l) where
-  pub few-lots : whole (book l b h m cs) ≡ false
+module _ (est : Bool) (l b : ℕ) (h : Hypergraph) (m : ℕ) (cs : List Call) (lt : length (h .weights) < l) where
+  pub few-lots : whole (book est l b h m cs) ≡ false
   few-lots = ap (λ (t : Bool). t && eqb (length (h .nets)) b) (ne-eqb (length (h .weights)) l (λ e. omega arith))
 
-  pub lot-turn : (limits : Limits) (n : ℕ) (x : List ℕ) → line limits n (reading (book l b h m cs)) x ≡ lotLine n (book l b h m cs) (endsInK x) (fields (beforeK x))
+  pub lot-turn : (limits : Limits) (n : ℕ) (x : List ℕ) → line limits n (reading (book est l b h m cs)) x ≡ lotLine n (book est l b h m cs) (endsInK x) (fields (beforeK x))
   unfolding line
   lot-turn limits n x = rw (lt-ltb (length (h .weights)) l lt)
 
-pub record OnLots (s : List ℕ) (at l blocks : ℕ) (w₀ d₀ fx₀ w d fx : List ℕ) (i k : ℕ) : Type 0 where
+pub record OnLots (s : List ℕ) (at l blocks : ℕ) (est : Bool) (w₀ d₀ fx₀ w d fx lo : List ℕ) (i k : ℕ) : Type 0 where
   pub i-le : i ≤ length s
   pub k-le : k ≤ l
   pub l-le : l ≤ 1024
   pub w-len : l ≤ length w
   pub d-len : l ≤ length d
   pub fx-len : l ≤ length fx
+  pub lo-len : length lo ≡ 1024
   pub w-same : length w ≡ length w₀
   pub d-same : length d ≡ length d₀
   pub fx-same : length fx ≡ length fx₀
   pub w-past : Past k w₀ w
   pub d-past : Past k d₀ d
   pub fx-past : Past k fx₀ fx
-  pub says : (limits : Limits) (b imbalance : ℕ) → lines limits 2 (reading (book l b (lotsGraph blocks imbalance 0 w d fx) 0 [])) (parts 10 (slice at (length s) s))
-      ≡ lines limits (k + 2) (grown (k + 1) (book l b (lotsGraph blocks imbalance k w d fx) 0 [])) (parts 10 (slice i (length s) s))
+  pub says : (limits : Limits) (b imbalance : ℕ) → lines limits 2 (reading (book est l b (lotsGraph blocks imbalance 0 w d fx lo) 0 [])) (parts 10 (slice at (length s) s))
+      ≡ lines limits (k + 2) (grown (k + 1) (book est l b (lotsGraph blocks imbalance k w d fx lo) 0 [])) (parts 10 (slice i (length s) s))
 
-pub lots-start : (s : List ℕ) (at l blocks : ℕ) (w d fx : List ℕ) → at ≤ length s → 1 ≤ l → l ≤ 1024 → l ≤ length w → l ≤ length d → l ≤ length fx → OnLots s at l blocks w d fx w d fx at 0
-lots-start s at l blocks w d fx a low high p q r = record {
+pub lots-start : (s : List ℕ) (at l blocks : ℕ) (est : Bool) (w d fx lo : List ℕ) → at ≤ length s → 1 ≤ l → l ≤ 1024 → l ≤ length w → l ≤ length d → l ≤ length fx → length lo ≡ 1024 → OnLots s at l blocks est w d fx w d fx lo at 0
+lots-start s at l blocks est w d fx lo a low high p q r o = record {
   i-le = a;
   k-le = omega arith;
   l-le = high;
   w-len = p;
   d-len = q;
   fx-len = r;
+  lo-len = o;
   w-same = refl;
   d-same = refl;
   fx-same = refl;
   w-past = λ x u. refl;
   d-past = λ x u. refl;
   fx-past = λ x u. refl;
-  says = λ limits b imbalance. ap (λ (r : Reading). lines limits 2 r (parts 10 (slice at (length s) s))) (sym (partly (book l b (lotsGraph blocks imbalance 0 w d fx) 0 []) (few-lots l b (lotsGraph blocks imbalance 0 w d fx) 0 [] (omega arith)) 1));
+  says = λ limits b imbalance. ap (λ (r : Reading). lines limits 2 r (parts 10 (slice at (length s) s))) (sym (partly (book est l b (lotsGraph blocks imbalance 0 w d fx lo) 0 []) (few-lots est l b (lotsGraph blocks imbalance 0 w d fx lo) 0 [] (omega arith)) 1));
 }
 
-pub lots-done : (s : List ℕ) (at l blocks : ℕ) (w₀ d₀ fx₀ w d fx : List ℕ) (i k : ℕ) → OnLots s at l blocks w₀ d₀ fx₀ w d fx i k → k ≡ l → LotsRead s at l blocks (Up i) w₀ d₀ fx₀ w d fx
-lots-done s at l blocks w₀ d₀ fx₀ w d fx i k on e = record {
+pub lots-done : (s : List ℕ) (at l blocks : ℕ) (est : Bool) (w₀ d₀ fx₀ w d fx lo : List ℕ) (i k : ℕ) → OnLots s at l blocks est w₀ d₀ fx₀ w d fx lo i k → k ≡ l → LotsRead s at l blocks est (Up i) w₀ d₀ fx₀ w d fx lo
+lots-done s at l blocks est w₀ d₀ fx₀ w d fx lo i k on e = record {
   inside = λ j q. let z : i ≡ j = cc in omega (arith, on .i-le);
   w-past = λ x u. on .w-past x (omega arith);
   d-past = λ x u. on .d-past x (omega arith);
   fx-past = λ x u. on .fx-past x (omega arith);
-  says = λ limits b imbalance. sym (on .says limits b imbalance ∙ ap (λ (n : ℕ). lines limits (n + 2) (grown (n + 1) (book l b (lotsGraph blocks imbalance n w d fx) 0 [])) (parts 10 (slice i (length s) s))) e);
+  lo-len = on .lo-len;
+  says = λ limits b imbalance. sym (on .says limits b imbalance ∙ ap (λ (n : ℕ). lines limits (n + 2) (grown (n + 1) (book est l b (lotsGraph blocks imbalance n w d fx lo) 0 [])) (parts 10 (slice i (length s) s))) e);
 }
 
-module _ (s : List ℕ) (at l blocks : ℕ) (w₀ d₀ fx₀ w d fx : List ℕ) (i k : ℕ) (on : OnLots s at l blocks w₀ d₀ fx₀ w d fx i k) (lt : k < l) where
+module _ (s : List ℕ) (at l blocks : ℕ) (est : Bool) (w₀ d₀ fx₀ w d fx lo : List ℕ) (i k : ℕ) (on : OnLots s at l blocks est w₀ d₀ fx₀ w d fx lo i k) (lt : k < l) where
   abbrev graph : ℕ → Hypergraph
-  graph imbalance = lotsGraph blocks imbalance k w d fx
+  graph imbalance = lotsGraph blocks imbalance k w d fx lo
 
   size : length (take k w) ≡ k
   size = length-take-le k w (omega (arith, on .w-len, on .l-le))
 
-  some : (b imbalance : ℕ) → whole (book l b (graph imbalance) 0 []) ≡ false
-  some b imbalance = few-lots l b (graph imbalance) 0 [] (omega (arith, size))
+  some : (b imbalance : ℕ) → whole (book est l b (graph imbalance) 0 []) ≡ false
+  some b imbalance = few-lots est l b (graph imbalance) 0 [] (omega (arith, size))
 
-  here : (limits : Limits) (b imbalance : ℕ) → lines limits 2 (reading (book l b (lotsGraph blocks imbalance 0 w d fx) 0 [])) (parts 10 (slice at (length s) s)) ≡ lines limits (k + 2) (reading (book l b (graph imbalance) 0 [])) (parts 10 (slice i (length s) s))
-  here limits b imbalance = on .says limits b imbalance ∙ ap (λ (r : Reading). lines limits (k + 2) r (parts 10 (slice i (length s) s))) (partly (book l b (graph imbalance) 0 []) (some b imbalance) (k + 1))
+  here : (limits : Limits) (b imbalance : ℕ) → lines limits 2 (reading (book est l b (lotsGraph blocks imbalance 0 w d fx lo) 0 [])) (parts 10 (slice at (length s) s)) ≡ lines limits (k + 2) (reading (book est l b (graph imbalance) 0 [])) (parts 10 (slice i (length s) s))
+  here limits b imbalance = on .says limits b imbalance ∙ ap (λ (r : Reading). lines limits (k + 2) r (parts 10 (slice i (length s) s))) (partly (book est l b (graph imbalance) 0 []) (some b imbalance) (k + 1))
 
   never : {A : Type 0} (q n j : ℕ) → Stop q n ≡ Up j → A
   never q n j e = absurd (let z : _≡_ {A = ℕ} 0 1 = cc in omega arith)
 
   module _ (e : ℕ) (found : FirstAt s i (length s) 10 e) where
-    pub lots-none : e ≡ length s → LotsRead s at l blocks (Stop 2 (k + 2)) w₀ d₀ fx₀ w d fx
+    pub lots-none : e ≡ length s → LotsRead s at l blocks est (Stop 2 (k + 2)) w₀ d₀ fx₀ w d fx lo
     lots-none x = record {
       inside = λ j q. never 2 (k + 2) j q;
       w-past = λ x u. on .w-past x (omega arith);
       d-past = λ x u. on .d-past x (omega arith);
       fx-past = λ x u. on .fx-past x (omega arith);
-      says = λ limits b imbalance. sym (here limits b imbalance ∙ no-more limits s (length s) i e (k + 2) (on .i-le) (omega arith) found (reading (book l b (graph imbalance) 0 [])) (stopped 2 (k + 2)) x (partly-end (book l b (graph imbalance) 0 []) (some b imbalance) (k + 2)));
+      lo-len = on .lo-len;
+      says = λ limits b imbalance. sym (here limits b imbalance ∙ no-more limits s (length s) i e (k + 2) (on .i-le) (omega arith) found (reading (book est l b (graph imbalance) 0 [])) (stopped 2 (k + 2)) x (partly-end (book est l b (graph imbalance) 0 []) (some b imbalance) (k + 2)));
     }
 
-    module _ (more : e < length s) (r : Lot) (read : LotRead blocks (slice i e s) r) where
-      step : (limits : Limits) (b imbalance : ℕ) → lines limits 2 (reading (book l b (lotsGraph blocks imbalance 0 w d fx) 0 [])) (parts 10 (slice at (length s) s))
-          ≡ lines limits (k + 2 + 1) (lotted (k + 2) (book l b (graph imbalance) 0 []) r) (parts 10 (slice (e + 1) (length s) s))
+    module _ (more : e < length s) (r : Lot) (read : LotRead blocks est (slice i e s) r) where
+      step : (limits : Limits) (b imbalance : ℕ) → lines limits 2 (reading (book est l b (lotsGraph blocks imbalance 0 w d fx lo) 0 [])) (parts 10 (slice at (length s) s))
+          ≡ lines limits (k + 2 + 1) (lotted (k + 2) (book est l b (graph imbalance) 0 []) r) (parts 10 (slice (e + 1) (length s) s))
       step limits b imbalance =
           here limits b imbalance
-          ∙ turned limits s (length s) i e (k + 2) (on .i-le) (omega arith) found (reading (book l b (graph imbalance) 0 [])) more
+          ∙ turned limits s (length s) i e (k + 2) (on .i-le) (omega arith) found (reading (book est l b (graph imbalance) 0 [])) more
           ∙ ap (λ (x : Reading). lines limits (k + 2 + 1) x (parts 10 (slice (e + 1) (length s) s)))
-          (lot-turn l b (graph imbalance) 0 [] (omega (arith, size)) limits (k + 2) (slice i e s) ∙ sym (read (k + 2) (book l b (graph imbalance) 0 []) refl))
+          (lot-turn est l b (graph imbalance) 0 [] (omega (arith, size)) limits (k + 2) (slice i e s) ∙ sym (read (k + 2) (book est l b (graph imbalance) 0 []) refl refl))
 
-      pub lots-stop : (q : ℕ) → r ≡ NoLot q → LotsRead s at l blocks (Stop q (k + 2)) w₀ d₀ fx₀ w d fx
+      pub lots-stop : (q : ℕ) → r ≡ NoLot q → LotsRead s at l blocks est (Stop q (k + 2)) w₀ d₀ fx₀ w d fx lo
       lots-stop q x = record {
         inside = λ j z. never q (k + 2) j z;
         w-past = λ x u. on .w-past x (omega arith);
         d-past = λ x u. on .d-past x (omega arith);
         fx-past = λ x u. on .fx-past x (omega arith);
-        says = λ limits b imbalance. sym (step limits b imbalance ∙ ap (λ (y : Lot). lines limits (k + 2 + 1) (lotted (k + 2) (book l b (graph imbalance) 0 []) y) (parts 10 (slice (e + 1) (length s) s))) x ∙ lines-stopped limits (k + 2 + 1) q (k + 2) (parts 10 (slice (e + 1) (length s) s)));
+        lo-len = on .lo-len;
+        says = λ limits b imbalance. sym (step limits b imbalance ∙ ap (λ (y : Lot). lines limits (k + 2 + 1) (lotted (k + 2) (book est l b (graph imbalance) 0 []) y) (parts 10 (slice (e + 1) (length s) s))) x ∙ lines-stopped limits (k + 2 + 1) q (k + 2) (parts 10 (slice (e + 1) (length s) s)));
       }
 
-      pub lots-on : (x y : ℕ) (t : Bool) → r ≡ Of x y t → OnLots s at l blocks w₀ d₀ fx₀ (set w k x) (set d k y) (set fx k (boolByte t)) (e + 1) (k + 1)
+      pub lots-on : (o x y : ℕ) (t : Bool) → r ≡ Of o x y t → OnLots s at l blocks est w₀ d₀ fx₀ (set w k x) (set d k y) (set fx k (boolByte t)) (set lo k o) (e + 1) (k + 1)
       unfolding withLot
-      lots-on x y t z = record {
+      lots-on o x y t z = record {
         i-le = omega arith;
         k-le = omega arith;
         l-le = on .l-le;
         w-len = simp length-set (on .w-len);
         d-len = simp length-set (on .d-len);
         fx-len = simp length-set (on .fx-len);
+        lo-len = simp length-set (on .lo-len);
         w-same = simp length-set (on .w-same);
         d-same = simp length-set (on .d-same);
         fx-same = simp length-set (on .fx-same);
@@ -153,8 +159,9 @@ module _ (s : List ℕ) (at l blocks : ℕ) (w₀ d₀ fx₀ w d fx : List ℕ) 
             let q : k + 1 + 1 ≡ k + 2 = omega arith in
             let u : take (k + 1) (set w k x) ≡ take k w ++ (x ∷ []) = rw add-one (take-suc-set w k x (omega (arith, on .w-len, on .l-le))) in
             let v : take (k + 1) (set d k y) ≡ take k d ++ (y ∷ []) = rw add-one (take-suc-set d k y (omega (arith, on .d-len, on .l-le))) in
+            let v′ : take (k + 1) (set lo k o) ≡ take k lo ++ (o ∷ []) = rw add-one (take-suc-set lo k o (omega (arith, on .lo-len, on .l-le))) in
             let g : take (k + 1) (set fx k (boolByte t)) ≡ take k fx ++ (one t ∷ []) = rw (add-one, ← byte-one t) (take-suc-set fx k (boolByte t) (omega (arith, on .fx-len, on .l-le))) in
             step limits b imbalance
-            ∙ ap (λ (r : Lot). lines limits (k + 2 + 1) (lotted (k + 2) (book l b (graph imbalance) 0 []) r) (parts 10 (slice (e + 1) (length s) s))) z
-            ∙ rw (p, q, u, v, g, sumOver-more (take k w) x (λ n. n));
+            ∙ ap (λ (r : Lot). lines limits (k + 2 + 1) (lotted (k + 2) (book est l b (graph imbalance) 0 []) r) (parts 10 (slice (e + 1) (length s) s))) z
+            ∙ rw (p, q, u, v, v′, g, sumOver-more (take k lo) o (λ n. n));
       }

@@ -84,21 +84,21 @@ laid-more j m e f₀ c₀ marks₀ f c marks marks′ le fl cl el on past = reco
     first x u (no n) = getD-set-other f j x m 0 n ∙ on .first-is x (omega arith) ∙ sym (sizes-keep x j (e - m) c (omega arith))
 
 -- ---- buyers are missing
-module _ (l b : ℕ) (h : Hypergraph) (m : ℕ) (ns : List Net) (size : vertices h ≡ l) (lt : length ns < b) where
-  few-nets : whole (book l b (withNets h ns) m []) ≡ false
+module _ (est : Bool) (l b : ℕ) (h : Hypergraph) (m : ℕ) (ns : List Net) (size : vertices h ≡ l) (lt : length ns < b) where
+  few-nets : whole (book est l b (withNets h ns) m []) ≡ false
   few-nets = ap (λ (t : Bool). eqb (vertices h) l && t) (ne-eqb (length ns) b (λ e. omega arith)) ∙ go (eqb (vertices h) l)
     where
       go : (t : Bool) → (t && false) ≡ false
       go true = refl
       go false = refl
 
-  buy-turn : (limits : Limits) (n : ℕ) (x : List ℕ) → line limits n (reading (book l b (withNets h ns) m [])) x ≡ buyLine n (book l b (withNets h ns) m []) (fields x)
+  buy-turn : (limits : Limits) (n : ℕ) (x : List ℕ) → line limits n (reading (book est l b (withNets h ns) m [])) x ≡ buyLine n (book est l b (withNets h ns) m []) (fields x)
   unfolding line
   buy-turn limits n x = rw (le-ltb (vertices h) l (omega arith), lt-ltb (length ns) b lt)
 
-net-read-is : (n l b w m e : ℕ) (h : Hypergraph) (ns : List Net) (vs : List ℕ) → netRead n (book l b (withNets h ns) m []) w (marked vs e) ≡ grown n (book l b (withNets h (ns ++ (record { weight = w; pins = vs } ∷ []))) e [])
+net-read-is : (est : Bool) (n l b w m e : ℕ) (h : Hypergraph) (ns : List Net) (vs : List ℕ) → netRead n (book est l b (withNets h ns) m []) w (marked vs e) ≡ grown n (book est l b (withNets h (ns ++ (record { weight = w; pins = vs } ∷ []))) e [])
 unfolding netRead withNet
-net-read-is n l b w m e h ns vs = refl
+net-read-is est n l b w m e h ns vs = refl
 
 pub record OnBuys (s : List ℕ) (at l b : ℕ) (f₀ c₀ marks₀ w f c marks stamps : List ℕ) (i j m : ℕ) : Type 0 where
   pub i-le : i ≤ length s
@@ -117,8 +117,8 @@ pub record OnBuys (s : List ℕ) (at l b : ℕ) (f₀ c₀ marks₀ w f c marks 
   pub fresh : Fresh (j + 1) stamps
   pub inside : (x : ℕ) → x < j → getD f x 0 + getD c x 0 ≤ m
   pub laid : Laid j m f₀ c₀ marks₀ f c marks
-  pub says : (limits : Limits) (h : Hypergraph) → vertices h ≡ l → lines limits (l + 2) (grown (l + 1) (book l b (withNets h []) 0 [])) (parts 10 (slice at (length s) s))
-      ≡ lines limits (l + 2 + j) (grown (l + 1 + j) (book l b (withNets h (netsOf j w f c marks)) m [])) (parts 10 (slice i (length s) s))
+  pub says : (limits : Limits) (est : Bool) (h : Hypergraph) → vertices h ≡ l → lines limits (l + 2) (grown (l + 1) (book est l b (withNets h []) 0 [])) (parts 10 (slice at (length s) s))
+      ≡ lines limits (l + 2 + j) (grown (l + 1 + j) (book est l b (withNets h (netsOf j w f c marks)) m [])) (parts 10 (slice i (length s) s))
 
 pub buys-start : (s : List ℕ) (at l b : ℕ) (w f c marks stamps : List ℕ) → BuysReady s at l b w f c marks stamps → OnBuys s at l b f c marks w f c marks stamps at 0 0
 unfolding netsOf
@@ -139,7 +139,7 @@ buys-start s at l b w f c marks stamps r = record {
   fresh = r .fresh;
   inside = λ x u. absurd (omega arith);
   laid = record { m-le = omega arith; m-is = sym (sum-zero (λ y. getD c y 0)); first-is = λ x u. absurd (omega arith); past = λ x u. refl; f-past = λ x u. refl; c-past = λ x u. refl };
-  says = λ limits h e. let p : l + 2 + 0 ≡ l + 2 = omega arith in let q : l + 1 + 0 ≡ l + 1 = omega arith in rw (p, q);
+  says = λ limits est h e. let p : l + 2 + 0 ≡ l + 2 = omega arith in let q : l + 1 + 0 ≡ l + 1 = omega arith in rw (p, q);
 }
 
 module _ (s : List ℕ) (at l b : ℕ) (f₀ c₀ marks₀ w f c marks stamps : List ℕ) (i j m : ℕ) (on : OnBuys s at l b f₀ c₀ marks₀ w f c marks stamps i j m) where
@@ -148,21 +148,21 @@ module _ (s : List ℕ) (at l b : ℕ) (f₀ c₀ marks₀ w f c marks stamps : 
     inside = λ x y q. let z : i ≡ x = cc in omega (arith, on .i-le);
     w-len = λ x y q. on .w-len;
     laid = λ x y q. let z : m ≡ y = cc in rw (← z, ← e) (on .laid);
-    says = λ limits h q. sym (on .says limits h q ∙ ap (λ (n : ℕ). lines limits (l + 2 + n) (grown (l + 1 + n) (book l b (withNets h (netsOf n w f c marks)) m [])) (parts 10 (slice i (length s) s))) e);
+    says = λ limits est h q. sym (on .says limits est h q ∙ ap (λ (n : ℕ). lines limits (l + 2 + n) (grown (l + 1 + n) (book est l b (withNets h (netsOf n w f c marks)) m [])) (parts 10 (slice i (length s) s))) e);
   }
 
   module _ (lt : j < b) where
     abbrev ns : List Net
     ns = netsOf j w f c marks
 
-    abbrev now-book : Hypergraph → Book
-    now-book h = book l b (withNets h ns) m []
+    abbrev now-book : Bool → Hypergraph → Book
+    now-book est h = book est l b (withNets h ns) m []
 
-    few : (h : Hypergraph) → vertices h ≡ l → whole (now-book h) ≡ false
-    few h q = few-nets l b h m ns q (omega (arith, nets-length j w f c marks))
+    few : (est : Bool) (h : Hypergraph) → vertices h ≡ l → whole (now-book est h) ≡ false
+    few est h q = few-nets est l b h m ns q (omega (arith, nets-length j w f c marks))
 
-    here : (limits : Limits) (h : Hypergraph) → vertices h ≡ l → lines limits (l + 2) (grown (l + 1) (book l b (withNets h []) 0 [])) (parts 10 (slice at (length s) s)) ≡ lines limits (l + 2 + j) (reading (now-book h)) (parts 10 (slice i (length s) s))
-    here limits h q = on .says limits h q ∙ ap (λ (r : Reading). lines limits (l + 2 + j) r (parts 10 (slice i (length s) s))) (partly (now-book h) (few h q) (l + 1 + j))
+    here : (limits : Limits) (est : Bool) (h : Hypergraph) → vertices h ≡ l → lines limits (l + 2) (grown (l + 1) (book est l b (withNets h []) 0 [])) (parts 10 (slice at (length s) s)) ≡ lines limits (l + 2 + j) (reading (now-book est h)) (parts 10 (slice i (length s) s))
+    here limits est h q = on .says limits est h q ∙ ap (λ (r : Reading). lines limits (l + 2 + j) r (parts 10 (slice i (length s) s))) (partly (now-book est h) (few est h q) (l + 1 + j))
 
     module _ (e : ℕ) (found : FirstAt s i (length s) 10 e) where
       pub buys-none : e ≡ length s → BuysRead s at l b (Cut 2 (l + 2 + j)) f₀ c₀ marks₀ w f c marks
@@ -170,24 +170,24 @@ module _ (s : List ℕ) (at l b : ℕ) (f₀ c₀ marks₀ w f c marks stamps : 
         inside = λ y z q. absurd (let u : _≡_ {A = ℕ} 0 1 = cc in omega arith);
         w-len = λ y z q. on .w-len;
         laid = λ y z q. absurd (let u : _≡_ {A = ℕ} 0 1 = cc in omega arith);
-        says = λ limits h q. sym (here limits h q ∙ no-more limits s (length s) i e (l + 2 + j) (on .i-le) (omega arith) found (reading (now-book h)) (stopped 2 (l + 2 + j)) x (partly-end (now-book h) (few h q) (l + 2 + j)));
+        says = λ limits est h q. sym (here limits est h q ∙ no-more limits s (length s) i e (l + 2 + j) (on .i-le) (omega arith) found (reading (now-book est h)) (stopped 2 (l + 2 + j)) x (partly-end (now-book est h) (few est h q) (l + 2 + j)));
       }
 
       module _ (more : e < length s) (r : Buy) (marks′ stamps′ : List ℕ) (read : BuyRead (fields (slice i e s)) l (j + 1) m r marks marks′ stamps′) where
-        step : (limits : Limits) (h : Hypergraph) → vertices h ≡ l → lines limits (l + 2) (grown (l + 1) (book l b (withNets h []) 0 [])) (parts 10 (slice at (length s) s))
-            ≡ lines limits (l + 2 + j + 1) (buySeen (l + 2 + j) (now-book h) m r marks′) (parts 10 (slice (e + 1) (length s) s))
-        step limits h q =
-            here limits h q
-            ∙ turned limits s (length s) i e (l + 2 + j) (on .i-le) (omega arith) found (reading (now-book h)) more
+        step : (limits : Limits) (est : Bool) (h : Hypergraph) → vertices h ≡ l → lines limits (l + 2) (grown (l + 1) (book est l b (withNets h []) 0 [])) (parts 10 (slice at (length s) s))
+            ≡ lines limits (l + 2 + j + 1) (buySeen (l + 2 + j) (now-book est h) m r marks′) (parts 10 (slice (e + 1) (length s) s))
+        step limits est h q =
+            here limits est h q
+            ∙ turned limits s (length s) i e (l + 2 + j) (on .i-le) (omega arith) found (reading (now-book est h)) more
             ∙ ap (λ (x : Reading). lines limits (l + 2 + j + 1) x (parts 10 (slice (e + 1) (length s) s)))
-            (buy-turn l b h m ns q (omega (arith, nets-length j w f c marks)) limits (l + 2 + j) (slice i e s) ∙ sym (read .says (l + 2 + j) (now-book h) q refl))
+            (buy-turn est l b h m ns q (omega (arith, nets-length j w f c marks)) limits (l + 2 + j) (slice i e s) ∙ sym (read .says (l + 2 + j) (now-book est h) q refl))
 
         pub buys-stop : (q : ℕ) → r ≡ NoBuy q → BuysRead s at l b (Cut q (l + 2 + j)) f₀ c₀ marks₀ w f c marks′
         buys-stop q x = record {
           inside = λ y z u. absurd (let v : _≡_ {A = ℕ} 0 1 = cc in omega arith);
           w-len = λ y z u. on .w-len;
           laid = λ y z u. absurd (let v : _≡_ {A = ℕ} 0 1 = cc in omega arith);
-          says = λ limits h z. sym (step limits h z ∙ ap (λ (y : Buy). lines limits (l + 2 + j + 1) (buySeen (l + 2 + j) (now-book h) m y marks′) (parts 10 (slice (e + 1) (length s) s))) x ∙ lines-stopped limits (l + 2 + j + 1) q (l + 2 + j) (parts 10 (slice (e + 1) (length s) s)));
+          says = λ limits est h z. sym (step limits est h z ∙ ap (λ (y : Buy). lines limits (l + 2 + j + 1) (buySeen (l + 2 + j) (now-book est h) m y marks′) (parts 10 (slice (e + 1) (length s) s))) x ∙ lines-stopped limits (l + 2 + j + 1) q (l + 2 + j) (parts 10 (slice (e + 1) (length s) s)));
         }
 
         module _ (x z : ℕ) (is : r ≡ Bought x z) where
@@ -217,11 +217,11 @@ module _ (s : List ℕ) (at l b : ℕ) (f₀ c₀ marks₀ w f c marks stamps : 
                 fresh = record { below = λ y. omega (arith, grows .below y) };
                 inside = inside-more j m z x w f c marks marks′ (read .keep) le wl fl cl (on .inside);
                 laid = laid-more j m z f₀ c₀ marks₀ f c marks marks′ le fl cl (grows .m-le) (on .laid) (read .past x z is);
-                says = λ limits h q.
+                says = λ limits est h q.
                     let p : l + 2 + (j + 1) ≡ l + 2 + j + 1 = omega arith in
                     let u : l + 1 + (j + 1) ≡ l + 2 + j = omega arith in
-                    step limits h q
-                    ∙ ap (λ (y : Buy). lines limits (l + 2 + j + 1) (buySeen (l + 2 + j) (now-book h) m y marks′) (parts 10 (slice (e + 1) (length s) s))) is
-                    ∙ ap (λ (y : Reading). lines limits (l + 2 + j + 1) y (parts 10 (slice (e + 1) (length s) s))) (net-read-is (l + 2 + j) l b x m z h ns (slice m z marks′))
+                    step limits est h q
+                    ∙ ap (λ (y : Buy). lines limits (l + 2 + j + 1) (buySeen (l + 2 + j) (now-book est h) m y marks′) (parts 10 (slice (e + 1) (length s) s))) is
+                    ∙ ap (λ (y : Reading). lines limits (l + 2 + j + 1) y (parts 10 (slice (e + 1) (length s) s))) (net-read-is est (l + 2 + j) l b x m z h ns (slice m z marks′))
                     ∙ rw (p, u, nets-more j m z x w f c marks marks′ (read .keep) le wl fl cl (on .inside));
               }

@@ -64,8 +64,8 @@ pub turned : (limits : Limits) (s : List ℕ) (len i e n : ℕ) → i ≤ len �
 turned limits s len i e n le within found r more = ap (lines limits n r) (parts-on s i len 10 e le within found more) ∙ lines-on limits n r (slice i e s) (slice (e + 1) len s)
 
 -- ---- the calls
-module _ (limits : Limits) (l b m : ℕ) (h : Hypergraph) (cs : List Call) (w : whole (book l b h m []) ≡ true) (n : ℕ) where
-  call-turn : (x : List ℕ) → line limits n (reading (book l b h m cs)) x ≡ callLine n (book l b h m cs) (fields x)
+module _ (limits : Limits) (est : Bool) (l b m : ℕ) (h : Hypergraph) (cs : List Call) (w : whole (book est l b h m []) ≡ true) (n : ℕ) where
+  call-turn : (x : List ℕ) → line limits n (reading (book est l b h m cs)) x ≡ callLine n (book est l b h m cs) (fields x)
   unfolding line
   call-turn x =
       rw (
@@ -73,37 +73,37 @@ module _ (limits : Limits) (l b m : ℕ) (h : Hypergraph) (cs : List Call) (w : 
         le-ltb (length (h .nets)) b (omega (arith, eqb-true (length (h .nets)) b (and-right (eqb (length (h .weights)) l) _ w))),
       )
 
-  not-full : length cs < 512 → full (book l b h m cs) ≡ false
-  not-full u = rw (lt-leb 512 (length cs) u) (go (whole (book l b h m [])))
+  not-full : length cs < 512 → full (book est l b h m cs) ≡ false
+  not-full u = rw (lt-leb 512 (length cs) u) (go (whole (book est l b h m [])))
     where
       go : (t : Bool) → (t && false) ≡ false
       go true = refl
       go false = refl
 
-  is-full : 512 ≤ length cs → full (book l b h m cs) ≡ true
+  is-full : 512 ≤ length cs → full (book est l b h m cs) ≡ true
   is-full u = rw (w, le-leb 512 (length cs) u)
 
-  call-line-is : (x : List ℕ) (t : Bool) → full (book l b h m cs) ≡ t → line limits n (reading (book l b h m cs)) x ≡ cond t (stopped 7 n) (withCall n (book l b h m cs) (asked (fields x)))
+  call-line-is : (x : List ℕ) (t : Bool) → full (book est l b h m cs) ≡ t → line limits n (reading (book est l b h m cs)) x ≡ cond t (stopped 7 n) (withCall n (book est l b h m cs) (asked (fields x)))
   unfolding callLine
-  call-line-is x t e = call-turn x ∙ ap (λ (u : Bool). cond u (stopped 7 n) (withCall n (book l b h m cs) (asked (fields x)))) e
+  call-line-is x t e = call-turn x ∙ ap (λ (u : Bool). cond u (stopped 7 n) (withCall n (book est l b h m cs) (asked (fields x)))) e
 
-  pub call-bad : (x : List ℕ) → length cs < 512 → nothing ≡ asked (fields x) → line limits n (reading (book l b h m cs)) x ≡ stopped 2 n
+  pub call-bad : (x : List ℕ) → length cs < 512 → nothing ≡ asked (fields x) → line limits n (reading (book est l b h m cs)) x ≡ stopped 2 n
   unfolding withCall
-  call-bad x u e = call-line-is x false (not-full u) ∙ ap (withCall n (book l b h m cs)) (sym e)
+  call-bad x u e = call-line-is x false (not-full u) ∙ ap (withCall n (book est l b h m cs)) (sym e)
 
-  pub call-more : (x : List ℕ) (c : Call) → length cs < 512 → asks c ≡ asked (fields x) → line limits n (reading (book l b h m cs)) x ≡ reading (book l b h m (cs ++ (c ∷ [])))
+  pub call-more : (x : List ℕ) (c : Call) → length cs < 512 → asks c ≡ asked (fields x) → line limits n (reading (book est l b h m cs)) x ≡ reading (book est l b h m (cs ++ (c ∷ [])))
   unfolding withCall
-  call-more x c u e = call-line-is x false (not-full u) ∙ ap (withCall n (book l b h m cs)) (sym e)
+  call-more x c u e = call-line-is x false (not-full u) ∙ ap (withCall n (book est l b h m cs)) (sym e)
 
-  pub call-end : ending n (reading (book l b h m cs)) [] ≡ reading (book l b h m cs)
+  pub call-end : ending n (reading (book est l b h m cs)) [] ≡ reading (book est l b h m cs)
   unfolding ending
-  call-end = ap (λ (t : Bool). cond t (reading (book l b h m cs)) (stopped 2 n)) w
+  call-end = ap (λ (t : Bool). cond t (reading (book est l b h m cs)) (stopped 2 n)) w
 
-  pub call-unended : length cs < 512 → (x : ℕ) (xs : List ℕ) → ending n (reading (book l b h m cs)) (x ∷ xs) ≡ stopped 2 n
+  pub call-unended : length cs < 512 → (x : ℕ) (xs : List ℕ) → ending n (reading (book est l b h m cs)) (x ∷ xs) ≡ stopped 2 n
   unfolding ending
   call-unended u x xs = ap (λ (t : Bool). cond t (stopped 7 n) (stopped 2 n)) (not-full u)
 
-  pub call-full : (s : List ℕ) (len i : ℕ) → i < len → len ≤ length s → 512 ≤ length cs → lines limits n (reading (book l b h m cs)) (parts 10 (slice i len s)) ≡ stopped 7 n
+  pub call-full : (s : List ℕ) (len i : ℕ) → i < len → len ≤ length s → 512 ≤ length cs → lines limits n (reading (book est l b h m cs)) (parts 10 (slice i len s)) ≡ stopped 7 n
   unfolding ending
   call-full s len i lt within u = go (ltb e len) refl
     where
@@ -113,9 +113,9 @@ module _ (limits : Limits) (l b m : ℕ) (h : Hypergraph) (cs : List Call) (w : 
       found : FirstAt s i len 10 e
       found = record { is = refl; low = omega arith; high = first-within s i len 10 (omega arith) within }
 
-      go : (t : Bool) → ltb e len ≡ t → lines limits n (reading (book l b h m cs)) (parts 10 (slice i len s)) ≡ stopped 7 n
-      go true q = turn-stop limits s len i e n lt within found (reading (book l b h m cs)) 7 n (ltb-true e len q) (call-line-is (slice i e s) true (is-full u))
-      go false q = unended limits s len i e n lt within found (reading (book l b h m cs)) (stopped 7 n) (omega (arith, ltb-false e len q, found .high))
+      go : (t : Bool) → ltb e len ≡ t → lines limits n (reading (book est l b h m cs)) (parts 10 (slice i len s)) ≡ stopped 7 n
+      go true q = turn-stop limits s len i e n lt within found (reading (book est l b h m cs)) 7 n (ltb-true e len q) (call-line-is (slice i e s) true (is-full u))
+      go false q = unended limits s len i e n lt within found (reading (book est l b h m cs)) (stopped 7 n) (omega (arith, ltb-false e len q, found .high))
           (λ x xs. ap (λ (t : Bool). cond t (stopped 7 n) (stopped 2 n)) (is-full u))
 
 -- ---- the table of calls
@@ -158,28 +158,28 @@ pub record OnCalls (s : List ℕ) (at n : ℕ) (t₀ t : List ℕ) (i c : ℕ) :
   pub wide : 1536 ≤ length t
   pub same : length t ≡ length t₀
   pub count : length (callsOf c t) ≡ c
-  pub says : (limits : Limits) (l b m : ℕ) (h : Hypergraph) → whole (book l b h m []) ≡ true
-      → lines limits n (reading (book l b h m [])) (parts 10 (slice at (length s) s)) ≡ lines limits (n + c) (reading (book l b h m (callsOf c t))) (parts 10 (slice i (length s) s))
+  pub says : (limits : Limits) (est : Bool) (l b m : ℕ) (h : Hypergraph) → whole (book est l b h m []) ≡ true
+      → lines limits n (reading (book est l b h m [])) (parts 10 (slice at (length s) s)) ≡ lines limits (n + c) (reading (book est l b h m (callsOf c t))) (parts 10 (slice i (length s) s))
 
 pub calls-start : (s : List ℕ) (at n : ℕ) (t : List ℕ) → at ≤ length s → n ≤ 4096 → 1536 ≤ length t → OnCalls s at n t t at 0
 unfolding callsOf
-calls-start s at n t a b c = record { i-le = a; c-le = omega arith; n-le = b; wide = c; same = refl; count = refl; says = λ limits l b m h w. let z : n + 0 ≡ n = omega arith in rw z }
+calls-start s at n t a b c = record { i-le = a; c-le = omega arith; n-le = b; wide = c; same = refl; count = refl; says = λ limits est l b m h w. let z : n + 0 ≡ n = omega arith in rw z }
 
 module _ (s : List ℕ) (at n : ℕ) (t₀ t : List ℕ) (i c : ℕ) (on : OnCalls s at n t₀ t i c) where
   pub calls-done : i ≡ length s → CallsRead s at n (Up c) t
-  calls-done e = record { known = λ d q. let z : c ≡ d = cc in (omega (arith, on .c-le), rw (← z) (on .count)); says = λ limits l b m h w. sym (on .says limits l b m h w ∙ finish limits s (length s) i (n + c) (reading (book l b h m (callsOf c t))) e ∙ call-end limits l b m h (callsOf c t) w (n + c)) }
+  calls-done e = record { known = λ d q. let z : c ≡ d = cc in (omega (arith, on .c-le), rw (← z) (on .count)); says = λ limits est l b m h w. sym (on .says limits est l b m h w ∙ finish limits s (length s) i (n + c) (reading (book est l b h m (callsOf c t))) e ∙ call-end limits est l b m h (callsOf c t) w (n + c)) }
 
   module _ (lt : i < length s) where
     pub calls-full : c ≡ 512 → CallsRead s at n (Stop 7 (n + c)) t
-    calls-full e = record { known = λ d q. stop-up q; says = λ limits l b m h w. sym (on .says limits l b m h w ∙ call-full limits l b m h (callsOf c t) w (n + c) s (length s) i lt (omega arith) (omega (arith, on .count))) }
+    calls-full e = record { known = λ d q. stop-up q; says = λ limits est l b m h w. sym (on .says limits est l b m h w ∙ call-full limits est l b m h (callsOf c t) w (n + c) s (length s) i lt (omega arith) (omega (arith, on .count))) }
 
     module _ (e : ℕ) (found : FirstAt s i (length s) 10 e) (room : c < 512) where
       pub calls-unended : e ≡ length s → CallsRead s at n (Stop 2 (n + c)) t
-      calls-unended x = record { known = λ d q. stop-up q; says = λ limits l b m h w. sym (on .says limits l b m h w ∙ unended limits s (length s) i e (n + c) lt (omega arith) found (reading (book l b h m (callsOf c t))) (stopped 2 (n + c)) x (call-unended limits l b m h (callsOf c t) w (n + c) (omega (arith, on .count)))) }
+      calls-unended x = record { known = λ d q. stop-up q; says = λ limits est l b m h w. sym (on .says limits est l b m h w ∙ unended limits s (length s) i e (n + c) lt (omega arith) found (reading (book est l b h m (callsOf c t))) (stopped 2 (n + c)) x (call-unended limits est l b m h (callsOf c t) w (n + c) (omega (arith, on .count)))) }
 
       module _ (more : e < length s) where
         pub calls-bad : nothing ≡ asked (fields (slice i e s)) → CallsRead s at n (Stop 2 (n + c)) t
-        calls-bad x = record { known = λ d q. stop-up q; says = λ limits l b m h w. sym (on .says limits l b m h w ∙ turn-stop limits s (length s) i e (n + c) lt (omega arith) found (reading (book l b h m (callsOf c t))) 2 (n + c) more (call-bad limits l b m h (callsOf c t) w (n + c) (slice i e s) (omega (arith, on .count)) x)) }
+        calls-bad x = record { known = λ d q. stop-up q; says = λ limits est l b m h w. sym (on .says limits est l b m h w ∙ turn-stop limits s (length s) i e (n + c) lt (omega arith) found (reading (book est l b h m (callsOf c t))) 2 (n + c) more (call-bad limits est l b m h (callsOf c t) w (n + c) (slice i e s) (omega (arith, on .count)) x)) }
 
         pub calls-on : (k a b : ℕ) → Named (fields (slice i e s)) k a b → OnCalls s at n t₀ (set (set (set t (3 * c) k) (3 * c + 1) a) (3 * c + 2) b) (e + 1) (c + 1)
         calls-on k a b x = record {
@@ -189,10 +189,10 @@ module _ (s : List ℕ) (at n : ℕ) (t₀ t : List ℕ) (i c : ℕ) (on : OnCal
           wide = simp length-set (on .wide);
           same = simp length-set (on .same);
           count = ap length (calls-more t c k a b (omega (arith, on .wide)) ∙ ap (λ (y : Asked). callsOf c t ++ listed y) (x .is)) ∙ length-append (callsOf c t) (x .call ∷ []) ∙ ap (λ (y : ℕ). y + 1) (on .count);
-          says = λ limits l q m h w.
+          says = λ limits est l q m h w.
               let z : n + (c + 1) ≡ n + c + 1 = omega arith in
-              on .says limits l q m h w
-              ∙ turn limits s (length s) i e (n + c) lt (omega arith) found (reading (book l q h m (callsOf c t))) more
-              ∙ ap (λ (r : Reading). lines limits (n + c + 1) r (parts 10 (slice (e + 1) (length s) s))) (call-more limits l q m h (callsOf c t) w (n + c) (slice i e s) (x .call) (omega (arith, on .count)) (sym (x .says)))
+              on .says limits est l q m h w
+              ∙ turn limits s (length s) i e (n + c) lt (omega arith) found (reading (book est l q h m (callsOf c t))) more
+              ∙ ap (λ (r : Reading). lines limits (n + c + 1) r (parts 10 (slice (e + 1) (length s) s))) (call-more limits est l q m h (callsOf c t) w (n + c) (slice i e s) (x .call) (omega (arith, on .count)) (sym (x .says)))
               ∙ rw (z, calls-more t c k a b (omega (arith, on .wide)), x .is);
         }

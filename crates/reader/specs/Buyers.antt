@@ -1,6 +1,7 @@
 -- The buyers that the tables show, and what the buyers' lines are read as. Rests on Seen. Assumes nothing.
 use Prim.Native.Nat.{ℕ, zero, suc, _+_, _-_, _≤_, _<_}
 use mathlib.Core.Path.{_≡_}
+use mathlib.Core.Bool.{Bool}
 use mathlib.Core.List.{List, [], _∷_, _++_}
 use lib.ListN.{length, getD}
 use lib.Seq.{slice}
@@ -19,7 +20,7 @@ netsOf (suc j) w f c marks = netsOf j w f c marks ++ (record { weight = getD w j
 
 -- a catalogue with other buyers
 abbrev pub withNets : Hypergraph → List Net → Hypergraph
-withNets h ns = record { blocks = h .blocks; imbalance = h .imbalance; totalWeight = h .totalWeight; weights = h .weights; draft = h .draft; fixed = h .fixed; nets = ns }
+withNets h ns = record { blocks = h .blocks; imbalance = h .imbalance; totalWeight = h .totalWeight; lows = h .lows; weights = h .weights; draft = h .draft; fixed = h .fixed; nets = ns }
 
 -- the marks of j buyers, m in all, lie one buyer's after another's, and what lies behind them is kept
 pub record Laid (j m : ℕ) (f₀ c₀ marks₀ f c marks : List ℕ) : Type 0 where
@@ -30,15 +31,15 @@ pub record Laid (j m : ℕ) (f₀ c₀ marks₀ f c marks : List ℕ) : Type 0 w
   pub f-past : Past j f₀ f
   pub c-past : Past j c₀ c
 
-abbrev pub buysSeen : Limits → List ℕ → ℕ → ℕ → Hypergraph → Nets → List ℕ → List ℕ → List ℕ → List ℕ → Reading
-buysSeen limits s l b h (All i m) w f c marks = lines limits (l + 2 + b) (grown (l + 1 + b) (book l b (withNets h (netsOf b w f c marks)) m [])) (parts 10 (slice i (length s) s))
-buysSeen limits s l b h (Cut q n) w f c marks = stopped q n
+abbrev pub buysSeen : Limits → List ℕ → Bool → ℕ → ℕ → Hypergraph → Nets → List ℕ → List ℕ → List ℕ → List ℕ → Reading
+buysSeen limits s estimated l b h (All i m) w f c marks = lines limits (l + 2 + b) (grown (l + 1 + b) (book estimated l b (withNets h (netsOf b w f c marks)) m [])) (parts 10 (slice i (length s) s))
+buysSeen limits s estimated l b h (Cut q n) w f c marks = stopped q n
 
 pub record BuysRead (s : List ℕ) (at l b : ℕ) (r : Nets) (f₀ c₀ marks₀ w f c marks : List ℕ) : Type 0 where
   pub inside : (i m : ℕ) → r ≡ All i m → i ≤ length s
   pub w-len : (i m : ℕ) → r ≡ All i m → length w ≡ 1024
   pub laid : (i m : ℕ) → r ≡ All i m → Laid b m f₀ c₀ marks₀ f c marks
-  pub says : (limits : Limits) (h : Hypergraph) → vertices h ≡ l → buysSeen limits s l b h r w f c marks ≡ lines limits (l + 2) (grown (l + 1) (book l b (withNets h []) 0 [])) (parts 10 (slice at (length s) s))
+  pub says : (limits : Limits) (estimated : Bool) (h : Hypergraph) → vertices h ≡ l → buysSeen limits s estimated l b h r w f c marks ≡ lines limits (l + 2) (grown (l + 1) (book estimated l b (withNets h []) 0 [])) (parts 10 (slice at (length s) s))
 
 -- what the buyers' lines presume of their tables: lengths, and that no lot is stamped
 pub record BuysReady (s : List ℕ) (at l b : ℕ) (w f c marks stamps : List ℕ) : Type 0 where

@@ -1,7 +1,7 @@
 -- Books read off the tables, and what the lot lines and the call lines are read as. Rests on model's grammar. Assumes nothing.
 use Prim.Native.Nat.{ℕ, _+_, _≤_}
 use mathlib.Core.Path.{_≡_}
-use mathlib.Core.Bool.{true}
+use mathlib.Core.Bool.{Bool, true}
 use mathlib.Core.List.{List, []}
 use lib.ListN.{length, take}
 use lib.Seq.{slice}
@@ -15,27 +15,28 @@ use Rattle.reader.specs.declared.Ended.the-variants.{Up, Stop}
 
 -- ---- calls
 -- the calls of a file whose catalogue is read
-abbrev pub called : ℕ → ℕ → Hypergraph → ℕ → Ended → List ℕ → Reading
-called l b h m (Up c) t = reading (book l b h m (callsOf c t))
-called l b h m (Stop q n) t = stopped q n
+abbrev pub called : Bool → ℕ → ℕ → Hypergraph → ℕ → Ended → List ℕ → Reading
+called estimated l b h m (Up c) t = reading (book estimated l b h m (callsOf c t))
+called estimated l b h m (Stop q n) t = stopped q n
 
 -- the call lines, of which the first is line n; each three numbers of an accepted table are a call
 pub record CallsRead (s : List ℕ) (at n : ℕ) (r : Ended) (t : List ℕ) : Type 0 where
   pub known : (c : ℕ) → r ≡ Up c → (c ≤ 512) × (length (callsOf c t) ≡ c)
-  pub says : (limits : Limits) (l b m : ℕ) (h : Hypergraph) → whole (book l b h m []) ≡ true → called l b h m r t ≡ lines limits n (reading (book l b h m [])) (parts 10 (slice at (length s) s))
+  pub says : (limits : Limits) (estimated : Bool) (l b m : ℕ) (h : Hypergraph) → whole (book estimated l b h m []) ≡ true → called estimated l b h m r t ≡ lines limits n (reading (book estimated l b h m [])) (parts 10 (slice at (length s) s))
 
--- the catalogue with no buyer yet: the first k lots of the tables, by their bales, sessions and whether they are kept
-abbrev pub lotsGraph : ℕ → ℕ → ℕ → List ℕ → List ℕ → List ℕ → Hypergraph
-lotsGraph blocks imbalance k w d fx = record { blocks = blocks; imbalance = imbalance; totalWeight = sumOver (take k w) (λ x. x); weights = take k w; draft = take k d; fixed = take k fx; nets = [] }
+-- the catalogue with no buyer yet: the first k lots of the tables, by their most bales, sessions, whether they are kept, and their least bales
+abbrev pub lotsGraph : ℕ → ℕ → ℕ → List ℕ → List ℕ → List ℕ → List ℕ → Hypergraph
+lotsGraph blocks imbalance k w d fx lo = record { blocks = blocks; imbalance = imbalance; totalWeight = sumOver (take k lo) (λ x. x); lows = take k lo; weights = take k w; draft = take k d; fixed = take k fx; nets = [] }
 
 -- the lot lines of a file whose first line is read: what is left to read, from the place where they end
-abbrev pub lotsSeen : Limits → List ℕ → ℕ → ℕ → ℕ → ℕ → Ended → List ℕ → List ℕ → List ℕ → Reading
-lotsSeen limits s l b blocks imbalance (Up i) w d fx = lines limits (l + 2) (grown (l + 1) (book l b (lotsGraph blocks imbalance l w d fx) 0 [])) (parts 10 (slice i (length s) s))
-lotsSeen limits s l b blocks imbalance (Stop q n) w d fx = stopped q n
+abbrev pub lotsSeen : Limits → List ℕ → Bool → ℕ → ℕ → ℕ → ℕ → Ended → List ℕ → List ℕ → List ℕ → List ℕ → Reading
+lotsSeen limits s estimated l b blocks imbalance (Up i) w d fx lo = lines limits (l + 2) (grown (l + 1) (book estimated l b (lotsGraph blocks imbalance l w d fx lo) 0 [])) (parts 10 (slice i (length s) s))
+lotsSeen limits s estimated l b blocks imbalance (Stop q n) w d fx lo = stopped q n
 
-pub record LotsRead (s : List ℕ) (at l blocks : ℕ) (r : Ended) (w₀ d₀ fx₀ w d fx : List ℕ) : Type 0 where
+pub record LotsRead (s : List ℕ) (at l blocks : ℕ) (estimated : Bool) (r : Ended) (w₀ d₀ fx₀ w d fx lo : List ℕ) : Type 0 where
   pub inside : (i : ℕ) → r ≡ Up i → i ≤ length s
   pub w-past : Past l w₀ w
   pub d-past : Past l d₀ d
   pub fx-past : Past l fx₀ fx
-  pub says : (limits : Limits) (b imbalance : ℕ) → lotsSeen limits s l b blocks imbalance r w d fx ≡ lines limits 2 (reading (book l b (lotsGraph blocks imbalance 0 w d fx) 0 [])) (parts 10 (slice at (length s) s))
+  pub lo-len : length lo ≡ 1024
+  pub says : (limits : Limits) (b imbalance : ℕ) → lotsSeen limits s estimated l b blocks imbalance r w d fx lo ≡ lines limits 2 (reading (book estimated l b (lotsGraph blocks imbalance 0 w d fx lo) 0 [])) (parts 10 (slice at (length s) s))

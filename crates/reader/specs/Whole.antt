@@ -22,21 +22,22 @@ use Rattle.reader.specs.declared.Outcome.{Outcome}
 use Rattle.reader.specs.declared.Outcome.the-variants.{Taken, Refused}
 
 -- the lengths that the tables must have, where l lots may come
-pub record Long (l : ℕ) (w d nw f c marks calls : List ℕ) : Type 0 where
+pub record Long (l : ℕ) (w d nw lo f c marks calls : List ℕ) : Type 0 where
   pub l-le : l ≤ 1024
   pub w-len : l ≤ length w
   pub d-len : l ≤ length d
   pub nw-len : length nw ≡ 1024
+  pub lo-len : length lo ≡ 1024
   pub f-len : 1024 ≤ length f
   pub c-len : 1024 ≤ length c
   pub wide : 8192 ≤ length marks
   pub calls-len : 1536 ≤ length calls
 
 -- what a function that runs after the first line presumes
-pub record Ready (s : List ℕ) (at l b k t : ℕ) (w d nw f c marks stamps calls : List ℕ) : Type 0 where
+pub record Ready (s : List ℕ) (at l b k t : ℕ) (w d nw lo f c marks stamps calls : List ℕ) : Type 0 where
   pub at-le : at ≤ length s
   pub range : InRange mainLimits l b k t
-  pub long : Long l w d nw f c marks calls
+  pub long : Long l w d nw lo f c marks calls
   pub slen : length stamps ≡ 1024
   pub fresh : Fresh 1 stamps
 
@@ -48,23 +49,23 @@ averageOf k ws = (sumOver ws (λ w. w) + (k - 1)) / k
 abbrev pub blockTerm : ℕ → List ℕ → List ℕ → ℕ → ℕ
 blockTerm b w d i = cond (eqb (getD d i 0) b) (getD w i 0) 0
 
--- a session of the draft is above its cap, whichever lots are kept and whoever the buyers are
-abbrev pub overfullIs : ℕ → ℕ → ℕ → List ℕ → List ℕ → Bool → Type 0
-overfullIs l k t w d r = (fx : List ℕ) (ns : List Net) → r ≡ overfull (withNets (lotsGraph k t l w d fx) ns)
+-- a session of the draft is above the cap of the lows, whichever lots are kept and whoever the buyers are
+abbrev pub overfullIs : ℕ → ℕ → ℕ → List ℕ → List ℕ → List ℕ → Bool → Type 0
+overfullIs l k t w d lo r = (fx : List ℕ) (ns : List Net) → r ≡ overfull (withNets (lotsGraph k t l w d fx lo) ns)
 
 -- what follows the catalogue's last line
-pub record LastRead (s : List ℕ) (at l b k t m : ℕ) (r : Ended) (w d calls : List ℕ) : Type 0 where
+pub record LastRead (s : List ℕ) (at l b k t m : ℕ) (r : Ended) (w d lo calls : List ℕ) : Type 0 where
   pub known : (c : ℕ) → r ≡ Up c → (c ≤ 512) × (length (callsOf c calls) ≡ c)
-  pub says : (limits : Limits) (fx : List ℕ) (ns : List Net) → length ns ≡ b → called l b (withNets (lotsGraph k t l w d fx) ns) m r calls
-      ≡ lines limits (l + 2 + b) (grown (l + 1 + b) (book l b (withNets (lotsGraph k t l w d fx) ns) m [])) (parts 10 (slice at (length s) s))
+  pub says : (limits : Limits) (estimated : Bool) (fx : List ℕ) (ns : List Net) → length ns ≡ b → called estimated l b (withNets (lotsGraph k t l w d fx lo) ns) m r calls
+      ≡ lines limits (l + 2 + b) (grown (l + 1 + b) (book estimated l b (withNets (lotsGraph k t l w d fx lo) ns) m [])) (parts 10 (slice at (length s) s))
 
 -- the whole catalogue of the tables
-abbrev pub graphOf : ℕ → ℕ → ℕ → ℕ → List ℕ → List ℕ → List ℕ → List ℕ → List ℕ → List ℕ → List ℕ → Hypergraph
-graphOf l b k t w d fx nw f c marks = withNets (lotsGraph k t l w d fx) (netsOf b nw f c marks)
+abbrev pub graphOf : ℕ → ℕ → ℕ → ℕ → List ℕ → List ℕ → List ℕ → List ℕ → List ℕ → List ℕ → List ℕ → List ℕ → Hypergraph
+graphOf l b k t w d fx nw lo f c marks = withNets (lotsGraph k t l w d fx lo) (netsOf b nw f c marks)
 
-abbrev pub restSeen : ℕ → ℕ → Hypergraph → Rest → List ℕ → List ℕ → List ℕ → List ℕ → List ℕ → Reading
-restSeen l b h (Kept m n) nw f c marks calls = reading (book l b (withNets h (netsOf b nw f c marks)) m (callsOf n calls))
-restSeen l b h (Not q n) nw f c marks calls = stopped q n
+abbrev pub restSeen : Bool → ℕ → ℕ → Hypergraph → Rest → List ℕ → List ℕ → List ℕ → List ℕ → List ℕ → Reading
+restSeen estimated l b h (Kept m n) nw f c marks calls = reading (book estimated l b (withNets h (netsOf b nw f c marks)) m (callsOf n calls))
+restSeen estimated l b h (Not q n) nw f c marks calls = stopped q n
 
 -- of an accepted file: each three numbers of the table are a call, and the buyers' marks are laid out
 pub record Settled (b m n : ℕ) (f₀ c₀ marks₀ f c marks calls : List ℕ) : Type 0 where
@@ -73,24 +74,25 @@ pub record Settled (b m n : ℕ) (f₀ c₀ marks₀ f c marks calls : List ℕ)
   pub laid : Laid b m f₀ c₀ marks₀ f c marks
 
 -- what follows the lot lines
-pub record NetsRead (s : List ℕ) (at l b k t : ℕ) (r : Rest) (w d f₀ c₀ marks₀ nw f c marks calls : List ℕ) : Type 0 where
+pub record NetsRead (s : List ℕ) (at l b k t : ℕ) (r : Rest) (w d lo f₀ c₀ marks₀ nw f c marks calls : List ℕ) : Type 0 where
   pub nw-len : (m n : ℕ) → r ≡ Kept m n → length nw ≡ 1024
   pub settled : (m n : ℕ) → r ≡ Kept m n → Settled b m n f₀ c₀ marks₀ f c marks calls
-  pub says : (limits : Limits) (fx : List ℕ) → restSeen l b (lotsGraph k t l w d fx) r nw f c marks calls ≡ lines limits (l + 2) (grown (l + 1) (book l b (lotsGraph k t l w d fx) 0 [])) (parts 10 (slice at (length s) s))
+  pub says : (limits : Limits) (estimated : Bool) (fx : List ℕ) → restSeen estimated l b (lotsGraph k t l w d fx lo) r nw f c marks calls ≡ lines limits (l + 2) (grown (l + 1) (book estimated l b (lotsGraph k t l w d fx lo) 0 [])) (parts 10 (slice at (length s) s))
 
 -- what follows the first line
-pub record CatalogueRead (s : List ℕ) (at l b k t : ℕ) (r : Rest) (w₀ d₀ fx₀ f₀ c₀ marks₀ w d fx nw f c marks calls : List ℕ) : Type 0 where
+pub record CatalogueRead (s : List ℕ) (at l b k t : ℕ) (estimated : Bool) (r : Rest) (w₀ d₀ fx₀ f₀ c₀ marks₀ w d fx nw lo f c marks calls : List ℕ) : Type 0 where
   pub w-past : Past l w₀ w
   pub d-past : Past l d₀ d
   pub fx-past : Past l fx₀ fx
   pub nw-len : (m n : ℕ) → r ≡ Kept m n → length nw ≡ 1024
+  pub lo-len : length lo ≡ 1024
   pub settled : (m n : ℕ) → r ≡ Kept m n → Settled b m n f₀ c₀ marks₀ f c marks calls
-  pub says : (limits : Limits) → restSeen l b (lotsGraph k t l w d fx) r nw f c marks calls ≡ lines limits 2 (reading (book l b (lotsGraph k t 0 w d fx) 0 [])) (parts 10 (slice at (length s) s))
+  pub says : (limits : Limits) → restSeen estimated l b (lotsGraph k t l w d fx lo) r nw f c marks calls ≡ lines limits 2 (reading (book estimated l b (lotsGraph k t 0 w d fx lo) 0 [])) (parts 10 (slice at (length s) s))
 
 -- what an outcome and the tables say
-abbrev pub seen : Outcome → List ℕ → List ℕ → List ℕ → List ℕ → List ℕ → List ℕ → List ℕ → List ℕ → Reading
-seen (Taken l b k t m n) w d fx nw f c marks calls = reading (book l b (graphOf l b k t w d fx nw f c marks) m (callsOf n calls))
-seen (Refused q n) w d fx nw f c marks calls = stopped q n
+abbrev pub seen : Bool → Outcome → List ℕ → List ℕ → List ℕ → List ℕ → List ℕ → List ℕ → List ℕ → List ℕ → List ℕ → Reading
+seen estimated (Taken l b k t m n) w d fx nw lo f c marks calls = reading (book estimated l b (graphOf l b k t w d fx nw lo f c marks) m (callsOf n calls))
+seen estimated (Refused q n) w d fx nw lo f c marks calls = stopped q n
 
 -- of an accepted file: sizes in range, entries past those in use kept
 pub record Fitted (limits : Limits) (l b k t m n : ℕ) (w₀ d₀ fx₀ f₀ c₀ marks₀ w d fx f c marks calls : List ℕ) : Type 0 where
@@ -100,8 +102,10 @@ pub record Fitted (limits : Limits) (l b k t m n : ℕ) (w₀ d₀ fx₀ f₀ c�
   pub fx-past : Past l fx₀ fx
   pub settled : Settled b m n f₀ c₀ marks₀ f c marks calls
 
--- a whole file
-pub record FileRead (limits : Limits) (s : List ℕ) (r : Outcome) (w₀ d₀ fx₀ f₀ c₀ marks₀ w d fx nw f c marks calls : List ℕ) : Type 0 where
-  pub says : seen r w d fx nw f c marks calls ≡ parse limits s
+-- a whole file, an estimate or a sale
+pub record FileRead (limits : Limits) (s : List ℕ) (r : Outcome) (w₀ d₀ fx₀ f₀ c₀ marks₀ w d fx nw lo f c marks calls : List ℕ) : Type 0 where
+  pub estimated : Bool
+  pub says : seen estimated r w d fx nw lo f c marks calls ≡ parse limits s
+  pub lo-len : (l b k t m n : ℕ) → r ≡ Taken l b k t m n → length lo ≡ 1024
   pub nw-len : (l b k t m n : ℕ) → r ≡ Taken l b k t m n → length nw ≡ 1024
   pub fitted : (l b k t m n : ℕ) → r ≡ Taken l b k t m n → Fitted limits l b k t m n w₀ d₀ fx₀ f₀ c₀ marks₀ w d fx f c marks calls

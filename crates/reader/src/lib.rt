@@ -79,12 +79,15 @@ fn read_vertices(
     at: usize,
     vertices: usize,
     blocks: u16,
+    estimated: bool,
     weights: &mut [u32],
     draft: &mut [u16],
     fixed: &mut [u16],
+    lows: &mut [u32; 1024],
 ) -> Ended
-    requires { ⌜ (at ≤ length (now s)) × (1 ≤ vertices) × (vertices ≤ 1024) × (vertices ≤ length (now weights)) × (vertices ≤ length (now draft)) × (vertices ≤ length (now fixed)) ⌝ }
-    ensures { λ r. ⌜ LotsRead (now (s .entry)) at vertices blocks r (now (weights .entry)) (now (draft .entry)) (now (fixed .entry)) (now (weights .exit)) (now (draft .exit)) (now (fixed .exit)) ⌝ }
+    requires { ⌜ (at ≤ length (now s)) × (1 ≤ vertices) × (vertices ≤ 1024) × (vertices ≤ length (now weights)) × (vertices ≤ length (now draft)) × (vertices ≤ length (now fixed))
+        × (length (now lows) ≡ 1024) ⌝ }
+    ensures { λ r. ⌜ LotsRead (now (s .entry)) at vertices blocks estimated r (now (weights .entry)) (now (draft .entry)) (now (fixed .entry)) (now (weights .exit)) (now (draft .exit)) (now (fixed .exit)) (now (lows .exit)) ⌝ }
 {
     let len = s.len();
     let mut i = at;
@@ -94,14 +97,15 @@ fn read_vertices(
         if e == len {
             return Ended::Stop(2, k + 2);
         }
-        match lines::lot_line(s, i, e, blocks) {
+        match lines::lot_line(s, i, e, blocks, estimated) {
             Lot::NoLot(q) => {
                 return Ended::Stop(q, k + 2);
             }
-            Lot::Of(w, b, f) => {
-                weights[k] = w;
+            Lot::Of(low, high, b, f) => {
+                weights[k] = high;
                 draft[k] = b;
                 fixed[k] = f as u16;
+                lows[k] = low;
             }
         }
         k += 1;
@@ -218,15 +222,20 @@ pub fn block_weight(weights: &[u32], draft: &[u16], n: usize, b: u32) -> u64
     t
 }
 
-// A session of the draft is above its cap.
-pub fn overfull(vertices: u32, blocks: u32, imbalance: u32, weights: &[u32], draft: &[u16]) -> bool
-    requires { ⌜ (vertices ≤ 1024) × (2 ≤ blocks) × (blocks ≤ 16) × (imbalance ≤ 1000) × (vertices ≤ length (now weights)) × (vertices ≤ length (now draft)) ⌝ }
-    ensures { λ r. ⌜ overfullIs vertices blocks imbalance (now (weights .entry)) (now (draft .entry)) r ⌝ }
+// A session of the draft is above the cap, which is of the lows.
+pub fn overfull(
+    vertices: u32,
+    blocks: u32,
+    imbalance: u32,
+    weights: &[u32],
+    draft: &[u16],
+    lows: &[u32],
+) -> bool
+    requires { ⌜ (vertices ≤ 1024) × (2 ≤ blocks) × (blocks ≤ 16) × (imbalance ≤ 1000) × (vertices ≤ length (now weights)) × (vertices ≤ length (now draft))
+        × (vertices ≤ length (now lows)) ⌝ }
+    ensures { λ r. ⌜ overfullIs vertices blocks imbalance (now (weights .entry)) (now (draft .entry)) (now (lows .entry)) r ⌝ }
 {
-    let most = capacity(
-        average_weight(weights, vertices as usize, blocks),
-        imbalance,
-    );
+    let most = capacity(average_weight(lows, vertices as usize, blocks), imbalance);
     let mut b: u32 = 0;
     while b < blocks {
         b += 1;
@@ -248,14 +257,15 @@ fn finish(
     m: usize,
     weights: &[u32],
     draft: &[u16],
+    lows: &[u32],
     calls: &mut [u32],
 ) -> Ended
     requires { ⌜ (at ≤ length (now s)) × (vertices ≤ 1024) × (nets ≤ 1024) × (2 ≤ blocks) × (blocks ≤ 16) × (imbalance ≤ 1000) × (vertices ≤ length (now weights))
-        × (vertices ≤ length (now draft)) × (1536 ≤ length (now calls)) ⌝ }
-    ensures { λ r. ⌜ LastRead (now (s .entry)) at vertices nets blocks imbalance m r (now (weights .entry)) (now (draft .entry)) (now (calls .exit)) ⌝ }
+        × (vertices ≤ length (now draft)) × (vertices ≤ length (now lows)) × (1536 ≤ length (now calls)) ⌝ }
+    ensures { λ r. ⌜ LastRead (now (s .entry)) at vertices nets blocks imbalance m r (now (weights .entry)) (now (draft .entry)) (now (lows .entry)) (now (calls .exit)) ⌝ }
 {
     let n = vertices as usize + 1 + nets as usize;
-    if overfull(vertices, blocks, imbalance, weights, draft) {
+    if overfull(vertices, blocks, imbalance, weights, draft, lows) {
         return Ended::Stop(6, n);
     }
     read_calls(s, at, n + 1, calls)
@@ -272,14 +282,15 @@ fn after_vertices(
     weights: &[u32],
     draft: &[u16],
     netweights: &mut [u16; 1024],
+    lows: &[u32],
     firsts: &mut [u16],
     loadedsizes: &mut [u16],
     loadedpins: &mut [u16],
     stamps: &mut [u16; 1024],
     calls: &mut [u32],
 ) -> Rest
-    requires { ⌜ Ready (now s) at vertices nets blocks imbalance (now weights) (now draft) (now netweights) (now firsts) (now loadedsizes) (now loadedpins) (now stamps) (now calls) ⌝ }
-    ensures { λ r. ⌜ NetsRead (now (s .entry)) at vertices nets blocks imbalance r (now (weights .entry)) (now (draft .entry)) (now (firsts .entry)) (now (loadedsizes .entry)) (now (loadedpins .entry)) (now (netweights .exit)) (now (firsts .exit)) (now (loadedsizes .exit)) (now (loadedpins .exit)) (now (calls .exit)) ⌝ }
+    requires { ⌜ Ready (now s) at vertices nets blocks imbalance (now weights) (now draft) (now netweights) (now lows) (now firsts) (now loadedsizes) (now loadedpins) (now stamps) (now calls) ⌝ }
+    ensures { λ r. ⌜ NetsRead (now (s .entry)) at vertices nets blocks imbalance r (now (weights .entry)) (now (draft .entry)) (now (lows .entry)) (now (firsts .entry)) (now (loadedsizes .entry)) (now (loadedpins .entry)) (now (netweights .exit)) (now (firsts .exit)) (now (loadedsizes .exit)) (now (loadedpins .exit)) (now (calls .exit)) ⌝ }
 {
     match read_nets(
         s,
@@ -303,6 +314,7 @@ fn after_vertices(
             m,
             weights,
             draft,
+            lows,
             calls,
         ) {
             Ended::Stop(q, n) => Rest::Not(q, n),
@@ -319,18 +331,20 @@ fn after_head(
     nets: u32,
     blocks: u32,
     imbalance: u32,
+    estimated: bool,
     weights: &mut [u32],
     draft: &mut [u16],
     fixed: &mut [u16],
     netweights: &mut [u16; 1024],
+    lows: &mut [u32; 1024],
     firsts: &mut [u16],
     loadedsizes: &mut [u16],
     loadedpins: &mut [u16],
     calls: &mut [u32],
 ) -> Rest
     requires { ⌜ (at ≤ length (now s)) × InRange mainLimits vertices nets blocks imbalance
-        × (vertices ≤ length (now fixed)) × Long vertices (now weights) (now draft) (now netweights) (now firsts) (now loadedsizes) (now loadedpins) (now calls) ⌝ }
-    ensures { λ r. ⌜ CatalogueRead (now (s .entry)) at vertices nets blocks imbalance r (now (weights .entry)) (now (draft .entry)) (now (fixed .entry)) (now (firsts .entry)) (now (loadedsizes .entry)) (now (loadedpins .entry)) (now (weights .exit)) (now (draft .exit)) (now (fixed .exit)) (now (netweights .exit)) (now (firsts .exit)) (now (loadedsizes .exit)) (now (loadedpins .exit)) (now (calls .exit)) ⌝ }
+        × (vertices ≤ length (now fixed)) × Long vertices (now weights) (now draft) (now netweights) (now lows) (now firsts) (now loadedsizes) (now loadedpins) (now calls) ⌝ }
+    ensures { λ r. ⌜ CatalogueRead (now (s .entry)) at vertices nets blocks imbalance estimated r (now (weights .entry)) (now (draft .entry)) (now (fixed .entry)) (now (firsts .entry)) (now (loadedsizes .entry)) (now (loadedpins .entry)) (now (weights .exit)) (now (draft .exit)) (now (fixed .exit)) (now (netweights .exit)) (now (lows .exit)) (now (firsts .exit)) (now (loadedsizes .exit)) (now (loadedpins .exit)) (now (calls .exit)) ⌝ }
 {
     let mut stamps = [0u16; 1024];
     match read_vertices(
@@ -338,9 +352,11 @@ fn after_head(
         at,
         vertices as usize,
         blocks as u16,
+        estimated,
         weights,
         draft,
         fixed,
+        lows,
     ) {
         Ended::Stop(q, n) => Rest::Not(q, n),
         Ended::Up(i) => after_vertices(
@@ -353,6 +369,7 @@ fn after_head(
             weights,
             draft,
             netweights,
+            lows,
             firsts,
             loadedsizes,
             loadedpins,
@@ -371,13 +388,14 @@ pub fn read(
     draft: &mut [u16],
     fixed: &mut [u16],
     netweights: &mut [u16; 1024],
+    lows: &mut [u32; 1024],
     firsts: &mut [u16],
     loadedsizes: &mut [u16],
     loadedpins: &mut [u16],
     calls: &mut [u32],
 ) -> Outcome
-    requires { ⌜ (bmax ≤ 16) × (vmax ≤ length (now fixed)) × Long vmax (now weights) (now draft) (now netweights) (now firsts) (now loadedsizes) (now loadedpins) (now calls) ⌝ }
-    ensures { λ r. ⌜ FileRead (limitsOf vmax bmax) (now (s .entry)) r (now (weights .entry)) (now (draft .entry)) (now (fixed .entry)) (now (firsts .entry)) (now (loadedsizes .entry)) (now (loadedpins .entry)) (now (weights .exit)) (now (draft .exit)) (now (fixed .exit)) (now (netweights .exit)) (now (firsts .exit)) (now (loadedsizes .exit)) (now (loadedpins .exit)) (now (calls .exit)) ⌝ }
+    requires { ⌜ (bmax ≤ 16) × (vmax ≤ length (now fixed)) × Long vmax (now weights) (now draft) (now netweights) (now lows) (now firsts) (now loadedsizes) (now loadedpins) (now calls) ⌝ }
+    ensures { λ r. ⌜ FileRead (limitsOf vmax bmax) (now (s .entry)) r (now (weights .entry)) (now (draft .entry)) (now (fixed .entry)) (now (firsts .entry)) (now (loadedsizes .entry)) (now (loadedpins .entry)) (now (weights .exit)) (now (draft .exit)) (now (fixed .exit)) (now (netweights .exit)) (now (lows .exit)) (now (firsts .exit)) (now (loadedsizes .exit)) (now (loadedpins .exit)) (now (calls .exit)) ⌝ }
 {
     let len = s.len();
     if 60000 < len {
@@ -389,17 +407,19 @@ pub fn read(
     }
     match lines::sale_line(s, 0, e, vmax, bmax) {
         Head::NoSale(q) => Outcome::Refused(q, 1),
-        Head::Sale(vertices, nets, blocks, imbalance) => match after_head(
+        Head::Sale(vertices, nets, blocks, imbalance, estimated) => match after_head(
             s,
             e + 1,
             vertices,
             nets,
             blocks,
             imbalance,
+            estimated,
             weights,
             draft,
             fixed,
             netweights,
+            lows,
             firsts,
             loadedsizes,
             loadedpins,

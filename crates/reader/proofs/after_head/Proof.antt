@@ -12,7 +12,7 @@ cast-read-vertices c = search needs
 
 read-vertices-requires : tie.Need-read-vertices-requires
 read-vertices-requires c κs =
-    let start = c .before .before .before .before .before .before .before .before .before .before .before in
+    let start = c .before .before .before .before .before .before .before .before .before .before .before .before in
     let p = start .pre in (p .0, p .1 .l-low, p .3 .l-le, p .3 .w-len, p .3 .d-len, p .2)
 
 enum-known-q : tie.Need-enum-known-q
@@ -23,9 +23,9 @@ enum-known-i c = search needs
 
 after-vertices-requires : tie.Need-after-vertices-requires
 after-vertices-requires c κs =
-    let at-i = c .before .before .before .before .before .before .before .before .before in
+    let at-i = c .before .before .before .before .before .before .before .before .before .before .before in
     let at-read-vertices = at-i .before .before .before .before .before .before .before .before in
-    let start = at-read-vertices .before .before .before .before .before .before .before .before .before .before .before .before in
+    let start = at-read-vertices .before .before .before .before .before .before .before .before .before .before .before .before .before in
     let p = start .pre in record { at-le = at-read-vertices .read-vertices .ensures .inside (at-i .i .given .0 .0) (at-i .i .given .1); range = p .1; long = record { l-le = p .3 .l-le; w-len = omega (arith, p .3 .w-len, at-read-vertices .read-vertices .kept .1 .1 .1 .1 .0); d-len = omega (arith, p .3 .d-len, at-read-vertices .read-vertices .kept .1 .1 .1 .1 .1 .0); nw-len = p .3 .nw-len; f-len = p .3 .f-len; c-len = p .3 .c-len; wide = p .3 .wide; calls-len = p .3 .calls-len }; slen = refl; fresh = fresh-start }
 
 same-length : tie.Need-same-length
@@ -40,7 +40,7 @@ same-length-3 c = search needs
 returns : tie.Need-returns
 returns c =
     let at-read-vertices = c .before .before .before .before .before .before .before .before .before in
-    let start = at-read-vertices .before .before .before .before .before .before .before .before .before .before .before .before in
+    let start = at-read-vertices .before .before .before .before .before .before .before .before .before .before .before .before .before in
     let a = start .args in lots-cut (now (a .s)) (a .at) (a .vertices) (a .nets) (a .blocks) (a .imbalance) (now (a .weights)) (now (a .draft)) (now (a .fixed)) (now (a .firsts)) (now (a .loadedsizes)) (now (a .loadedpins)) _ _ _ (at-read-vertices .read-vertices .result) (at-read-vertices .read-vertices .ensures) (c .before .q .given .0 .0) (c .before .q .given .0 .1 .0) (c .before .q .given .1) (now (a .netweights)) (now (a .firsts)) (now (a .loadedsizes)) (now (a .loadedpins)) (now (a .calls))
 
 same-length-4 : tie.Need-same-length-4
@@ -67,9 +67,9 @@ same-length-10 c = search needs
 returns-2 : tie.Need-returns-2
 returns-2 c =
     let at-after-vertices = c .before .before .before .before .before .before .before .before in
-    let at-i = at-after-vertices .before .before .before .before .before .before .before .before .before .before in
+    let at-i = at-after-vertices .before .before .before .before .before .before .before .before .before .before .before .before in
     let at-read-vertices = at-i .before .before .before .before .before .before .before .before in
-    let start = at-read-vertices .before .before .before .before .before .before .before .before .before .before .before .before in
+    let start = at-read-vertices .before .before .before .before .before .before .before .before .before .before .before .before .before in
     let a = start .args in lots-go (now (a .s)) (a .at) (a .vertices) (a .nets) (a .blocks) (a .imbalance) (now (a .weights)) (now (a .draft)) (now (a .fixed)) (now (a .firsts)) (now (a .loadedsizes)) (now (a .loadedpins)) _ _ _ (at-read-vertices .read-vertices .result) (at-read-vertices .read-vertices .ensures) (at-i .i .given .0 .0) (at-i .i .given .1) (at-after-vertices .after-vertices .result) _ _ _ _ _ (at-after-vertices .after-vertices .ensures)
 
 pub after-head-spec : {M : Type 1} → statement M

@@ -7,7 +7,7 @@ use Rattle.reader.proofs.after_vertices.Tie as tie
 
 read-nets-requires : tie.Need-read-nets-requires
 read-nets-requires c κs =
-    let start = c .before .before .before .before .before .before .before .before .before .before .before .before in
+    let start = c .before .before .before .before .before .before .before .before .before .before .before .before .before in
     let p = start .pre in record { at-le = p .at-le; l-le = p .long .l-le; b-le = p .range .b-high; w-len = p .long .nw-len; f-len = p .long .f-len; c-len = p .long .c-len; wide = p .long .wide; slen = p .slen; fresh = p .fresh }
 
 enum-known-q : tie.Need-enum-known-q
@@ -19,7 +19,7 @@ enum-known-i c = search needs
 finish-requires : tie.Need-finish-requires
 finish-requires c κs =
     let at-read-nets = c .before .before .before .before .before .before .before .before .before .before in
-    let start = at-read-nets .before .before .before .before .before .before .before .before .before .before .before .before .before in
+    let start = at-read-nets .before .before .before .before .before .before .before .before .before .before .before .before .before .before in
     let p = start .pre in (at-read-nets .read-nets .ensures .inside (c .before .before .i .given .0 .0) (c .before .before .i .given .0 .1 .0) (c .before .before .i .given .1), p .long .l-le, p .range .b-high, p .range .k-low, p .range .k-high, p .range .t-high, p .long .w-len, p .long .d-len, p .long .calls-len)
 
 enum-known-q-2 : tie.Need-enum-known-q-2
@@ -40,7 +40,7 @@ same-length-3 c = search needs
 returns : tie.Need-returns
 returns c =
     let at-read-nets = c .before .before .before .before .before .before .before .before .before in
-    let start = at-read-nets .before .before .before .before .before .before .before .before .before .before .before .before .before in
+    let start = at-read-nets .before .before .before .before .before .before .before .before .before .before .before .before .before .before in
     let a = start .args in nets-cut (now (a .s)) (a .at) (a .vertices) (a .nets) (a .blocks) (a .imbalance) (now (a .weights)) (now (a .draft)) (now (a .firsts)) (now (a .loadedsizes)) (now (a .loadedpins)) _ _ _ _ (start .pre .long .w-len) (at-read-nets .read-nets .result) (at-read-nets .read-nets .ensures) (c .before .q .given .0 .0) (c .before .q .given .0 .1 .0) (c .before .q .given .1) (now (a .calls))
 
 same-length-4 : tie.Need-same-length-4
@@ -60,7 +60,7 @@ returns-2 c =
     let at-finish = c .before .before .before .before .before in
     let at-i = at-finish .before .before .before in
     let at-read-nets = at-i .before .before .before .before .before .before .before .before in
-    let start = at-read-nets .before .before .before .before .before .before .before .before .before .before .before .before .before in
+    let start = at-read-nets .before .before .before .before .before .before .before .before .before .before .before .before .before .before in
     let a = start .args in nets-stop (now (a .s)) (a .at) (a .vertices) (a .nets) (a .blocks) (a .imbalance) (now (a .weights)) (now (a .draft)) (now (a .firsts)) (now (a .loadedsizes)) (now (a .loadedpins)) _ _ _ _ (start .pre .long .w-len) (at-read-nets .read-nets .result) (at-read-nets .read-nets .ensures) (at-i .i .given .0 .0) (at-i .i .given .0 .1 .0) (at-i .i .given .1) (at-finish .finish .result) _ (at-finish .finish .ensures) (c .before .q2 .given .0 .0) (c .before .q2 .given .0 .1 .0) (c .before .q2 .given .1)
 
 same-length-8 : tie.Need-same-length-8
@@ -80,7 +80,7 @@ returns-3 c =
     let at-finish = c .before .before .before .before .before in
     let at-i = at-finish .before .before .before in
     let at-read-nets = at-i .before .before .before .before .before .before .before .before in
-    let start = at-read-nets .before .before .before .before .before .before .before .before .before .before .before .before .before in
+    let start = at-read-nets .before .before .before .before .before .before .before .before .before .before .before .before .before .before in
     let a = start .args in nets-kept (now (a .s)) (a .at) (a .vertices) (a .nets) (a .blocks) (a .imbalance) (now (a .weights)) (now (a .draft)) (now (a .firsts)) (now (a .loadedsizes)) (now (a .loadedpins)) _ _ _ _ (start .pre .long .w-len) (at-read-nets .read-nets .result) (at-read-nets .read-nets .ensures) (at-i .i .given .0 .0) (at-i .i .given .0 .1 .0) (at-i .i .given .1) (at-finish .finish .result) _ (at-finish .finish .ensures) (c .before .c .given .0 .0) (c .before .c .given .1)
 
 pub after-vertices-spec : {M : Type 1} → statement M

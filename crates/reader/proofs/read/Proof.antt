@@ -34,7 +34,7 @@ add-after-head c = search needs
 
 after-head-requires : tie.Need-after-head-requires
 after-head-requires c κs =
-    let at-vertices = c .before .before .before .before .before .before .before .before .before in
+    let at-vertices = c .before .before .before .before .before .before .before .before .before .before in
     let at-sale-line = at-vertices .before .before in
     let at-if2 = at-sale-line .before in
     let at-line-end = at-if2 .before in
@@ -80,7 +80,7 @@ same-length-7 c = search needs
 returns-4 : tie.Need-returns-4
 returns-4 c =
     let at-after-head = c .before .before .before .before .before .before .before .before .before .before .before .before .before .before .before .before .before in
-    let at-vertices = at-after-head .before .before .before .before .before .before .before .before .before .before in
+    let at-vertices = at-after-head .before .before .before .before .before .before .before .before .before .before .before in
     let at-sale-line = at-vertices .before .before in
     let at-if2 = at-sale-line .before in
     let at-line-end = at-if2 .before in
@@ -112,7 +112,7 @@ same-length-14 c = search needs
 returns-5 : tie.Need-returns-5
 returns-5 c =
     let at-after-head = c .before .before .before .before .before .before .before .before .before .before .before .before .before .before .before .before .before in
-    let at-vertices = at-after-head .before .before .before .before .before .before .before .before .before .before in
+    let at-vertices = at-after-head .before .before .before .before .before .before .before .before .before .before .before in
     let at-sale-line = at-vertices .before .before in
     let at-if2 = at-sale-line .before in
     let at-line-end = at-if2 .before in

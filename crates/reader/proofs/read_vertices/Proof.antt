@@ -21,8 +21,8 @@ loop-holds c =
 line-end-requires : tie.Need-line-end-requires Inv-loop μ-loop
 line-end-requires c κs = search needs
 
-add-t17 : tie.Need-add-t17 Inv-loop μ-loop
-add-t17 c = omega arith
+add-t20 : tie.Need-add-t20 Inv-loop μ-loop
+add-t20 c = omega arith
 
 same-length : tie.Need-same-length Inv-loop μ-loop
 same-length c =
@@ -51,8 +51,8 @@ lot-line-requires c κs = search needs
 enum-known-q : tie.Need-enum-known-q Inv-loop μ-loop
 enum-known-q c = search needs
 
-add-t19 : tie.Need-add-t19 Inv-loop μ-loop
-add-t19 c = omega arith
+add-t22 : tie.Need-add-t22 Inv-loop μ-loop
+add-t22 c = omega arith
 
 same-length-4 : tie.Need-same-length-4 Inv-loop μ-loop
 same-length-4 c =
@@ -76,9 +76,6 @@ returns-2 c =
     let at-loop = at-line-end .before .before in
     let start = at-loop .before .before .before .before .before in
     let a = start .args in let l = at-loop .loop in lots-stop (now (a .s)) (a .at) (a .vertices) (a .blocks) (now (a .weights)) (now (a .draft)) (now (a .fixed)) (l .weights) (l .draft) (l .fixed) (l .i) (l .k) (l .inv) (omega arith) (at-line-end .line-end .result) (at-line-end .line-end .ensures) (omega arith) (at-lot-line .lot-line .result) (at-lot-line .lot-line .ensures) (c .before .q .given .0 .0) (c .before .q .given .1)
-
-enum-known-w : tie.Need-enum-known-w Inv-loop μ-loop
-enum-known-w c = search needs
 
 mul-weights : tie.Need-mul-weights Inv-loop μ-loop
 mul-weights c = omega arith
@@ -116,7 +113,7 @@ loop-again c =
     let at-line-end = at-lot-line .before .before in
     let at-loop = at-line-end .before .before in
     let start = at-loop .before .before .before .before .before in
-    let a = start .args in let l = at-loop .loop in lots-on (now (a .s)) (a .at) (a .vertices) (a .blocks) (now (a .weights)) (now (a .draft)) (now (a .fixed)) (l .weights) (l .draft) (l .fixed) (l .i) (l .k) (l .inv) (omega arith) (at-line-end .line-end .result) (at-line-end .line-end .ensures) (omega arith) (at-lot-line .lot-line .result) (at-lot-line .lot-line .ensures) (c .before .w .given .0 .0) (c .before .w .given .0 .1 .0) (c .before .w .given .0 .1 .1 .0) (c .before .w .given .1)
+    let a = start .args in let l = at-loop .loop in lots-on (now (a .s)) (a .at) (a .vertices) (a .blocks) (now (a .weights)) (now (a .draft)) (now (a .fixed)) (l .weights) (l .draft) (l .fixed) (l .i) (l .k) (l .inv) (omega arith) (at-line-end .line-end .result) (at-line-end .line-end .ensures) (omega arith) (at-lot-line .lot-line .result) (at-lot-line .lot-line .ensures) (?w .w .given .0 .0) (?w .w .given .0 .1 .0) (?w .w .given .0 .1 .1 .0) (?w .w .given .1)
 
 same-length-7 : tie.Need-same-length-7 Inv-loop μ-loop
 same-length-7 c = c .before .loop .inv .w-same
@@ -132,6 +129,15 @@ returns-3 c =
     let start = c .before .before .before .before .before .before in
     let a = start .args in let l = c .before .loop in lots-done (now (a .s)) (a .at) (a .vertices) (a .blocks) (now (a .weights)) (now (a .draft)) (now (a .fixed)) (l .weights) (l .draft) (l .fixed) (l .i) (l .k) (l .inv) (omega arith)
 
+enum-known-low : tie.Need-enum-known-low Inv-loop μ-loop
+enum-known-low c = search needs
+
+mul-lows : tie.Need-mul-lows Inv-loop μ-loop
+mul-lows c = omega arith
+
+element-write-lows : tie.Need-element-write-lows Inv-loop μ-loop
+element-write-lows c = ?element-write-lows
+
 pub read-vertices-spec : {M : Type 1} → statement M
 read-vertices-spec =
     tie.close
@@ -140,19 +146,19 @@ read-vertices-spec =
     μ-loop
     loop-holds
     line-end-requires
-    add-t17
+    add-t20
     same-length
     same-length-2
     same-length-3
     returns
     lot-line-requires
     enum-known-q
-    add-t19
+    add-t22
     same-length-4
     same-length-5
     same-length-6
     returns-2
-    enum-known-w
+    enum-known-low
     mul-weights
     slice-write-weights
     mul-draft
@@ -160,6 +166,8 @@ read-vertices-spec =
     cast-fixed
     mul-fixed
     slice-write-fixed
+    mul-lows
+    element-write-lows
     add-k
     add-i
     loop-less
