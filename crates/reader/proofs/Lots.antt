@@ -159,9 +159,9 @@ module _ (s : List ℕ) (at l blocks : ℕ) (est : Bool) (w₀ d₀ fx₀ w d fx
             let q : k + 1 + 1 ≡ k + 2 = omega arith in
             let u : take (k + 1) (set w k x) ≡ take k w ++ (x ∷ []) = rw add-one (take-suc-set w k x (omega (arith, on .w-len, on .l-le))) in
             let v : take (k + 1) (set d k y) ≡ take k d ++ (y ∷ []) = rw add-one (take-suc-set d k y (omega (arith, on .d-len, on .l-le))) in
-            let v′ : take (k + 1) (set lo k o) ≡ take k lo ++ (o ∷ []) = rw add-one (take-suc-set lo k o (omega (arith, on .lo-len, on .l-le))) in
+            let m : take (k + 1) (set lo k o) ≡ take k lo ++ (o ∷ []) = rw add-one (take-suc-set lo k o (omega (arith, on .lo-len, on .l-le))) in
             let g : take (k + 1) (set fx k (boolByte t)) ≡ take k fx ++ (one t ∷ []) = rw (add-one, ← byte-one t) (take-suc-set fx k (boolByte t) (omega (arith, on .fx-len, on .l-le))) in
             step limits b imbalance
             ∙ ap (λ (r : Lot). lines limits (k + 2 + 1) (lotted (k + 2) (book est l b (graph imbalance) 0 []) r) (parts 10 (slice (e + 1) (length s) s))) z
-            ∙ rw (p, q, u, v, v′, g, sumOver-more (take k lo) o (λ n. n));
+            ∙ rw (p, q, u, v, m, g, sumOver-more (take k lo) o (λ n. n));
       }

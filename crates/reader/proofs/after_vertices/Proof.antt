@@ -1,5 +1,6 @@
 -- `reader::after_vertices` meets its contract.
 use Rattle.reader.proofs.Ranges.{nets-cut, nets-stop, nets-kept}
+use native.Mathlib.Omega.{arith}
 use denote.Ref.{now}
 use borrow.Author.Needs.{needs}
 use Rattle.reader.proofs.after_vertices.Statement.{statement}
@@ -20,7 +21,7 @@ finish-requires : tie.Need-finish-requires
 finish-requires c κs =
     let at-read-nets = c .before .before .before .before .before .before .before .before .before .before in
     let start = at-read-nets .before .before .before .before .before .before .before .before .before .before .before .before .before .before in
-    let p = start .pre in (at-read-nets .read-nets .ensures .inside (c .before .before .i .given .0 .0) (c .before .before .i .given .0 .1 .0) (c .before .before .i .given .1), p .long .l-le, p .range .b-high, p .range .k-low, p .range .k-high, p .range .t-high, p .long .w-len, p .long .d-len, p .long .calls-len)
+    let p = start .pre in (at-read-nets .read-nets .ensures .inside (c .before .before .i .given .0 .0) (c .before .before .i .given .0 .1 .0) (c .before .before .i .given .1), p .long .l-le, p .range .b-high, p .range .k-low, p .range .k-high, p .range .t-high, p .long .w-len, p .long .d-len, omega (arith, p .long .l-le, p .long .lo-len), p .long .calls-len)
 
 enum-known-q-2 : tie.Need-enum-known-q-2
 enum-known-q-2 c = search needs
@@ -41,7 +42,7 @@ returns : tie.Need-returns
 returns c =
     let at-read-nets = c .before .before .before .before .before .before .before .before .before in
     let start = at-read-nets .before .before .before .before .before .before .before .before .before .before .before .before .before .before in
-    let a = start .args in nets-cut (now (a .s)) (a .at) (a .vertices) (a .nets) (a .blocks) (a .imbalance) (now (a .weights)) (now (a .draft)) (now (a .firsts)) (now (a .loadedsizes)) (now (a .loadedpins)) _ _ _ _ (start .pre .long .w-len) (at-read-nets .read-nets .result) (at-read-nets .read-nets .ensures) (c .before .q .given .0 .0) (c .before .q .given .0 .1 .0) (c .before .q .given .1) (now (a .calls))
+    let a = start .args in nets-cut (now (a .s)) (a .at) (a .vertices) (a .nets) (a .blocks) (a .imbalance) (now (a .weights)) (now (a .draft)) (now (a .lows)) (now (a .firsts)) (now (a .loadedsizes)) (now (a .loadedpins)) _ _ _ _ (start .pre .long .w-len) (at-read-nets .read-nets .result) (at-read-nets .read-nets .ensures) (c .before .q .given .0 .0) (c .before .q .given .0 .1 .0) (c .before .q .given .1) (now (a .calls))
 
 same-length-4 : tie.Need-same-length-4
 same-length-4 c = search needs
@@ -61,7 +62,7 @@ returns-2 c =
     let at-i = at-finish .before .before .before in
     let at-read-nets = at-i .before .before .before .before .before .before .before .before in
     let start = at-read-nets .before .before .before .before .before .before .before .before .before .before .before .before .before .before in
-    let a = start .args in nets-stop (now (a .s)) (a .at) (a .vertices) (a .nets) (a .blocks) (a .imbalance) (now (a .weights)) (now (a .draft)) (now (a .firsts)) (now (a .loadedsizes)) (now (a .loadedpins)) _ _ _ _ (start .pre .long .w-len) (at-read-nets .read-nets .result) (at-read-nets .read-nets .ensures) (at-i .i .given .0 .0) (at-i .i .given .0 .1 .0) (at-i .i .given .1) (at-finish .finish .result) _ (at-finish .finish .ensures) (c .before .q2 .given .0 .0) (c .before .q2 .given .0 .1 .0) (c .before .q2 .given .1)
+    let a = start .args in nets-stop (now (a .s)) (a .at) (a .vertices) (a .nets) (a .blocks) (a .imbalance) (now (a .weights)) (now (a .draft)) (now (a .lows)) (now (a .firsts)) (now (a .loadedsizes)) (now (a .loadedpins)) _ _ _ _ (start .pre .long .w-len) (at-read-nets .read-nets .result) (at-read-nets .read-nets .ensures) (at-i .i .given .0 .0) (at-i .i .given .0 .1 .0) (at-i .i .given .1) (at-finish .finish .result) _ (at-finish .finish .ensures) (c .before .q2 .given .0 .0) (c .before .q2 .given .0 .1 .0) (c .before .q2 .given .1)
 
 same-length-8 : tie.Need-same-length-8
 same-length-8 c = search needs
@@ -81,7 +82,7 @@ returns-3 c =
     let at-i = at-finish .before .before .before in
     let at-read-nets = at-i .before .before .before .before .before .before .before .before in
     let start = at-read-nets .before .before .before .before .before .before .before .before .before .before .before .before .before .before in
-    let a = start .args in nets-kept (now (a .s)) (a .at) (a .vertices) (a .nets) (a .blocks) (a .imbalance) (now (a .weights)) (now (a .draft)) (now (a .firsts)) (now (a .loadedsizes)) (now (a .loadedpins)) _ _ _ _ (start .pre .long .w-len) (at-read-nets .read-nets .result) (at-read-nets .read-nets .ensures) (at-i .i .given .0 .0) (at-i .i .given .0 .1 .0) (at-i .i .given .1) (at-finish .finish .result) _ (at-finish .finish .ensures) (c .before .c .given .0 .0) (c .before .c .given .1)
+    let a = start .args in nets-kept (now (a .s)) (a .at) (a .vertices) (a .nets) (a .blocks) (a .imbalance) (now (a .weights)) (now (a .draft)) (now (a .lows)) (now (a .firsts)) (now (a .loadedsizes)) (now (a .loadedpins)) _ _ _ _ (start .pre .long .w-len) (at-read-nets .read-nets .result) (at-read-nets .read-nets .ensures) (at-i .i .given .0 .0) (at-i .i .given .0 .1 .0) (at-i .i .given .1) (at-finish .finish .result) _ (at-finish .finish .ensures) (c .before .c .given .0 .0) (c .before .c .given .1)
 
 pub after-vertices-spec : {M : Type 1} → statement M
 after-vertices-spec =

@@ -18,7 +18,7 @@ overfull-requires c κs = search needs
 returns : tie.Need-returns
 returns c =
     let start = c .before .before .before .before .before .before .before in
-    let a = start .args in last-over (now (a .s)) (a .at) (a .vertices) (a .nets) (a .blocks) (a .imbalance) (a .m) (now (a .weights)) (now (a .draft)) (omega arith) (c .before .overfull .result) (c .before .overfull .ensures) (c .if1 .taken) (now (a .calls))
+    let a = start .args in last-over (now (a .s)) (a .at) (a .vertices) (a .nets) (a .blocks) (a .imbalance) (a .m) (now (a .weights)) (now (a .draft)) (now (a .lows)) (omega arith) (c .before .overfull .result) (c .before .overfull .ensures) (c .if1 .taken) (now (a .calls))
 
 add-read-calls : tie.Need-add-read-calls
 add-read-calls c = search needs
@@ -34,7 +34,7 @@ returns-2 c =
     let at-if1 = c .before .before .before .before in
     let at-overfull = at-if1 .before in
     let start = at-overfull .before .before .before .before .before .before in
-    let a = start .args in last-calls (now (a .s)) (a .at) (a .vertices) (a .nets) (a .blocks) (a .imbalance) (a .m) (now (a .weights)) (now (a .draft)) (omega arith) (at-overfull .overfull .result) (at-overfull .overfull .ensures) (at-if1 .if1 .left) (c .before .before .read-calls .result) _ (c .before .before .read-calls .ensures)
+    let a = start .args in last-calls (now (a .s)) (a .at) (a .vertices) (a .nets) (a .blocks) (a .imbalance) (a .m) (now (a .weights)) (now (a .draft)) (now (a .lows)) (omega arith) (at-overfull .overfull .result) (at-overfull .overfull .ensures) (at-if1 .if1 .left) (c .before .before .read-calls .result) _ (c .before .before .read-calls .ensures)
 
 pub finish-spec : {M : Type 1} → statement M
 finish-spec =
