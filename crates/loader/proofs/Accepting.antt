@@ -18,7 +18,7 @@ use Rattle.model.specs.Grammar.{Book, reading, parse}
 use Rattle.model.specs.Memory.{Filled, net, allPins, firstPlace, weightEntry, blockEntry, weightWhenGone}
 use Rattle.model.specs.Lent.{callsOf, lists}
 use Rattle.guarantees.specs.Caps.{Capped}
-use Rattle.guarantees.specs.Loads.{Loaded as Good, parsed, held-start}
+use Rattle.guarantees.specs.Loads.{Loaded as Good, sum-below, parsed, held-start}
 use Rattle.guarantees.specs.Splits.{board-none, above-none, weight-none}
 use Rattle.lines.specs.Line.{book}
 use Rattle.reader.specs.Whole.{averageOf, graphOf, Fitted, FileRead, seen as told}
@@ -36,34 +36,34 @@ refused-accepted : {A : Type 0} {q n : ℕ} {z : Sizes} → Refused q n ≡ Acce
 refused-accepted e = absurd (let z : _≡_ {A = ℕ} 0 1 = cc in omega arith)
 
 -- a refused file
-pub refused : (limits : Limits) (file : List ℕ) (r : Outcome) (q n : ℕ) (w₀ d₀ fx₀ a pp pc f₀ c₀ lp₀ w d fx nw f c lp calls : List ℕ) → FileRead limits file r w₀ d₀ fx₀ f₀ c₀ lp₀ w d fx nw f c lp calls → r ≡ Stopped q n
-    → Loads limits file (Refused q n) (lists w₀ d₀ a fx₀ lp₀ pp f₀ c₀ pc) (lists w d a fx lp pp f c pc) nw calls
-refused limits file r q n w₀ d₀ fx₀ a pp pc f₀ c₀ lp₀ w d fx nw f c lp calls read is = record { says = ap (λ (x : Outcome). told x w d fx nw f c lp calls) (sym is) ∙ read .says; accepts = λ z y. refused-accepted y }
+pub refused : (limits : Limits) (file : List ℕ) (r : Outcome) (q n : ℕ) (w₀ d₀ fx₀ a pp pc f₀ c₀ lp₀ w d fx nw lo f c lp calls : List ℕ) → FileRead limits file r w₀ d₀ fx₀ f₀ c₀ lp₀ w d fx nw lo f c lp calls → r ≡ Stopped q n
+    → Loads limits file (Refused q n) (lists w₀ d₀ a fx₀ lp₀ pp f₀ c₀ pc) (lists w d a fx lp pp f c pc) nw lo calls
+refused limits file r q n w₀ d₀ fx₀ a pp pc f₀ c₀ lp₀ w d fx nw lo f c lp calls read is = record { estimated = read .estimated; says = ap (λ (x : Outcome). told (read .estimated) x w d fx nw lo f c lp calls) (sym is) ∙ read .says; accepts = λ z y. refused-accepted y }
 
 -- ---- weights are small
-pub small-average : (limits : Limits) (h : Hypergraph) → Good limits h → vertices h ≤ 1024 → (k : ℕ) → averageOf k (h .weights) ≤ 67107855 + k
+pub small-average : (limits : Limits) (h : Hypergraph) → Good limits h → vertices h ≤ 1024 → (k : ℕ) → averageOf k (h .lows) ≤ 67107855 + k
 small-average limits h g l k =
     let s = sumOver-le (h .weights) (λ w. (1 ≤ w) × (w ≤ 65535)) (λ w. w) 65535 (g .weights-in) (λ w r. r .1) in
-    omega (arith, div-le-self (sumOver (h .weights) (λ w. w) + (k - 1)) k)
+    omega (arith, sum-below (h .lows) (h .weights) (g .lows-long) (g .lows-in), div-le-self (sumOver (h .lows) (λ w. w) + (k - 1)) k)
 
-module _ (limits : Limits) (file : List ℕ) (l b k t m n : ℕ) (w₀ d₀ a₀ fx₀ lp₀ pp₀ f₀ c₀ pc₀ w d a fx lp pp f c pc nw calls : List ℕ) where
+module _ (limits : Limits) (file : List ℕ) (l b k t m n : ℕ) (w₀ d₀ a₀ fx₀ lp₀ pp₀ f₀ c₀ pc₀ w d a fx lp pp f c pc nw lo calls : List ℕ) where
   abbrev h : Hypergraph
-  h = graphOf l b k t w d fx nw f c lp
+  h = graphOf l b k t w d fx nw lo f c lp
 
-  abbrev k′ : Book
-  k′ = book l b h m (callsOf n calls)
+  abbrev k′ : Bool → Book
+  k′ est = book est l b h m (callsOf n calls)
 
-  module _ (r : Outcome) (read : FileRead limits file r w₀ d₀ fx₀ f₀ c₀ lp₀ w d fx nw f c lp calls) (is : r ≡ Taken l b k t m n) (v-le : limits .vertexLimit ≤ 1024)
+  module _ (r : Outcome) (read : FileRead limits file r w₀ d₀ fx₀ f₀ c₀ lp₀ w d fx nw lo f c lp calls) (is : r ≡ Taken l b k t m n) (v-le : limits .vertexLimit ≤ 1024)
       (w-len : length w ≡ length w₀) (d-len : length d ≡ length d₀) (fx-len : length fx ≡ length fx₀) (lp-len : length lp ≡ length lp₀) (f-len : length f ≡ length f₀) (c-len : length c ≡ length c₀)
       (w-long : limits .vertexLimit ≤ length w₀) (d-long : limits .vertexLimit ≤ length d₀) (lp-long : 8192 ≤ length lp₀) (pp-long : 8192 ≤ length pp₀) where
-    says : reading k′ ≡ parse limits file
-    says = ap (λ (x : Outcome). told x w d fx nw f c lp calls) (sym is) ∙ read .says
+    says : reading (k′ (read .estimated)) ≡ parse limits file
+    says = ap (λ (x : Outcome). told (read .estimated) x w d fx nw lo f c lp calls) (sym is) ∙ read .says
 
     fit : Fitted limits l b k t m n w₀ d₀ fx₀ f₀ c₀ lp₀ w d fx f c lp calls
     fit = read .fitted l b k t m n is
 
     good : Good limits h
-    good = parsed limits file k′ (sym says)
+    good = parsed limits file (k′ (read .estimated)) (sym says)
 
     l-le : l ≤ length w
     l-le = omega (arith, fit .range .l-high)
@@ -74,7 +74,7 @@ module _ (limits : Limits) (file : List ℕ) (l b k t m n : ℕ) (w₀ d₀ a₀
     wide : 8192 ≤ length lp
     wide = omega arith
 
-    pub small : averageOf k (take l w) ≤ 67107855 + k
+    pub small : averageOf k (take l lo) ≤ 67107855 + k
     small = small-average limits h good (omega (arith, count, fit .range .l-high)) k
 
     module _ (fa : Filled 0 (λ i. ltb i l) (λ i. 0) a₀ a) (fp : Filled 0 (λ i. ltb i m) (λ i. getD lp i 0) pp₀ pp) (fc : Filled 0 (λ i. ltb i b) (λ i. getD c i 0) pc₀ pc) where
@@ -145,11 +145,12 @@ module _ (limits : Limits) (file : List ℕ) (l b k t m n : ℕ) (w₀ d₀ a₀
 
       capped : Capped h (capacities h) [] (drafted h)
       unfolding fresh
-      capped = held-start limits file k′ (sym says) .capped
+      capped = held-start limits file (k′ (read .estimated)) (sym says) .capped
 
-      pub accepted : (s : Sizes) → s ≡ sizesOf l b k t m n (averageOf k (take l w)) (nearest ((1000 + t) * averageOf k (take l w)))
-          → Loads limits file (Accepted s) (lists w₀ d₀ a₀ fx₀ lp₀ pp₀ f₀ c₀ pc₀) (lists w d a fx lp pp f c pc) nw calls
+      pub accepted : (s : Sizes) → s ≡ sizesOf l b k t m n (averageOf k (take l lo)) (nearest ((1000 + t) * averageOf k (take l lo)))
+          → Loads limits file (Accepted s) (lists w₀ d₀ a₀ fx₀ lp₀ pp₀ f₀ c₀ pc₀) (lists w d a fx lp pp f c pc) nw lo calls
       accepted s e = record {
+        estimated = read .estimated;
         says = rw e says;
         accepts = λ z q.
             let p : s ≡ z = cc in
@@ -159,8 +160,8 @@ module _ (limits : Limits) (file : List ℕ) (l b k t m n : ℕ) (w₀ d₀ a₀
               calls-le = fit .settled .n-le;
               costs = read .nw-len l b k t m n is;
               known = fit .settled .known;
-              average = sym (average-is l k t w d fx (netsOf b nw f c lp));
-              capacity = sym (capacity-is l k t w d fx (netsOf b nw f c lp));
+              average = sym (average-is l k t w d fx lo (netsOf b nw f c lp));
+              capacity = sym (capacity-is l k t w d fx lo (netsOf b nw f c lp));
               capped = capped;
               started = started;
             });

@@ -35,7 +35,7 @@ returns c =
     let a = start .args in
     let e = c .before .average-weight .ensures .0 in
     ap (λ (x : ℕ). sizesOf (a .vertices) (a .nets) (a .blocks) (a .imbalance) (a .pins) (a .calls) x (c .capacity .result)) e
-    ∙ ap (sizesOf (a .vertices) (a .nets) (a .blocks) (a .imbalance) (a .pins) (a .calls) (averageOf (a .blocks) (take (a .vertices) (now (a .weights))))) (c .capacity .ensures ∙ ap (λ (x : ℕ). nearest ((1000 + a .imbalance) * x)) e)
+    ∙ ap (sizesOf (a .vertices) (a .nets) (a .blocks) (a .imbalance) (a .pins) (a .calls) (averageOf (a .blocks) (take (a .vertices) (now (a .lows))))) (c .capacity .ensures ∙ ap (λ (x : ℕ). nearest ((1000 + a .imbalance) * x)) e)
 
 pub measure-spec : {M : Type 1} → statement M
 measure-spec =
