@@ -1,18 +1,18 @@
 -- One line of each kind, written and read: SALE begins a book (sale-line), LOT and BUY add to it what was written (lot-line, buy-line);
--- a LOT line is written without `,K`.
+-- a LOT line is a sale's, and is written without `,K`.
 -- Rests on Rows, Numbers and Marks. Assumes nothing.
 use Prim.Native.Nat.{ℕ, suc, _+_, _≤_, _<_}
 use Prim.Native.String.{String}
 use native.Mathlib.Omega.{arith}
 use mathlib.Core.Path.{_≡_, refl, ap}
-use mathlib.Core.Bool.{Bool, true, false, not, cond}
+use mathlib.Core.Bool.{Bool, true, false, not, cond, _||_}
 use mathlib.Core.List.{List, [], _∷_}
 use borrow.Author.Tests.{lt-ltb, le-ltb, le-leb}
 use lib.ListN.{length}
 use Rattle.laws.specs.Fold.{All, all-map}
 use Rattle.laws.specs.Occurrence.{Distinct}
 use Rattle.model.specs.Catalogue.{Limits, Net, vertices}
-use Rattle.model.specs.Grammar.{bytes, fields, Book, unread, reading, saleLine, grown, lotLine, netRead, buyLine, line}
+use Rattle.model.specs.Grammar.{bytes, same, fields, isLine, isLineOf, Book, unread, reading, saleLine, grown, lotLine, netRead, buyLine, line}
 use Rattle.guarantees.specs.Numbers.{value-digits}
 use Rattle.guarantees.specs.Reading.{blank, lotted, netted}
 use Rattle.guarantees.specs.Clumps.{Within}
@@ -33,20 +33,28 @@ words = omega arith
 passed : {A : Type 0} {a b : Bool} (x y z : A) → a ≡ true → b ≡ true → cond (not a) x (cond (not b) y z) ≡ z
 passed x y z p q = rw (p, q)
 
+-- the tests of a lot line pass
+lot-passed : {A : Type 0} {a b c d : Bool} (x y z u v : A) → a ≡ true → b ≡ true → c ≡ false → d ≡ true → cond (not a) x (cond (not b) y (cond c z (cond (not d) u v))) ≡ v
+lot-passed x y z u v p q r s = rw (p, q, r, s)
+
+no-estimate : (ns : List ℕ) → isLineOf "EST" 4 (bytes "SALE" ∷ numbers ns) ≡ false
+unfolding isLine same bytes
+no-estimate ns = refl
+
 pub sale-line : (limits : Limits) (n l b k s : ℕ) → Short (limits .vertexLimit) → Short (limits .blockLimit) → 1 ≤ l → l ≤ limits .vertexLimit → b ≤ 1024 → 2 ≤ k → k ≤ limits .blockLimit → s ≤ 1000
-    → line limits n unread (joined (bytes "SALE") (numbers (l ∷ b ∷ k ∷ s ∷ []))) ≡ reading (blank l b k s)
+    → line limits n unread (joined (bytes "SALE") (numbers (l ∷ b ∷ k ∷ s ∷ []))) ≡ reading (blank false l b k s)
 unfolding line saleLine
 sale-line limits n l b k s small narrow ll lu bu kl ku su =
-    rw (fields-numbers "SALE" (l ∷ b ∷ k ∷ s ∷ []) (words .0), value-digits l, value-digits b, value-digits k, value-digits s)
-    (passed _ _ _ (both (is-line "SALE" (l ∷ b ∷ k ∷ s ∷ []) (omega arith)) refl)
+    rw (fields-numbers "SALE" (l ∷ b ∷ k ∷ s ∷ []) (words .0), value-digits l, value-digits b, value-digits k, value-digits s, no-estimate (l ∷ b ∷ k ∷ s ∷ []))
+    (passed _ _ _ (ap (λ (t : Bool). t || false) (both (is-line "SALE" (l ∷ b ∷ k ∷ s ∷ []) (omega arith)) refl))
     (both (both (both (inside 1 (limits .vertexLimit) l ll lu) (inside 0 1024 b (omega arith) bu)) (inside 2 (limits .blockLimit) k kl ku)) (inside 0 1000 s (omega arith) su)))
 
-pub lot-line : (limits : Limits) (n : ℕ) (k : Book) (w b : ℕ) → Short (k .graph .blocks) → vertices (k .graph) < k .lots → 1 ≤ w → w ≤ 65535 → 1 ≤ b → b ≤ k .graph .blocks
-    → line limits n (reading k) (joined (bytes "LOT") (numbers (w ∷ b ∷ []))) ≡ grown n (lotted k w b false)
+pub lot-line : (limits : Limits) (n : ℕ) (k : Book) (w b : ℕ) → k .estimated ≡ false → Short (k .graph .blocks) → vertices (k .graph) < k .lots → 1 ≤ w → w ≤ 65535 → 1 ≤ b → b ≤ k .graph .blocks
+    → line limits n (reading k) (joined (bytes "LOT") (numbers (w ∷ b ∷ []))) ≡ grown n (lotted k w w b false)
 unfolding line lotLine
-lot-line limits n k w b narrow more wl wu bl bu =
-    rw (lt-ltb (vertices (k .graph)) (k .lots) more, plain-line (bytes "LOT") w (b ∷ []), plain-before (bytes "LOT") w (b ∷ []), fields-numbers "LOT" (w ∷ b ∷ []) (words .1), value-digits w, value-digits b)
-    (passed _ _ _ (both (is-line "LOT" (w ∷ b ∷ []) (omega arith)) refl) (both (inside 1 65535 w wl wu) (inside 1 (k .graph .blocks) b bl bu)))
+lot-line limits n k w b sale narrow more wl wu bl bu =
+    rw (sale, lt-ltb (vertices (k .graph)) (k .lots) more, plain-line (bytes "LOT") w (b ∷ []), plain-before (bytes "LOT") w (b ∷ []), fields-numbers "LOT" (w ∷ b ∷ []) (words .1), value-digits w, value-digits b)
+    (lot-passed _ _ _ _ _ (both (is-line "LOT" (w ∷ b ∷ []) (omega arith)) refl) (both (inside 1 65535 w wl wu) (inside 1 65535 w wl wu)) (le-ltb w w (omega arith)) (inside 1 (k .graph .blocks) b bl bu))
 
 -- ---- a buyer whose marks are all lots that there are, none twice
 pub record Buyer (n : ℕ) (e : Net) : Type 0 where
