@@ -152,6 +152,8 @@ module _ (s : List ℕ) (w : Well s) (c : carried (said s) ≡ true) (t : listed
         as-long = length-map (f .listing) suc ∙ listing-long ∙ sym (vertices-are s w);
         fixed-long = length-map (f .listing) (λ b. 0) ∙ listing-long ∙ sym (vertices-are s w);
         fixed-in = all-map (h .fixed) _ _ (λ x e. omega arith) none-fixed;
+        lows-long = refl;
+        lows-in = λ i l. omega arith;
         nets-in = all-of-map netOf (f .edges) _ (all-map (f .edges) _ _ (λ e r. all-map (e .pins) _ _ (λ x q. (q .0, omega (arith, q .1, vertices-are s w))) r) pins-in);
         nets-distinct = all-of-map netOf (f .edges) _ (edges-in _ (λ e q. named-apart (f .vertices) [] (e .pins) (λ i j a b r. absurd (omega arith)) (and-right (within 1 1000 (e .weight)) _ q)));
         nets-some = all-of-map netOf (f .edges) _ (edges-some s w);
