@@ -86,12 +86,12 @@ module _ (s : List ℕ) (p : Plan) (sound : Sound s p) where
     fixed-is : take (p .vertices) fixed ≡ fixed
     fixed-is = take-all (p .vertices) fixed (omega (arith, length-map {B = ℕ} (f .listing) (λ b. 0), length-map (f .listing) suc, ap length draft-is, length-take (p .vertices) d))
 
-    pub graph-is : withNets (lotsGraph (p .blocks) (p .imbalance) (p .vertices) w d fixed) (map netOf (f .edges)) ≡ catalogueOf f
+    pub graph-is : withNets (lotsGraph (p .blocks) (p .imbalance) (p .vertices) w d fixed w) (map netOf (f .edges)) ≡ catalogueOf f
     unfolding catalogueOf said
     graph-is =
-        ap₂ (λ (k t : ℕ). record { blocks = k; imbalance = t; totalWeight = sumOver (take (p .vertices) w) (λ v. v); weights = take (p .vertices) w; draft = take (p .vertices) d; fixed = take (p .vertices) fixed; nets = map netOf (f .edges) }) (sound .blocks-is) (sound .imbalance-is)
-        ∙ ap₂ (λ (x y : List ℕ). record { blocks = f .blocks; imbalance = f .imbalance; totalWeight = sumOver x (λ v. v); weights = x; draft = y; fixed = take (p .vertices) fixed; nets = map netOf (f .edges) }) weights-are draft-is
-        ∙ ap (λ (x : List ℕ). record { blocks = f .blocks; imbalance = f .imbalance; totalWeight = sumOver (f .weights) (λ v. v); weights = f .weights; draft = map suc (f .listing); fixed = x; nets = map netOf (f .edges) }) fixed-is
+        ap₂ (λ (k t : ℕ). record { blocks = k; imbalance = t; totalWeight = sumOver (take (p .vertices) w) (λ v. v); lows = take (p .vertices) w; weights = take (p .vertices) w; draft = take (p .vertices) d; fixed = take (p .vertices) fixed; nets = map netOf (f .edges) }) (sound .blocks-is) (sound .imbalance-is)
+        ∙ ap₂ (λ (x y : List ℕ). record { blocks = f .blocks; imbalance = f .imbalance; totalWeight = sumOver x (λ v. v); lows = x; weights = x; draft = y; fixed = take (p .vertices) fixed; nets = map netOf (f .edges) }) weights-are draft-is
+        ∙ ap (λ (x : List ℕ). record { blocks = f .blocks; imbalance = f .imbalance; totalWeight = sumOver (f .weights) (λ v. v); lows = f .weights; weights = f .weights; draft = map suc (f .listing); fixed = x; nets = map netOf (f .edges) }) fixed-is
 
   -- ---- the verdict, test by test
   module _ (w d : List ℕ) (seen : Seen s (p .carried) (p .listed) (p .size) w d) where
@@ -115,7 +115,7 @@ module _ (s : List ℕ) (p : Plan) (sound : Sound s p) where
             let k = blocks-said s p sound in
             ap (λ (n : ℕ). take n d) v ∙ seen .draft-is good (omega (arith, k, within .blocks-high)) (omega (arith, v, within .vertices-high))
 
-        module _ (o : Bool) (over : overfullIs (p .vertices) (p .blocks) (p .imbalance) w d o) where
+        module _ (o : Bool) (over : overfullIs (p .vertices) (p .blocks) (p .imbalance) w d w o) where
           over-is : overfull (catalogueOf f) ≡ o
           over-is = sym (over (fixed w d weights-in draft-in) (map netOf (f .edges)) ∙ ap overfull (graph-is w d weights-in draft-in))
 

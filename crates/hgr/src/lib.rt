@@ -371,7 +371,7 @@ fn judge(p: Plan, weights: &[u32; 1024], draft: &[u16; 1024]) -> u32
     if !p.listed {
         return 19;
     }
-    if reader::overfull(p.vertices, p.blocks, p.imbalance, weights, draft) {
+    if reader::overfull(p.vertices, p.blocks, p.imbalance, weights, draft, weights) {
         return 18;
     }
     if 60000 < length_of(p, weights, draft, p.size) {
