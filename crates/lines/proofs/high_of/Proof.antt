@@ -1,7 +1,5 @@
 -- `lines::high_of` meets its contract.
 use native.Mathlib.Omega.{arith}
-use mathlib.Core.Path.{_∙_}
-use denote.Ref.{now}
 use Rattle.lines.proofs.high_of.Statement.{statement}
 use Rattle.lines.proofs.high_of.Tie as tie
 

@@ -5,7 +5,7 @@ use native.Mathlib.Omega.{arith}
 use denote.Ref.{now}
 use borrow.Author.Needs.{needs}
 use Rattle.model.specs.Grammar.{fields}
-use Rattle.text.proofs.Lines.{line-yes, line-no}
+use Rattle.text.proofs.Lines.{line-no}
 use Rattle.lines.specs.Line.{limitsOf}
 use Rattle.lines.proofs.Ranges.{no-sale, announced-est, announced-sale}
 use Rattle.lines.proofs.Asks.{sale-form, word-SALE, word-EST}
