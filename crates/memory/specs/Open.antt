@@ -51,18 +51,18 @@ stretch-before h d e l =
     down : (n : ℕ) → suc n - 1 ≡ n
     down n = omega arith
 
-module _ {limits : Limits} {file : List ℕ} {z : Sizes} {old new : Lists} {nw calls : List ℕ} (narrow : limits .blockLimit ≤ 16) (short : limits .vertexLimit ≤ 1024)
-    (long : LongLists (limits .vertexLimit) old) (l : Loads limits file (Accepted z) old new nw calls) where
+module _ {limits : Limits} {file : List ℕ} {z : Sizes} {old new : Lists} {nw lo calls : List ℕ} (narrow : limits .blockLimit ≤ 16) (short : limits .vertexLimit ≤ 1024)
+    (long : LongLists (limits .vertexLimit) old) (l : Loads limits file (Accepted z) old new nw lo calls) where
   abbrev h : Hypergraph
-  h = graph z new nw
+  h = graph z new nw lo
 
   abbrev read : Book
-  read = book (z .vertices) (z .nets) h (z .pins) (callsOf (z .calls) calls)
+  read = book (l .estimated) (z .vertices) (z .nets) h (z .pins) (callsOf (z .calls) calls)
 
   parsed-as : parse limits file ≡ reading read
   parsed-as = sym (l .says)
 
-  told : Accepts limits z old new nw calls
+  told : Accepts limits z old new nw lo calls
   told = l .accepts z refl
 
   -- the catalogue is accepted

@@ -23,12 +23,12 @@ use Rattle.loader.specs.declared.Loaded.the-variants.{Accepted}
 use Rattle.loader.proofs.Fill.{filled-in}
 use Rattle.memory.specs.Open.{is-accepted, size-loaded, nets-few}
 
-module _ {limits : Limits} {file : List ℕ} {z : Sizes} {old new : Lists} {nw calls : List ℕ} (narrow : limits .blockLimit ≤ 16) (short : limits .vertexLimit ≤ 1024)
-    (long : LongLists (limits .vertexLimit) old) (l : Loads limits file (Accepted z) old new nw calls) where
+module _ {limits : Limits} {file : List ℕ} {z : Sizes} {old new : Lists} {nw lo calls : List ℕ} (narrow : limits .blockLimit ≤ 16) (short : limits .vertexLimit ≤ 1024)
+    (long : LongLists (limits .vertexLimit) old) (l : Loads limits file (Accepted z) old new nw lo calls) where
   abbrev h : Hypergraph
-  h = graph z new nw
+  h = graph z new nw lo
 
-  told : Accepts limits z old new nw calls
+  told : Accepts limits z old new nw lo calls
   told = l .accepts z refl
 
   all-le : length (allPins (h .nets)) ≤ 8192

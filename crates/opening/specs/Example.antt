@@ -118,7 +118,7 @@ accepted : Accepted mainLimits five
 unfolding sum sumTo foldTo sumOver any all averageWeight nearest capacity above climb representative weight blockWeight bytes sameBytes parts isNumber onward value fields isLine saleLine overfull grown withLot endsInK beforeK lotLine mark marking withNet netRead buyLine asked withCall callLine line ending lines parse
 accepted = record {
   file = bytes workedSale;
-  book = record { lots = 5; buyers = 3; graph = five; marks = 6; calls = callJ 2 5 ∷ callM 2 2 ∷ callS ∷ callB ∷ callA ∷ [] };
+  book = record { estimated = false; lots = 5; buyers = 3; graph = five; marks = 6; calls = callJ 2 5 ∷ callM 2 2 ∷ callS ∷ callB ∷ callA ∷ [] };
   loads = refl;
   graph-is = refl;
 }
