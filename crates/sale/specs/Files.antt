@@ -39,14 +39,14 @@ pub record Long (limits : Limits) (out : List ℕ) (t : Lists) (counts : List �
   pub gains-long : 16 * limits .vertexLimit ≤ length gains
   pub visited-long : 1024 ≤ length visited
 
-module _ {limits : Limits} {file out : List ℕ} {old new : Lists} {nw calls counts : List ℕ} {gains : List ℤ} {visited : List ℕ} (g : Long limits out old counts gains visited) where
+module _ {limits : Limits} {file out : List ℕ} {old new : Lists} {nw lo calls counts : List ℕ} {gains : List ℤ} {visited : List ℕ} (g : Long limits out old counts gains visited) where
   -- ---- the two answers of the loader
-  module _ {r : Loaded} (l : Loads limits file r old new nw calls) where
+  module _ {r : Loaded} (l : Loads limits file r old new nw lo calls) where
     module _ {z : Sizes} (e : r ≡ Accepted z) where
-      here : Loads limits file (Accepted z) old new nw calls
-      here = subst (λ (x : Loaded). Loads limits file x old new nw calls) e l
+      here : Loads limits file (Accepted z) old new nw lo calls
+      here = subst (λ (x : Loaded). Loads limits file x old new nw lo calls) e l
 
-      pub catalogued : Catalogued limits file z old new nw counts gains visited
+      pub catalogued : Catalogued limits file z old new nw lo counts gains visited
       catalogued = record {
         narrow = g .narrow;
         short = g .short;
@@ -61,7 +61,7 @@ module _ {limits : Limits} {file out : List ℕ} {old new : Lists} {nw calls cou
       pub listed : 1536 ≤ length calls → Listed calls (z .calls) out
       listed q = let a = here .accepts z refl in record { count-le = a .calls-le; known = a .known; calls-fit = omega (arith, a .calls-le); spacious = g .spacious }
 
-      pub worked : {new′ : Lent} {out′ : List ℕ} {bytes : ℕ} → Reported (graph z new nw) (callsOf (z .calls) calls) (lent old counts gains visited) new′ out out′ bytes
+      pub worked : {new′ : Lent} {out′ : List ℕ} {bytes : ℕ} → Reported (graph z new nw lo) (callsOf (z .calls) calls) (lent old counts gains visited) new′ out out′ bytes
           → Worked (parse limits file) (memory out (lent old counts gains visited)) (memory out′ new′) 0 bytes
       unfolding outcome
       worked {new′} {out′} {bytes} p = subst (λ (x : Reading). Worked x (memory out (lent old counts gains visited)) (memory out′ new′) 0 bytes) (here .says) (record { code-is = refl; output = p .output; tables = p .tables })
@@ -71,9 +71,9 @@ module _ {limits : Limits} {file out : List ℕ} {old new : Lists} {nw calls cou
 
     module _ {q n : ℕ} (e : r ≡ Refused q n) where
       stops : stopped q n ≡ parse limits file
-      stops = ap (λ (x : Loaded). seen x new nw calls) (sym e) ∙ l .says
+      stops = ap (λ (x : Loaded). seen (l .estimated) x new nw lo calls) (sym e) ∙ l .says
 
-      pub small : (q ≤ 7) × (n ≤ 60001)
+      pub small : (q ≤ 21) × (n ≤ 60001)
       small = let b = refused-in limits file q n (sym stops) in (b .1, b .2)
 
       pub no-lots : 0 ≡ lotsIn (parse limits file)

@@ -35,7 +35,7 @@ use Rattle.memory.specs.Unjoined.{loaded-sets}
 
 -- ---- what a list of calls needs
 -- a file was loaded: `old` held what it held before, `new` is what loading left; counts, gains and connectivity sets are not yet filled
-pub record Catalogued (limits : Limits) (file : List ℕ) (z : Sizes) (old new : Lists) (nw counts : List ℕ) (gains : List ℤ) (visited : List ℕ) : Type 0 where
+pub record Catalogued (limits : Limits) (file : List ℕ) (z : Sizes) (old new : Lists) (nw lo counts : List ℕ) (gains : List ℤ) (visited : List ℕ) : Type 0 where
   pub narrow : limits .blockLimit ≤ 16
   pub short : limits .vertexLimit ≤ 1024
   pub long : LongLists (limits .vertexLimit) old
@@ -43,7 +43,7 @@ pub record Catalogued (limits : Limits) (file : List ℕ) (z : Sizes) (old new :
   pub gains-long : 16 * limits .vertexLimit ≤ length gains
   pub visited-long : 1024 ≤ length visited
   pub fileCalls : List ℕ
-  pub loads : Loads limits file (Accepted z) old new nw fileCalls
+  pub loads : Loads limits file (Accepted z) old new nw lo fileCalls
 
 -- a table of at most 512 calls, and an output that has document 01's length
 pub record Listed (calls : List ℕ) (count : ℕ) (out : List ℕ) : Type 0 where
@@ -52,13 +52,14 @@ pub record Listed (calls : List ℕ) (count : ℕ) (out : List ℕ) : Type 0 whe
   pub calls-fit : 3 * count ≤ length calls
   pub spacious : 60000 ≤ length out
 
--- the tables are those of some loaded file; the loaded pins are not lent
+-- the tables are those of some loaded file; the loaded pins and the lows are not lent
 pub record CanSell (new : List ℕ → Lists) (z : Sizes) (nw counts : List ℕ) (gains : List ℤ) (visited calls : List ℕ) (count : ℕ) (out : List ℕ) : Type 0 where
   pub limits : Limits
   pub file : List ℕ
   pub old : Lists
   pub pins : List ℕ
-  pub catalogued : Catalogued limits file z old (new pins) nw counts gains visited
+  pub lows : List ℕ
+  pub catalogued : Catalogued limits file z old (new pins) nw lows counts gains visited
   pub listed : Listed calls count out
 
 -- the bitset as the engine makes it
@@ -82,14 +83,14 @@ pub record Sold (limits : Limits) (h : Hypergraph) (calls : List Call) (old new 
   pub fits : at + length (closing h (after h (fresh h) calls)) ≤ length out
 
 -- who is fixed can be marked
-pub can-mark : {limits : Limits} {file : List ℕ} {z : Sizes} {old new : Lists} {nw counts : List ℕ} {gains : List ℤ} {visited : List ℕ} → Catalogued limits file z old new nw counts gains visited
+pub can-mark : {limits : Limits} {file : List ℕ} {z : Sizes} {old new : Lists} {nw lo counts : List ℕ} {gains : List ℤ} {visited : List ℕ} → Catalogued limits file z old new nw lo counts gains visited
     → (z .vertices ≤ 1024) × (z .vertices ≤ length (new .fixed))
 can-mark g = fixed-long (g .narrow) (g .short) (g .long) (g .loads)
 
-module _ {limits : Limits} {file : List ℕ} {z : Sizes} {old new : Lists} {nw counts : List ℕ} {gains : List ℤ} {visited : List ℕ} (g : Catalogued limits file z old new nw counts gains visited)
+module _ {limits : Limits} {file : List ℕ} {z : Sizes} {old new : Lists} {nw lo counts : List ℕ} {gains : List ℤ} {visited : List ℕ} (g : Catalogued limits file z old new nw lo counts gains visited)
     {bits : List ℕ} (b : Blank bits) where
   abbrev h : Hypergraph
-  h = graph z new nw
+  h = graph z new nw lo
 
   can-open-h : Opens h (new .presentPins) (new .blocks) (new .firsts) (new .presentSizes) (new .loadedSizes) (new .weights) nw bits counts visited gains (z .vertices) (z .nets) (z .blocks)
   can-open-h = opens (g .narrow) (g .short) (g .long) (g .loads) (g .counts-long) (g .visited-long) (g .gains-long) (b .len) (b .zeros)

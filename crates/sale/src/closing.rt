@@ -43,12 +43,12 @@ pub fn report_sale(
     requires { ⌜ CanSell
         (λ loadedpins. lists (now weights) (now blocks) (now aboves) (now fixed) loadedpins (now presentpins) (now firsts) (now loadedsizes) (now presentsizes))
         z (now netweights) (now counts) (now gains) (now visited) (now calls) (z .calls) (now output) ⌝ }
-    ensures { λ r. ⌜ ((limits : Limits) (file loadedpins : List ℕ) (old : Lists) → Catalogued limits file z old
+    ensures { λ r. ⌜ ((limits : Limits) (file loadedpins lows : List ℕ) (old : Lists) → Catalogued limits file z old
         (lists (now (weights .entry)) (now (blocks .entry)) (now (aboves .entry)) (now (fixed .entry)) loadedpins (now (presentpins .entry)) (now (firsts .entry)) (now (loadedsizes .entry)) (now (presentsizes .entry)))
-        (now (netweights .entry)) (now (counts .entry)) (now (gains .entry)) (now (visited .entry)) → Listed (now (calls .entry)) (z .calls) (now (output .entry))
+        (now (netweights .entry)) lows (now (counts .entry)) (now (gains .entry)) (now (visited .entry)) → Listed (now (calls .entry)) (z .calls) (now (output .entry))
         → Reported (graph z
         (lists (now (weights .entry)) (now (blocks .entry)) (now (aboves .entry)) (now (fixed .entry)) loadedpins (now (presentpins .entry)) (now (firsts .entry)) (now (loadedsizes .entry)) (now (presentsizes .entry)))
-        (now (netweights .entry))) (callsOf (z .calls) (now (calls .entry))) (lent old (now (counts .entry)) (now (gains .entry)) (now (visited .entry)))
+        (now (netweights .entry)) lows) (callsOf (z .calls) (now (calls .entry))) (lent old (now (counts .entry)) (now (gains .entry)) (now (visited .entry)))
         (lent (lists (now (weights .exit)) (now (blocks .exit)) (now (aboves .exit)) (now (fixed .exit)) loadedpins (now (presentpins .exit)) (now (firsts .exit)) (now (loadedsizes .exit)) (now (presentsizes .exit))) (now (counts .exit)) (now (gains .exit)) (now (visited .exit)))
         (now (output .entry)) (now (output .exit)) r) ⌝ }
 {

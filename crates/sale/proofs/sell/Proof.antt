@@ -80,7 +80,7 @@ returns c =
     let at-mark-fixed = state .before .before .before .before .before .before .before .before .before .before in
     let opened = state .«open» .ensures in
     let marked = at-mark-fixed .mark-fixed .ensures in
-    λ limits file pins old g l. sold g (blank 16384 refl) opened marked l (at-run-calls .run-calls .ensures limits _ (begins g (blank 16384 refl) opened marked l))
+    λ limits file pins lows old g l. sold g (blank 16384 refl) opened marked l (at-run-calls .run-calls .ensures limits _ (begins g (blank 16384 refl) opened marked l))
 
 cast-t30 : tie.Need-cast-t30
 cast-t30 c = omega arith

@@ -16,7 +16,7 @@ put-closing-requires : tie.Need-put-closing-requires
 put-closing-requires c κs =
     let at-sell = c .before .before .before .before .before .before .before .before .before .before .before .before .before .before .before .before .before .before .before .before .before .before .before .before in
     let start = at-sell .before .before .before .before .before .before .before .before .before .before .before .before .before .before .before .before .before .before .before .before .before .before .before .before .before in
-    closes (at-sell .sell .ensures (start .pre .limits) (start .pre .file) (start .pre .pins) (start .pre .old) (start .pre .catalogued) (start .pre .listed))
+    closes (at-sell .sell .ensures (start .pre .limits) (start .pre .file) (start .pre .pins) (start .pre .lows) (start .pre .old) (start .pre .catalogued) (start .pre .listed))
 
 same-length : tie.Need-same-length
 same-length c = search needs
@@ -48,7 +48,7 @@ same-length-9 c = search needs
 returns : tie.Need-returns
 returns c =
     let at-sell = c .before .before .before .before .before .before .before .before .before .before .before .before .before .before .before .before .before .before .before .before .before .before .before .before .before .before .before in
-    λ limits file pins old g l. reported (at-sell .sell .ensures limits file pins old g l) (c .before .before .put-closing .ensures _ _ (at-sell .sell .ensures limits file pins old g l .ended))
+    λ limits file pins lows old g l. reported (at-sell .sell .ensures limits file pins lows old g l) (c .before .before .put-closing .ensures _ _ (at-sell .sell .ensures limits file pins lows old g l .ended))
 
 pub report-sale-spec : {M : Type 1} → statement M
 report-sale-spec =
