@@ -9,7 +9,7 @@ use loader::Loaded;
 use sale::closing::refuse;
 use sale::closing::report_sale;
 
-// 0 or the number of the refusal, 1 to 8, the bytes written, and how many lots the file has: 0 where none was accepted.
+// 0 or the number of the refusal, 1 to 8 or 21, the bytes written, and how many lots the file has: 0 where none was accepted.
 pub struct Served {
     pub code: u32,
     pub written: usize,
@@ -44,6 +44,7 @@ pub fn work_file(
         (r .code) (r .written) × (r .lots ≡ lotsIn (parse (limitsOf vmax bmax) (now (file .entry)))) ⌝ }
 {
     let mut netweights = [0u16; 1024];
+    let mut lows = [0u32; 1024];
     let mut calls = [0u32; 1536];
     match loader::load(
         file,
@@ -59,6 +60,7 @@ pub fn work_file(
         loadedsizes,
         presentsizes,
         &mut netweights,
+        &mut lows,
         &mut calls,
     ) {
         Loaded::Refused(q, line) => {

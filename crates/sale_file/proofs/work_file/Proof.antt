@@ -19,7 +19,7 @@ enum-known-q c = search needs
 refuse-requires : tie.Need-refuse-requires
 refuse-requires c κs =
     let at-load = c .before .before .before .before .before .before .before .before .before .before .before .before .before .before .before .before .before .before .before .before .before .before .before in
-    let long = c .before .before .before .before .before .before .before .before .before .before .before .before .before .before .before .before .before .before .before .before .before .before .before .before .before .before .before .before .before .before .before .before .before .before .before .before .before .before .before .before .before .before .before .before .before .before .before .before .pre in
+    let long = c .before .before .before .before .before .before .before .before .before .before .before .before .before .before .before .before .before .before .before .before .before .before .before .before .before .before .before .before .before .before .before .before .before .before .before .before .before .before .before .before .before .before .before .before .before .before .before .before .before .pre in
     let loads = at-load .load .ensures in
     let refused = c .before .before .q .given .1 in
     (small long loads refused .1, omega (arith, line-fits long loads refused, long .spacious))
@@ -28,7 +28,7 @@ cast-number : tie.Need-cast-number
 cast-number c =
     let at-q = c .before .before .before .before .before in
     let at-load = at-q .before .before .before .before .before .before .before .before .before .before .before .before .before .before .before .before .before .before .before .before .before in
-    let start = at-load .before .before .before .before .before .before .before .before .before .before .before .before .before .before .before .before .before .before .before .before .before .before .before .before .before in
+    let start = at-load .before .before .before .before .before .before .before .before .before .before .before .before .before .before .before .before .before .before .before .before .before .before .before .before .before .before in
     omega (arith, small (start .pre) (at-load .load .ensures) (at-q .q .given .1) .0)
 
 enum-known-z : tie.Need-enum-known-z
@@ -47,7 +47,7 @@ report-sale-requires : tie.Need-report-sale-requires
 report-sale-requires c κs =
     let at-z = c .before .before .before .before .before .before .before .before .before .before .before .before .before .before .before in
     let at-load = at-z .before .before .before .before .before .before .before .before .before .before .before .before .before .before .before .before .before .before .before .before .before in
-    let long = c .before .before .before .before .before .before .before .before .before .before .before .before .before .before .before .before .before .before .before .before .before .before .before .before .before .before .before .before .before .before .before .before .before .before .before .before .before .before .before .before .before .before .before .before .before .before .before .before .before .before .before .before .before .before .before .before .before .before .before .before .before .pre in
+    let long = c .before .before .before .before .before .before .before .before .before .before .before .before .before .before .before .before .before .before .before .before .before .before .before .before .before .before .before .before .before .before .before .before .before .before .before .before .before .before .before .before .before .before .before .before .before .before .before .before .before .before .before .before .before .before .before .before .before .before .before .before .before .before .pre in
     let loads = at-load .load .ensures in
     let accepted = at-z .z .given .1 in
     record {
@@ -55,6 +55,7 @@ report-sale-requires c κs =
       file = _;
       old = _;
       pins = _;
+      lows = _;
       catalogued = catalogued long loads accepted;
       listed = listed long loads accepted (omega (arith, at-load .load .kept, length-replicate {A = ℕ} 1536 0));
     }
@@ -96,7 +97,7 @@ returns : tie.Need-returns
 returns c =
     let at-q = c .before .before .before .before .before in
     let at-load = at-q .before .before .before .before .before .before .before .before .before .before .before .before .before .before .before .before .before .before .before .before .before in
-    let start = at-load .before .before .before .before .before .before .before .before .before .before .before .before .before .before .before .before .before .before .before .before .before .before .before .before .before in
+    let start = at-load .before .before .before .before .before .before .before .before .before .before .before .before .before .before .before .before .before .before .before .before .before .before .before .before .before .before in
     let long = start .pre in
     let loads = at-load .load .ensures in
     let refused = at-q .q .given .1 in
@@ -180,12 +181,12 @@ returns-2 c =
     let at-z = at-report-sale .before .before .before .before .before .before .before .before .before .before .before .before .before .before .before .before in
     let at-load = at-z .before .before .before .before .before .before .before .before .before .before .before .before .before .before .before .before .before .before .before .before .before in
     let reported = at-report-sale .report-sale .ensures in
-    let long = c .before .before .before .before .before .before .before .before .before .before .before .before .before .before .before .before .before .before .before .before .before .before .before .before .before .before .before .before .before .before .before .before .before .before .before .before .before .before .before .before .before .before .before .before .before .before .before .before .before .before .before .before .before .before .before .before .before .before .before .before .before .before .before .before .before .before .before .before .before .before .before .before .before .before .before .before .before .before .before .before .pre in
+    let long = c .before .before .before .before .before .before .before .before .before .before .before .before .before .before .before .before .before .before .before .before .before .before .before .before .before .before .before .before .before .before .before .before .before .before .before .before .before .before .before .before .before .before .before .before .before .before .before .before .before .before .before .before .before .before .before .before .before .before .before .before .before .before .before .before .before .before .before .before .before .before .before .before .before .before .before .before .before .before .before .before .before .pre in
     let loads = at-load .load .ensures in
     let accepted = at-z .z .given .1 in
     let calls-long = at-load .load .kept in (
       worked long loads accepted
-          (reported _ _ _ _ (catalogued long loads accepted) (listed long loads accepted (omega (arith, calls-long, length-replicate {A = ℕ} 1536 0)))),
+          (reported _ _ _ _ _ (catalogued long loads accepted) (listed long loads accepted (omega (arith, calls-long, length-replicate {A = ℕ} 1536 0)))),
       lots-read long loads accepted,
     )
 
