@@ -22,6 +22,7 @@ use Rattle.model.specs.Memory.{Tables as Lent}
 use Rattle.model.specs.Lent.{Lists, lent, memory, listed, callsOf, Two}
 use Rattle.model.specs.Demand.{Standing, standing, Demand3}
 use Rattle.model.specs.ListEntry.{isLetter, lettersTo, listRefusal, listCalls, Returned, returned, Idle, ListWorked}
+use Rattle.guarantees.specs.Counts.{every-count}
 use Rattle.loader.specs.declared.Sizes.{Sizes}
 use Rattle.loader.specs.declared.Loaded.{Loaded}
 use Rattle.loader.specs.declared.Loaded.the-variants.{Accepted, Refused}
@@ -137,21 +138,22 @@ pub idle : {code bytes total : ℕ} {S J : Two} → S .len ≡ 0 → S .xs ≡ r
     → Idle (returned code bytes total S J)
 idle {S = S} {J = J} s sx sy j jx jy t = record { no-joins = s; no-moves = j; zero-total = t; stack-whole = zero-new {S = S} sx sy; journal-whole = zero-new {S = J} jx jy }
 
-module _ (list out : List ℕ) (counts : List ℕ) (gains : List ℤ) (visited : List ℕ) {limits : Limits} {file : List ℕ} {old new : Lists} {nw calls : List ℕ} {r : Loaded} (l : Loads limits file r old new nw calls) where
+module _ (list out : List ℕ) (counts : List ℕ) (gains : List ℤ) (visited : List ℕ) {limits : Limits} {file : List ℕ} {old new : Lists} {nw lo calls : List ℕ} {r : Loaded} (l : Loads limits file r old new nw lo calls) where
   -- the catalogue is accepted; the stack and the journal are returned with zeros past their lengths
-  pub list-worked : {z : Sizes} (e : r ≡ Accepted z) {new′ : Lent} {out′ : List ℕ} {S S′ J J′ : Two} {n m draft total at : ℕ} → Sold limits (graph z new nw) (listCalls list) (lent old counts gains visited) new′ out out′ S J n m draft total at
+  pub list-worked : {z : Sizes} (e : r ≡ Accepted z) {new′ : Lent} {out′ : List ℕ} {S S′ J J′ : Two} {n m draft total at : ℕ} → Sold limits (graph z new nw lo) (listCalls list) (lent old counts gains visited) new′ out out′ S J n m draft total at
       → Zeroed (S .len) (S .xs) (S′ .xs) × Zeroed (S .len) (S .ys) (S′ .ys) × (S′ .len ≡ S .len)
       → Zeroed (J .len) (J .xs) (J′ .xs) × Zeroed (J .len) (J .ys) (J′ .ys) × (J′ .len ≡ J .len)
       → ListWorked limits (parse limits file) (listCalls list) (memory out (lent old counts gains visited)) (memory out′ new′) (returned 0 at total S′ J′)
   list-worked {z} e {new′} {out′} {S} {S′} {J} {J′} {total = total} {at = at} s zs zj =
       let stack-same = sym (zeroed-pairs {A = Contraction} (λ u v. record { into = u; gone = v }) {S = S} {S′ = S′} (zs .0) (zs .1) (zs .2)) in
       let journal-same = sym (zeroed-pairs {A = Move} (λ v b. record { vertex = v; from = b }) {S = J} {S′ = J′} (zj .0) (zj .1) (zj .2)) in
-      subst (λ (x : Reading). ListWorked limits x (listCalls list) (memory out (lent old counts gains visited)) (memory out′ new′) (returned 0 at total S′ J′)) (ap (λ (x : Loaded). seen x new nw calls) (sym e) ∙ l .says)
+      subst (λ (x : Reading). ListWorked limits x (listCalls list) (memory out (lent old counts gains visited)) (memory out′ new′) (returned 0 at total S′ J′)) (ap (λ (x : Loaded). seen (l .estimated) x new nw lo calls) (sym e) ∙ l .says)
       (record {
         code-is = refl;
         lines = s .lines;
-        demand = subst (λ (x : Standing). Demand3 limits (graph z new nw) (listCalls list) (lent old counts gains visited) x (s .lines) total) (λ k. standing new′ (stack-same k) (journal-same k)) (s .demand);
+        demand = subst (λ (x : Standing). Demand3 limits (graph z new nw lo) (listCalls list) (lent old counts gains visited) x (s .lines) total) (λ k. standing new′ (stack-same k) (journal-same k)) (s .demand);
         clump-gains = s .clump-gains;
+        every-count = every-count limits (graph z new nw lo) (s .demand .accepted) (listCalls list);
         output = written-all (s .wrote);
         stack-whole = zero-past {S = S} {S′ = S′} (s .stack-whole .xs-whole) (s .stack-whole .ys-whole) (zs .0) (zs .1) (zs .2);
         journal-whole = zero-past {S = J} {S′ = J′} (s .journal-whole .xs-whole) (s .journal-whole .ys-whole) (zj .0) (zj .1) (zj .2);
@@ -162,5 +164,5 @@ module _ (list out : List ℕ) (counts : List ℕ) (gains : List ℤ) (visited :
       → ListWorked limits (parse limits file) (listCalls list) (memory out (lent old counts gains visited)) (memory out′ new′) x
   unfolding outcome
   list-down {q} {n} e new′ {out′} {x} i d w =
-      subst (λ (y : Reading). ListWorked limits y (listCalls list) (memory out (lent old counts gains visited)) (memory out′ new′) x) (ap (λ (y : Loaded). seen y new nw calls) (sym e) ∙ l .says)
+      subst (λ (y : Reading). ListWorked limits y (listCalls list) (memory out (lent old counts gains visited)) (memory out′ new′) x) (ap (λ (y : Loaded). seen (l .estimated) y new nw lo calls) (sym e) ∙ l .says)
       (record { code-is = d; output = written-all w; tables = tt }, i)

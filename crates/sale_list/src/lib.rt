@@ -100,6 +100,7 @@ pub fn work_list(
         (returned (r .code) (r .written) (r .total) (two (r .stack .into) (r .stack .gone) (r .stack .len)) (two (r .journal .vertices) (r .journal .blocks) (r .journal .len))) ⌝ }
 {
     let mut netweights = [0u16; 1024];
+    let mut lows = [0u32; 1024];
     let mut calls = [0u32; 1536];
     match loader::load(
         file,
@@ -115,6 +116,7 @@ pub fn work_list(
         loadedsizes,
         presentsizes,
         &mut netweights,
+        &mut lows,
         &mut calls,
     ) {
         Loaded::Refused(q, line) => {

@@ -19,7 +19,7 @@ enum-known-q c = search needs
 refuse-requires : tie.Need-refuse-requires
 refuse-requires c κs =
     let at-load = c .before .before .before .before .before .before .before .before .before .before .before .before .before .before .before .before .before .before .before .before .before .before .before in
-    let start = at-load .before .before .before .before .before .before .before .before .before .before .before .before .before .before .before .before .before .before .before .before .before .before .before .before .before .before in
+    let start = at-load .before .before .before .before .before .before .before .before .before .before .before .before .before .before .before .before .before .before .before .before .before .before .before .before .before .before .before in
     let long = start .pre .0 in
     let loads = at-load .load .ensures in
     let refused = c .before .before .q .given .1 in
@@ -29,7 +29,7 @@ cast-number : tie.Need-cast-number
 cast-number c =
     let at-q = c .before .before .before .before .before in
     let at-load = at-q .before .before .before .before .before .before .before .before .before .before .before .before .before .before .before .before .before .before .before .before .before in
-    let start = at-load .before .before .before .before .before .before .before .before .before .before .before .before .before .before .before .before .before .before .before .before .before .before .before .before .before .before in
+    let start = at-load .before .before .before .before .before .before .before .before .before .before .before .before .before .before .before .before .before .before .before .before .before .before .before .before .before .before .before in
     omega (arith, small (start .pre .0) (at-load .load .ensures) (at-q .q .given .1) .0)
 
 new-requires : tie.Need-new-requires
@@ -48,13 +48,14 @@ sell-requires : tie.Need-sell-requires
 sell-requires c κs =
     let at-z = c .before .before .before .before .before .before .before .before .before .before .before .before .before .before in
     let at-load = at-z .before .before .before .before .before .before .before .before .before .before .before .before .before .before .before .before .before .before .before .before .before in
-    let start = at-load .before .before .before .before .before .before .before .before .before .before .before .before .before .before .before .before .before .before .before .before .before .before .before .before .before .before in
+    let start = at-load .before .before .before .before .before .before .before .before .before .before .before .before .before .before .before .before .before .before .before .before .before .before .before .before .before .before .before in
     let long = start .pre .0 in
     record {
       limits = _;
       file = _;
       old = _;
       pins = _;
+      lows = _;
       catalogued = catalogued long (at-load .load .ensures) (at-z .z .given .1);
       listed = list-listed _ (start .pre .1) (long .spacious);
     }
@@ -91,7 +92,7 @@ returns c =
     let at-refuse = c .before .before .before .before in
     let at-q = at-refuse .before .before .before in
     let at-load = at-q .before .before .before .before .before .before .before .before .before .before .before .before .before .before .before .before .before .before .before .before .before in
-    let start = at-load .before .before .before .before .before .before .before .before .before .before .before .before .before .before .before .before .before .before .before .before .before .before .before .before .before .before in
+    let start = at-load .before .before .before .before .before .before .before .before .before .before .before .before .before .before .before .before .before .before .before .before .before .before .before .before .before .before .before in
     list-down (now (start .args .list)) _ _ _ _ (at-load .load .ensures) (at-q .q .given .1) _ (idle (c .before .new .ensures .2) (c .before .new .ensures .3) (c .before .new .ensures .4) (c .new2 .ensures .2) (c .new2 .ensures .3) (c .new2 .ensures .4) refl) refl (at-refuse .refuse .ensures)
 
 same-length-10 : tie.Need-same-length-10
@@ -171,11 +172,11 @@ returns-2 c =
     let at-sell = c .before .before .before .before .before .before .before .before .before .before .before .before .before .before .before .before .before .before .before .before .before in
     let at-z = at-sell .before .before .before .before .before .before .before .before .before .before .before .before .before .before .before in
     let at-load = at-z .before .before .before .before .before .before .before .before .before .before .before .before .before .before .before .before .before .before .before .before .before in
-    let start = at-load .before .before .before .before .before .before .before .before .before .before .before .before .before .before .before .before .before .before .before .before .before .before .before .before .before .before in
+    let start = at-load .before .before .before .before .before .before .before .before .before .before .before .before .before .before .before .before .before .before .before .before .before .before .before .before .before .before .before in
     let long = start .pre .0 in
     let loads = at-load .load .ensures in
     let accepted = at-z .z .given .1 in
-    list-worked (now (start .args .list)) _ _ _ _ loads accepted (at-sell .sell .ensures _ _ _ _ (catalogued long loads accepted) (list-listed _ (start .pre .1) (long .spacious))) (c .before .zeroed .ensures) (c .zeroed2 .ensures)
+    list-worked (now (start .args .list)) _ _ _ _ loads accepted (at-sell .sell .ensures _ _ _ _ _ (catalogued long loads accepted) (list-listed _ (start .pre .1) (long .spacious))) (c .before .zeroed .ensures) (c .zeroed2 .ensures)
 
 new-requires-2 : tie.Need-new-requires-2
 new-requires-2 c κs = search needs
@@ -185,11 +186,11 @@ zeroed-requires c κs =
     let at-sell = c .before .before .before .before .before .before .before .before .before .before .before .before .before .before .before .before .before .before .before in
     let at-z = at-sell .before .before .before .before .before .before .before .before .before .before .before .before .before .before .before in
     let at-load = at-z .before .before .before .before .before .before .before .before .before .before .before .before .before .before .before .before .before .before .before .before .before in
-    let start = at-load .before .before .before .before .before .before .before .before .before .before .before .before .before .before .before .before .before .before .before .before .before .before .before .before .before .before in
+    let start = at-load .before .before .before .before .before .before .before .before .before .before .before .before .before .before .before .before .before .before .before .before .before .before .before .before .before .before .before in
     let long = start .pre .0 in
     let loads = at-load .load .ensures in
     let accepted = at-z .z .given .1 in
-    let sold = (at-sell .sell .ensures _ _ _ _ (catalogued long loads accepted) (list-listed _ (start .pre .1) (long .spacious))) in
+    let sold = (at-sell .sell .ensures _ _ _ _ _ (catalogued long loads accepted) (list-listed _ (start .pre .1) (long .spacious))) in
     (sold .stack-whole .xs-whole, sold .stack-whole .ys-whole)
 
 zeroed-requires-2 : tie.Need-zeroed-requires-2
@@ -197,11 +198,11 @@ zeroed-requires-2 c κs =
     let at-sell = c .before .before .before .before .before .before .before .before .before .before .before .before .before .before .before .before .before .before .before .before in
     let at-z = at-sell .before .before .before .before .before .before .before .before .before .before .before .before .before .before .before in
     let at-load = at-z .before .before .before .before .before .before .before .before .before .before .before .before .before .before .before .before .before .before .before .before .before in
-    let start = at-load .before .before .before .before .before .before .before .before .before .before .before .before .before .before .before .before .before .before .before .before .before .before .before .before .before .before in
+    let start = at-load .before .before .before .before .before .before .before .before .before .before .before .before .before .before .before .before .before .before .before .before .before .before .before .before .before .before .before in
     let long = start .pre .0 in
     let loads = at-load .load .ensures in
     let accepted = at-z .z .given .1 in
-    let sold = (at-sell .sell .ensures _ _ _ _ (catalogued long loads accepted) (list-listed _ (start .pre .1) (long .spacious))) in
+    let sold = (at-sell .sell .ensures _ _ _ _ _ (catalogued long loads accepted) (list-listed _ (start .pre .1) (long .spacious))) in
     (sold .journal-whole .xs-whole, sold .journal-whole .ys-whole)
 
 pub work-list-spec : {M : Type 1} → statement M
