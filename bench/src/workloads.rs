@@ -14,6 +14,7 @@ pub struct Workload {
 fn catalogue(lots: usize, buyers: usize, marks: usize, sessions: usize) -> Catalogue {
     let mut random = Random::new((lots * buyers + marks * sessions) as u64);
     Catalogue {
+        estimated: false,
         sessions,
         slack: 100,
         lots: (0..lots)

@@ -118,6 +118,7 @@ fn long_list(seed: u64, lots: usize, buyers: usize, marks: usize, count: usize) 
     let mut random = Random::new(seed);
     let sessions = random.between(2, 16) as usize;
     let mut catalogue = Catalogue {
+        estimated: false,
         sessions,
         slack: random.between(50, 1_000),
         lots: Vec::new(),

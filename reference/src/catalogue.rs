@@ -40,22 +40,32 @@ impl Default for Limits {
     }
 }
 
-/// A lot as loaded: its own bales, its session in the draft, and whether its grower keeps it there.
+/// A lot as loaded: the range of its own bales, its session in the draft, and whether its grower
+/// keeps it there. `bales` is the high, which every use takes but the cap and the joining limit;
+/// these take `low`. In a sale whose bales are counted the two are one.
 #[derive(Clone, Debug, PartialEq, Eq)]
 pub struct Lot {
+    pub low: u64,
     pub bales: u64,
     pub session: usize,
     pub kept: bool,
 }
 
 impl Lot {
-    /// A lot that is not kept.
+    /// A lot whose bales are counted and that is not kept.
     pub fn free(bales: u64, session: usize) -> Self {
         Lot {
+            low: bales,
             bales,
             session,
             kept: false,
         }
+    }
+
+    /// Gives the lot bales that are counted.
+    pub fn count(&mut self, bales: u64) {
+        self.low = bales;
+        self.bales = bales;
     }
 }
 
@@ -66,9 +76,10 @@ pub struct Buyer {
     pub marks: Vec<usize>,
 }
 
-/// All catalogue lines of a sale.
+/// All catalogue lines of a sale. `estimated` is for a file that starts with `EST`.
 #[derive(Clone, Debug, PartialEq, Eq)]
 pub struct Catalogue {
+    pub estimated: bool,
     pub sessions: usize,
     pub slack: u64,
     pub lots: Vec<Lot>,

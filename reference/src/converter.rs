@@ -172,6 +172,7 @@ fn listing_fits(input: &Input) -> bool {
 /// edges are buyers, and block b is session b + 1.
 fn catalogue_of(input: &Input) -> Catalogue {
     Catalogue {
+        estimated: false,
         sessions: input.sessions as usize,
         slack: input.slack,
         lots: (1..=input.vertices)

@@ -101,10 +101,12 @@ pub enum Kind {
     Superfine,
     /// Some lots kept, few or all of them.
     Kept,
+    /// Bales not yet counted.
+    Estimates,
 }
 
 /// All kinds with the names that the program takes.
-pub const KINDS: [(&str, Kind); 23] = [
+pub const KINDS: [(&str, Kind); 24] = [
     ("mixed", Kind::Mixed),
     ("one-lot", Kind::OneLot),
     ("no-buyers", Kind::NoBuyers),
@@ -128,6 +130,7 @@ pub const KINDS: [(&str, Kind); 23] = [
     ("lopsided", Kind::Lopsided),
     ("superfine", Kind::Superfine),
     ("kept", Kind::Kept),
+    ("estimates", Kind::Estimates),
 ];
 
 /// An accepted sale of a kind that the seed settles; mostly a small one.
@@ -148,6 +151,9 @@ pub fn sale(seed: u64) -> Vec<u8> {
     let mut catalogue = catalogue_of_kind(seed, kind);
     if random.in_hundred(25) {
         keep_some(&mut random, &mut catalogue);
+    }
+    if random.in_hundred(25) {
+        estimate(&mut random, &mut catalogue);
     }
     let calls = calls_of_kind(&mut random, &catalogue, kind);
     write_sale(&Sale { catalogue, calls })
@@ -181,15 +187,20 @@ pub fn calls(seed: u64, catalogue: &Catalogue, count: usize) -> Vec<Call> {
 pub fn write_sale(sale: &Sale) -> Vec<u8> {
     let catalogue = &sale.catalogue;
     let mut text = format!(
-        "SALE,{},{},{},{}\n",
+        "{},{},{},{},{}\n",
+        if catalogue.estimated { "EST" } else { "SALE" },
         catalogue.lots.len(),
         catalogue.buyers.len(),
         catalogue.sessions,
         catalogue.slack
     );
     for lot in &catalogue.lots {
+        text.push_str("LOT,");
+        if catalogue.estimated {
+            text.push_str(&format!("{},", lot.low));
+        }
         let kept = if lot.kept { ",K" } else { "" };
-        text.push_str(&format!("LOT,{},{}{kept}\n", lot.bales, lot.session));
+        text.push_str(&format!("{},{}{kept}\n", lot.bales, lot.session));
     }
     for buyer in &catalogue.buyers {
         text.push_str(&format!("BUY,{}", buyer.weight));
@@ -240,9 +251,10 @@ fn catalogue(random: &mut Random, kind: Kind) -> Catalogue {
         })
         .collect();
     if kind == Kind::Tight {
-        lots.iter_mut().for_each(|lot| lot.bales = widest);
+        lots.iter_mut().for_each(|lot| lot.count(widest));
     }
     let mut made = Catalogue {
+        estimated: false,
         sessions,
         slack: match kind {
             Kind::Tight => 0,
@@ -261,10 +273,49 @@ fn catalogue(random: &mut Random, kind: Kind) -> Catalogue {
         fill_first_session(random, &mut made);
     }
     settle_draft(&mut made);
-    if kind == Kind::Kept {
-        keep_some(random, &mut made);
+    match kind {
+        Kind::Kept => keep_some(random, &mut made),
+        Kind::Estimates => estimate(random, &mut made),
+        _ => {}
     }
     made
+}
+
+/// All lots of some times their bales, so that the smallest leave room for a range; if the draft
+/// stays within the cap.
+fn heavier(random: &mut Random, made: &mut Catalogue) {
+    let times = *random.pick(&[1, 4, 10]);
+    let mut heavy = made.clone();
+    for lot in &mut heavy.lots {
+        lot.count((lot.bales * times).min(65_535));
+    }
+    if !measure::overfull_draft(&heavy) {
+        *made = heavy;
+    }
+}
+
+/// Lows below the bales that the draft was settled with, which are the highs. The slack, and then
+/// the lows, rise until the draft is within the cap.
+fn estimate(random: &mut Random, made: &mut Catalogue) {
+    made.estimated = true;
+    heavier(random, made);
+    let counted = *random.pick(&[0, 0, 30, 80]);
+    for lot in &mut made.lots {
+        lot.low = if random.in_hundred(counted) {
+            lot.bales
+        } else {
+            random.between(1, lot.bales)
+        };
+    }
+    while measure::overfull_draft(made) {
+        if made.slack < 1_000 {
+            made.slack = (made.slack + 100).min(1_000);
+            continue;
+        }
+        for lot in &mut made.lots {
+            lot.low = (lot.low + lot.bales).div_ceil(2);
+        }
+    }
 }
 
 /// Some lots kept, one at least: few, many or all of them.
@@ -280,17 +331,18 @@ fn keep_some(random: &mut Random, made: &mut Catalogue) {
 /// Few bales to a lot and an odd even share, so that slack 500 gives an exact half.
 fn half_the_cap(random: &mut Random, made: &mut Catalogue) {
     for lot in &mut made.lots {
-        lot.bales = random.between(1, 3);
+        lot.count(random.between(1, 3));
     }
     while measure::fair_share(made).is_multiple_of(2) {
-        made.lots[0].bales += 1;
+        let more = made.lots[0].bales + 1;
+        made.lots[0].count(more);
     }
 }
 
 /// Lots of 1 to 3 bales go to session 1 while it has space, all but some of them.
 fn fill_first_session(random: &mut Random, made: &mut Catalogue) {
     for lot in &mut made.lots {
-        lot.bales = random.between(1, 3);
+        lot.count(random.between(1, 3));
         lot.session = made.sessions;
     }
     let cap = measure::cap(made);
@@ -435,6 +487,7 @@ fn calls_of_kind(random: &mut Random, catalogue: &Catalogue, kind: Kind) -> Vec<
         Kind::Walks => steered_calls(random, catalogue, 14, &[14, 10, 26, 16, 28, 2, 0, 4]),
         Kind::Superfine => steered_calls(random, catalogue, 8, &[28, 15, 25, 10, 15, 5, 2, 0]),
         Kind::Kept => steered_calls(random, catalogue, 16, &[22, 14, 24, 4, 16, 6, 10, 4]),
+        Kind::Estimates => steered_calls(random, catalogue, 16, &[12, 10, 28, 6, 18, 8, 12, 6]),
         Kind::Lopsided => steered_calls(random, catalogue, 10, &[20, 10, 20, 10, 35, 0, 5, 0]),
         Kind::Rounds => {
             let mut calls = steered_calls(random, catalogue, 4, &[0, 0, 50, 10, 20, 20, 0, 0]);
@@ -603,6 +656,7 @@ pub fn damaged(seed: u64) -> Vec<u8> {
             Kind::BadCalls,
             Kind::NoBuyers,
             Kind::Kept,
+            Kind::Estimates,
         ])
     };
     let mut file = sale_of_kind(random.bits(), kind);
@@ -618,7 +672,7 @@ fn damage(random: &mut Random, mut file: Vec<u8>) -> Vec<u8> {
     }
     let length = file.len() as u64;
     let place = random.between(0, length - 1) as usize;
-    match random.between(0, 31) {
+    match random.between(0, 34) {
         0 => {
             file[place] = random.bits() as u8;
             file
@@ -706,6 +760,13 @@ fn damage(random: &mut Random, mut file: Vec<u8>) -> Vec<u8> {
             let place = random.between(0, lines.len() as u64 - 1) as usize;
             lines[place] = change_end(random, &lines[place]);
         }),
+        25 => change_lines(random, &file, |random, lines| {
+            lines[0] = change_head(random, &lines[0]);
+        }),
+        26..=27 => change_lines(random, &file, |random, lines| {
+            let place = random.between(0, lines.len() as u64 - 1) as usize;
+            lines[place] = swap_numbers(&lines[place]);
+        }),
         _ => change_lines(random, &file, |random, lines| {
             let place = random.between(0, lines.len() as u64 - 1) as usize;
             lines[place] = change_number(random, &lines[place]);
@@ -776,6 +837,26 @@ fn change_end(random: &mut Random, line: &[u8]) -> Vec<u8> {
         changed.push(b'\n');
     }
     changed
+}
+
+/// Gives line 1 another name, mostly that of the other sort of file.
+fn change_head(random: &mut Random, line: &[u8]) -> Vec<u8> {
+    let (name, rest) = line.split_at(line.iter().position(|&byte| byte == b',').unwrap_or(0));
+    let other: &[u8] = match random.between(0, 3) {
+        0 => random.pick::<&[u8]>(&[b"est", b"ES", b"ESTS", b"", b"HALL"]),
+        _ if name == b"EST" => b"SALE",
+        _ => b"EST",
+    };
+    [other, rest].concat()
+}
+
+/// Swaps the first two numbers of a line, where it has two.
+fn swap_numbers(line: &[u8]) -> Vec<u8> {
+    let mut fields: Vec<&[u8]> = line.split(|&byte| byte == b',').collect();
+    if fields.len() > 3 {
+        fields.swap(1, 2);
+    }
+    fields.join(&b',')
 }
 
 /// Replaces one field of a line, or adds or removes one.

@@ -62,7 +62,7 @@ fn drop_weights(made: &mut Catalogue, code: u64) {
         made.buyers.iter_mut().for_each(|buyer| buyer.weight = 1);
     }
     if code == 0 || code == 1 {
-        made.lots.iter_mut().for_each(|lot| lot.bales = 1);
+        made.lots.iter_mut().for_each(|lot| lot.count(1));
     }
 }
 
@@ -72,6 +72,7 @@ fn random_sizes(random: &mut Random, lots: (u64, u64), buyers: (u64, u64)) -> Ca
     let lot_count = random.between(lots.0, lots.1) as usize;
     let buyer_count = random.between(buyers.0, buyers.1);
     Catalogue {
+        estimated: false,
         sessions,
         slack: random.between(0, 1_000),
         lots: (0..lot_count)
@@ -108,6 +109,7 @@ fn marks_near_8_192(random: &mut Random) -> Catalogue {
 /// An input whose catalogue has 59,997 to 60,003 bytes.
 fn output_near_60_000_bytes(random: &mut Random) -> Vec<u8> {
     let mut made = Catalogue {
+        estimated: false,
         sessions: 16,
         slack: 1_000,
         lots: (0..1_024)
@@ -139,7 +141,7 @@ fn output_near_60_000_bytes(random: &mut Random) -> Vec<u8> {
         buyer.marks.pop();
     }
     for lot in &mut made.lots[..excess % 5] {
-        lot.bales = 9_999;
+        lot.count(9_999);
     }
     lines_of(random, &made, 11).concat()
 }

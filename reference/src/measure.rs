@@ -3,9 +3,9 @@
 
 use crate::catalogue::Catalogue;
 
-/// All loaded bales shared out evenly over the sessions, rounded up: ⌈W/k⌉.
+/// All loaded bales, by their lows, shared out evenly over the sessions, rounded up: ⌈W/k⌉.
 pub fn fair_share(catalogue: &Catalogue) -> u64 {
-    let all: u64 = catalogue.lots.iter().map(|lot| lot.bales).sum();
+    let all: u64 = catalogue.lots.iter().map(|lot| lot.low).sum();
     all.div_ceil(catalogue.sessions as u64)
 }
 

@@ -1,4 +1,4 @@
-//! Reading a sale file: accepted as a `Sale`, or refused with a number of 1 to 7 and a line.
+//! Reading a sale file: accepted as a `Sale`, or refused with a number of 1 to 7 or 21 and a line.
 //! Rests on `catalogue` for the limits and on `measure` for the cap of the draft.
 
 use crate::catalogue::{
@@ -21,6 +21,8 @@ pub const TOO_MANY_MARKS: u32 = 5;
 pub const OVERFULL_DRAFT: u32 = 6;
 /// The 513th call line.
 pub const TOO_MANY_CALLS: u32 = 7;
+/// A lot's low above its high.
+pub const LOW_ABOVE_HIGH: u32 = 21;
 
 /// Why a whole file is turned down, and on which line (0 for a file too long).
 #[derive(Clone, Copy, Debug, PartialEq, Eq)]
@@ -73,11 +75,23 @@ impl<'a> Lines<'a> {
         Ok((line.number, numbers))
     }
 
+    /// The numbers on line 1, and whether it opens with `EST` and not with `SALE`. Refused with 2
+    /// as other catalogue lines are.
+    fn head_line(&mut self) -> Result<(usize, Vec<u64>, bool), Refusal> {
+        let line = self.due_line()?;
+        let estimated = line.text.starts_with(b"EST,");
+        let name: &[u8] = if estimated { b"EST" } else { b"SALE" };
+        let numbers = fitting_numbers(&line, name, |count| count == 4)?;
+        Ok((line.number, numbers, estimated))
+    }
+
     /// The numbers on the next line, which must be a lot's, and whether the lot is kept: the line
-    /// may then end in `,K`. Refused with 2 as other catalogue lines are.
-    fn lot_line(&mut self) -> Result<(usize, Vec<u64>, bool), Refusal> {
+    /// may then end in `,K`. With estimates a lot has a low and a high before its session. Refused
+    /// with 2 as other catalogue lines are.
+    fn lot_line(&mut self, estimated: bool) -> Result<(usize, Vec<u64>, bool), Refusal> {
         let (line, kept) = without_kept_mark(&self.due_line()?);
-        let numbers = fitting_numbers(&line, b"LOT", |count| count == 2)?;
+        let wanted = if estimated { 3 } else { 2 };
+        let numbers = fitting_numbers(&line, b"LOT", |count| count == wanted)?;
         Ok((line.number, numbers, kept))
     }
 
@@ -209,7 +223,7 @@ fn read_catalogue(lines: &mut Lines, limits: &Limits) -> Result<Catalogue, Refus
         }
     };
 
-    let (line, fields) = lines.catalogue_line(b"SALE", |count| count == 4)?;
+    let (line, fields, estimated) = lines.head_line()?;
     let lot_count = in_range(line, fields[0], 1, limits.lots)?;
     let buyer_count = in_range(line, fields[1], 0, MAX_BUYERS)?;
     let session_count = in_range(line, fields[2], 2, limits.sessions)?;
@@ -217,11 +231,22 @@ fn read_catalogue(lines: &mut Lines, limits: &Limits) -> Result<Catalogue, Refus
 
     let mut lots = Vec::new();
     for _ in 0..lot_count {
-        let (line, fields, kept) = lines.lot_line()?;
-        let bales = in_range(line, fields[0], 1, MAX_BALES)?;
-        let session = in_range(line, fields[1], 1, session_count)? as usize;
+        let (line, fields, kept) = lines.lot_line(estimated)?;
+        let (given, draft) = fields.split_at(fields.len() - 1);
+        // Bales that are counted are given once, as low and high alike.
+        let (low, high) = (given[0], given[given.len() - 1]);
+        in_range(line, low, 1, MAX_BALES)?;
+        in_range(line, high, 1, MAX_BALES)?;
+        if low > high {
+            return Err(Refusal {
+                number: LOW_ABOVE_HIGH,
+                line,
+            });
+        }
+        let session = in_range(line, draft[0], 1, session_count)? as usize;
         lots.push(Lot {
-            bales,
+            low,
+            bales: high,
             session,
             kept,
         });
@@ -254,6 +279,7 @@ fn read_catalogue(lines: &mut Lines, limits: &Limits) -> Result<Catalogue, Refus
     }
 
     Ok(Catalogue {
+        estimated,
         sessions: session_count as usize,
         slack,
         lots,

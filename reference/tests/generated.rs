@@ -4,6 +4,7 @@
 
 use std::collections::BTreeSet;
 
+use reference::catalogue::Lot;
 use reference::generator::{calls, damaged, sale, sale_of_kind, Kind, KINDS};
 use reference::measure::{cap, fair_share, View};
 use reference::report::answer_line;
@@ -73,19 +74,19 @@ fn damaged_files_are_refused_on_a_line_there_is_or_the_next() {
         let lines = file.split_inclusive(|&byte| byte == b'\n').count();
         kept += usize::from(parse(&file).is_ok_and(|sale| has_kept_lot(&sale.catalogue)));
         if let Err(refusal) = parse(&file) {
-            assert!((1..=7).contains(&refusal.number), "{seed}");
+            let known = (1..=7).contains(&refusal.number) || refusal.number == 21;
+            assert!(known, "{seed}");
             assert_eq!(refusal.line == 0, refusal.number == 1, "{seed}");
             assert!(refusal.line <= lines + 1, "{seed}");
             numbers.insert(refusal.number);
         }
         let outcome = run(&file);
-        assert!(
-            outcome.code <= 7 && outcome.report.ends_with(b"\n"),
-            "{seed}"
-        );
+        let code = parse(&file).map_or_else(|refusal| refusal.number, |_| 0);
+        assert_eq!(outcome.code, code, "{seed}");
+        assert!(outcome.report.ends_with(b"\n"), "{seed}");
         assert_eq!(tables_after(&file).is_some(), outcome.code == 0, "{seed}");
     }
-    for number in [1, 2, 3, 4, 6, 7] {
+    for number in [1, 2, 3, 4, 6, 7, 21] {
         assert!(numbers.contains(&number), "no damaged file gave {number}");
     }
     assert!(kept > 10, "{kept}");
@@ -109,6 +110,31 @@ fn kept_lots_of_generated_sales_change_reports_and_are_refused_to_m() {
     assert!(kept > 80, "{kept}");
     assert!(other_report > 50, "{other_report}");
     assert!(refused > 40, "{refused}");
+}
+
+#[test]
+fn estimates_of_generated_sales_change_reports() {
+    let (mut estimated, mut open, mut by_highs, mut by_lows) = (0, 0, 0, 0);
+    for seed in 0..400 {
+        let sale = parse(&sale(seed)).expect("a generated sale is accepted");
+        if !sale.catalogue.estimated {
+            continue;
+        }
+        let report = |change: fn(&mut Lot)| {
+            let mut other = sale.catalogue.clone();
+            other.lots.iter_mut().for_each(change);
+            run_calls(&other, &sale.calls).report
+        };
+        let wanted = report(|_| {});
+        estimated += 1;
+        open += usize::from(sale.catalogue.lots.iter().any(|lot| lot.low < lot.bales));
+        by_highs += usize::from(report(|lot| lot.count(lot.bales)) != wanted);
+        by_lows += usize::from(report(|lot| lot.count(lot.low)) != wanted);
+    }
+    assert!(estimated > 80, "{estimated}");
+    assert!(open > 50, "{open}");
+    assert!(by_highs > 25, "{by_highs}");
+    assert!(by_lows > 35, "{by_lows}");
 }
 
 fn has_kept_lot(catalogue: &Catalogue) -> bool {
