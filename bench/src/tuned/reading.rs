@@ -1,4 +1,4 @@
-//! A sale file read in one pass into flat tables, or its first refusal of 1 to 7.
+//! A sale file read in one pass into flat tables, or its first refusal of 1 to 7 or 21.
 
 use super::bits::{insert, Bits, WORDS};
 
@@ -26,9 +26,10 @@ pub struct Catalogue {
     pub vertices: usize,
     pub nets: usize,
     pub blocks: usize,
-    /// ⌈W/k⌉, which the weight of a contracted pair must not pass.
+    /// ⌈W/k⌉ by the lows, which the weight of a contracted pair must not pass.
     pub average: u32,
     pub capacity: u32,
+    /// The highs of an estimate.
     pub weights: Box<[u32; 1024]>,
     pub draft: Box<[u8; 1024]>,
     /// The vertices that stay in their block.
@@ -91,13 +92,13 @@ impl Lines<'_> {
         }
     }
 
-    /// Reads the numbers of a vertex's line, which may end in `,K`: whether it does.
+    /// Reads a vertex's line of so many numbers, which may end in `,K`: whether it does.
     #[inline(always)]
-    fn next_vertex(&mut self, fields: &mut Vec<u32>) -> Result<bool, Refusal> {
+    fn next_vertex(&mut self, fields: &mut Vec<u32>, wanted: usize) -> Result<bool, Refusal> {
         self.line += 1;
         fields.clear();
         match numbers::<true>(self.rest, b"LOT", fields) {
-            Some((end, fixed)) if fields.len() == 2 => {
+            Some((end, fixed)) if fields.len() == wanted => {
                 self.rest = &self.rest[end..];
                 Ok(fixed)
             }
@@ -173,8 +174,14 @@ impl Catalogue {
             rest: file,
             line: 0,
         };
-        let slack = self.read_head(&mut lines, vertices, blocks)?;
-        self.read_vertices(&mut lines, slack)?;
+        let estimated = file.starts_with(b"EST");
+        let slack = self.read_head(&mut lines, estimated, vertices, blocks)?;
+        let all = if estimated {
+            self.read_vertices::<true>(&mut lines)?
+        } else {
+            self.read_vertices::<false>(&mut lines)?
+        };
+        self.set_capacity(all, slack);
         self.read_nets(&mut lines)?;
         let mut loads = [0; 16];
         for x in 0..self.vertices {
@@ -186,32 +193,48 @@ impl Catalogue {
         self.read_calls(&mut lines)
     }
 
-    fn read_head(&mut self, lines: &mut Lines, vertices: u32, blocks: u32) -> Result<u32, Refusal> {
-        lines.next(b"SALE", &mut self.fields, |count| count == 4)?;
+    fn read_head(
+        &mut self,
+        lines: &mut Lines,
+        estimated: bool,
+        vertices: u32,
+        blocks: u32,
+    ) -> Result<u32, Refusal> {
+        let name: &[u8] = if estimated { b"EST" } else { b"SALE" };
+        lines.next(name, &mut self.fields, |count| count == 4)?;
         self.vertices = lines.in_range(self.fields[0], 1, vertices)? as usize;
         self.nets = lines.in_range(self.fields[1], 0, 1024)? as usize;
         self.blocks = lines.in_range(self.fields[2], 2, blocks)? as usize;
         lines.in_range(self.fields[3], 0, 1000)
     }
 
-    fn read_vertices(&mut self, lines: &mut Lines, slack: u32) -> Result<(), Refusal> {
+    /// Reads the vertices, of two numbers for their weight if ESTIMATED: the sum of the lows.
+    fn read_vertices<const ESTIMATED: bool>(&mut self, lines: &mut Lines) -> Result<u32, Refusal> {
         let mut all = 0;
         self.fixed = [0; WORDS];
+        let last = if ESTIMATED { 2 } else { 1 };
         for x in 0..self.vertices {
-            if lines.next_vertex(&mut self.fields)? {
+            if lines.next_vertex(&mut self.fields, last + 1)? {
                 insert(&mut self.fixed, x);
             }
-            self.weights[x] = lines.in_range(self.fields[0], 1, 65_535)?;
-            self.draft[x] = lines.in_range(self.fields[1], 1, self.blocks as u32)? as u8 - 1;
-            all += self.weights[x];
+            let low = lines.in_range(self.fields[0], 1, 65_535)?;
+            self.weights[x] = lines.in_range(self.fields[last - 1], 1, 65_535)?;
+            if low > self.weights[x] {
+                return Err(lines.refused(21));
+            }
+            self.draft[x] = lines.in_range(self.fields[last], 1, self.blocks as u32)? as u8 - 1;
+            all += low;
         }
+        Ok(all)
+    }
+
+    fn set_capacity(&mut self, all: u32, slack: u32) {
         self.average = all.div_ceil(self.blocks as u32);
         // The product passes 32 bits.
         let thousandths = u64::from(1_000 + slack) * u64::from(self.average);
         let (whole, rest) = (thousandths / 1_000, thousandths % 1_000);
         let up = rest > 500 || rest == 500 && whole % 2 == 1;
         self.capacity = whole as u32 + u32::from(up);
-        Ok(())
     }
 
     fn read_nets(&mut self, lines: &mut Lines) -> Result<(), Refusal> {
