@@ -1,5 +1,5 @@
 -- A file is turned down with a number from 1 to 21 and a line number of at most 60,001 (refused-in), so whatever a file holds, the engine's code is
--- at most 7 and its report fits into the lent 60,000 bytes (code-in, engine-fits). Rests on model's Grammar and on ReportFits. Assumes nothing.
+-- at most 21 and its report fits into the lent 60,000 bytes (code-in, engine-fits). Rests on model's Grammar and on ReportFits. Assumes nothing.
 use Prim.Native.Nat.{ℕ, suc, _+_, _-_, _≤_}
 use native.Mathlib.Omega.{arith}
 use mathlib.Core.Path.{_≡_, refl, subst}

@@ -1,5 +1,5 @@
 -- A catalogue's bytes and a list of calls apart from each other, in memory that is long enough: the tests of a list, and what is left, are
--- model's. Rests on sale and model's ListEntry. Assumes nothing.
+-- model's. Rests on sale, model's ListEntry and guarantees' Counts. Assumes nothing.
 use Prim.Native.Nat.{ℕ, zero, suc, _+_, _*_, _/_, _%_, _<_, _≤_}
 use native.Mathlib.Decide.{ℕ-discrete}
 use native.Mathlib.Numerals.{add-one}
