@@ -37,9 +37,10 @@ typedef struct {
      *   1 over 60,000 bytes         5 the 8,193rd mark
      *   2 badly written             6 a session of the draft above its cap
      *   3 a field out of range      7 the 513th call line
-     *   4 a lot twice with a buyer  8 lent memory shorter than above */
+     *   4 a lot twice with a buyer  8 lent memory shorter than above
+     *                              21 a low above its high */
     uint32_t code;
-    /* The bytes of `output` that hold the report: 0 under 8, one line `NO,number,line` under 1 to 7. */
+    /* The bytes of `output` that hold the report: 0 under 8, one line `NO,number,line` under 1 to 7 and 21. */
     size_t written;
 } kapokdrill_result;
 
@@ -59,7 +60,7 @@ typedef struct {
  *
  * Under 0 the tables hold the sale as the calls left it: a lot's record is at number - 1, a net's
  * entry likewise, and those of counts and gains at 16 * (number - 1) + block - 1. Entries that the
- * sale has no use for, and output past the report, keep what they held. Under 1 to 7 the tables
+ * sale has no use for, and output past the report, keep what they held. Under 1 to 7 and 21 the tables
  * hold nothing of use; under 8 nothing is touched. */
 typedef kapokdrill_result kapokdrill_entry(
     const uint8_t *file, size_t file_length,

@@ -60,7 +60,7 @@ pub struct NetTables<'a> {
     pub presentsizes: &'a [u16],
 }
 
-/// 0 or the refusal's number of 1 to 8, and how many bytes of the output hold the report.
+/// 0 or the refusal's number of 1 to 8 or 21, and how many bytes of the output hold the report.
 #[repr(C)]
 #[derive(Clone, Copy, Debug, PartialEq, Eq)]
 pub struct Outcome {

@@ -67,7 +67,7 @@ impl Memory {
         }
     }
 
-    /// Reads a sale file, runs its calls and writes the report. The code is 0, or 1 to 7 for a
+    /// Reads a sale file, runs its calls and writes the report. The code is 0, or 1 to 7 or 21 for a
     /// file turned down, whose report is one line.
     pub fn run(&mut self, file: &[u8]) -> (u32, &[u8]) {
         let desk = self.desk;
