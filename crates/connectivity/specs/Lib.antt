@@ -6,11 +6,11 @@
 -- Row     laws of a matrix' row and its counts; the row that a pin list gives
 -- Laid    each vertex' row raised by its share
 -- Law     what one pin's change does to the tables
--- Set     the contract of set_pin
+-- Set     the contract of set_pin and move_pin
 -- Change  the rules of the critical counts
 -- Touch   the rules at one vertex, and at all other pins
--- Moved   the row of the changed pin itself, where it moves
--- Steps   the steps of set_pin's proof
+-- Moved   the row of a pin that moves
+-- Steps   the steps of their proofs
 -- Whole   all pins of a net that has none yet
 -- Empty   tables of zeros stand for the matrix of no pins
 pub mod Matrix

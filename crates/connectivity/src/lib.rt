@@ -1,5 +1,5 @@
-// Pin counts, connectivity sets and gains, and the one change of a pin that they are kept in step with. Gains of a net's other pins change
-// only where a count leaves or reaches 0 or 1. The pins of a net that has none yet are also taken in all at once.
+// Pin counts, connectivity sets and gains, and the changes of a pin that they are kept in step with: it comes, goes or moves. Gains of a net's
+// other pins change only where a count leaves or reaches 0 or 1. The pins of a net that has none yet are also taken in all at once.
 mod counts;
 pub mod halves;
 mod shares;
@@ -16,7 +16,7 @@ ghost use Rattle.connectivity.specs.Row.{row};
 ghost use Rattle.connectivity.specs.Laid.{Laid, Net, given, signed};
 ghost use Rattle.connectivity.specs.Set.{Sets, Set};
 ghost use Rattle.connectivity.specs.Touch.{Room, Rest, Amount, atRow, atColumn, Rows, Sole, Other, Found, Others, Delta};
-ghost use Rattle.connectivity.specs.Moved.{lone, wayBack};
+ghost use Rattle.connectivity.specs.Moved.{wayBack};
 ghost use Rattle.connectivity.specs.Steps.{CountAt, OwnRow};
 use counts::arrive;
 use counts::depart;
@@ -240,26 +240,21 @@ fn touch_others(
     column_if(gains, pins, blocks, n, k, first, p, x, b, fb, 0, w, false);
 }
 
-// The shares of the net `e` in the gains of the vertex `x` alone, of the block `a`. Nothing where the net counts `x` in a block on both sides of
-// the change: then `own_moved` has all of it.
+// The shares of the net `e` in the gains of the vertex `x` alone, of the block `a`.
 fn own_row(
     gains: &mut [i32],
     counts: &[u16],
     x: usize,
     e: usize,
     a: usize,
-    b: usize,
     k: usize,
     w: u16,
     take: bool,
 )
     requires { ⌜ OwnRow (now gains) (now counts) x e a k w ⌝ }
-    ensures { λ _. ⌜ Laid (given take (now (counts .entry)) e w) (place (λ _. 0) x (lone a b)) k (now (gains .entry)) (now (gains .exit)) ⌝ }
+    ensures { λ _. ⌜ Laid (given take (now (counts .entry)) e w) (place (λ _. 0) x a) k (now (gains .entry)) (now (gains .exit)) ⌝ }
 {
     if a == 0 {
-        return;
-    }
-    if b != 0 {
         return;
     }
     share_row(gains, counts, x, e, a - 1, k, w, take);
@@ -278,18 +273,12 @@ fn add_row(gains: &mut [i32], x: usize, k: usize, d: i32)
     }
 }
 
-// A move of `x` from the block `a` to `b` changes each gain of `x` by the same number: the net's share in the gain of the way back, which frees
-// a block that had no pin and draws in one that had one. `fa` and `fb` are the counts before.
-fn own_moved(gains: &mut [i32], x: usize, a: usize, b: usize, fa: u16, fb: u16, k: usize, w: u16)
+// A move of `x` changes each gain of `x` by the same number: the net's share in the gain of the way back, which frees a block that had no pin
+// and draws in one that had one. `fa` and `fb` are the counts before, of the block that it leaves and of the other.
+fn own_moved(gains: &mut [i32], x: usize, fa: u16, fb: u16, k: usize, w: u16)
     requires { ⌜ Room (now gains) x k w ⌝ }
-    ensures { λ _. ⌜ Raised (λ _. wayBack a b fa fb w) (16 * x) k (now (gains .entry)) (now (gains .exit)) ⌝ }
+    ensures { λ _. ⌜ Raised (λ _. wayBack fa fb w) (16 * x) k (now (gains .entry)) (now (gains .exit)) ⌝ }
 {
-    if a == 0 {
-        return;
-    }
-    if b == 0 {
-        return;
-    }
     let freed = when_is(fb, 0, w);
     let drawn = when_is(fa, 1, w);
     if freed == drawn {
@@ -342,10 +331,40 @@ pub fn set_pin(
     let w = netweights[e];
     let fa = count_at(counts, e, a, 3);
     let fb = count_at(counts, e, b, 2);
-    own_row(gains, counts, x, e, a, b, k, w, true);
+    own_row(gains, counts, x, e, a, k, w, true);
     depart(counts, visited, e, a);
     arrive(counts, visited, e, b);
     touch_others(gains, pins, blocks, n, k, first, p, x, a, b, fa, fb, w);
-    own_row(gains, counts, x, e, b, a, k, w, false);
-    own_moved(gains, x, a, b, fa, fb, k, w);
+    own_row(gains, counts, x, e, b, k, w, false);
+}
+
+// `set_pin` where the pin has a block before and after: its own gains change by one number, and no test asks for a missing block.
+pub fn move_pin(
+    counts: &mut [u16],
+    visited: &mut [u16],
+    gains: &mut [i32],
+    netweights: &[u16],
+    pins: &[u16],
+    blocks: &[u16],
+    n: usize,
+    m: usize,
+    k: usize,
+    first: usize,
+    p: usize,
+    e: usize,
+    x: usize,
+    a: usize,
+    b: usize,
+)
+    requires { ⌜ Sets (now netweights) (now counts) (now visited) (now pins) (now blocks) (now gains) n m k first p e x a b ⌝ }
+    requires { ⌜ (1 ≤ a) × (1 ≤ b) × (a ≡ b → ⊥) ⌝ }
+    ensures { λ _. ⌜ Set (now (netweights .entry)) (now (pins .entry)) (now (blocks .entry)) n m k first p e x a b (now (counts .entry)) (now (counts .exit)) (now (visited .entry)) (now (visited .exit)) (now (gains .entry)) (now (gains .exit)) ⌝ }
+{
+    let w = netweights[e];
+    let fa = counts[16 * e + (a - 1)];
+    let fb = counts[16 * e + (b - 1)];
+    depart(counts, visited, e, a);
+    arrive(counts, visited, e, b);
+    touch_others(gains, pins, blocks, n, k, first, p, x, a, b, fa, fb, w);
+    own_moved(gains, x, fa, fb, k, w);
 }

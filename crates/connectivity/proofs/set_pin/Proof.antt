@@ -1,9 +1,9 @@
--- `set_pin` by the steps of Steps: the row of x where it goes, the counts, the other pins, the row of x where it comes or moves.
+-- `set_pin` by the steps of Steps: the row of x, the counts, the other pins, the row of x again.
 use native.Mathlib.Omega.{arith}
 use mathlib.Core.Path.{refl}
 use borrow.Author.Needs.{needs}
 use Rattle.connectivity.specs.Set.{set-depart, depart-shows, set-arrive, arrive-shows}
-use Rattle.connectivity.specs.Steps.{set-same, set-own, set-others, set-own-2, set-moved, set-done}
+use Rattle.connectivity.specs.Steps.{set-same, set-own, set-others, set-own-2, set-done}
 use Rattle.connectivity.proofs.set_pin.Statement.{statement}
 use Rattle.connectivity.proofs.set_pin.Tie as tie
 
@@ -70,19 +70,6 @@ own-row-requires-2 c κs =
     let start = E .before .before .before .before .before .before in
     set-own-2 (start .pre) refl (E .if1 .left) (C₁ .count-at .ensures) (C₂ .count-at2 .ensures) (O .own-row .ensures) (D .depart .ensures) (A .arrive .ensures) (T .touch-others .ensures)
 
-own-moved-requires : tie.Need-own-moved-requires
-own-moved-requires c κs =
-    let P = c .before .before in
-    let T = P .before .before .before .before in
-    let A = T .before .before .before .before .before .before in
-    let D = A .before .before .before .before .before .before .before in
-    let O = D .before .before .before .before in
-    let C₂ = O .before .before .before in
-    let C₁ = C₂ .before .before in
-    let E = C₁ .before .before .before in
-    let start = E .before .before .before .before .before .before in
-    set-moved (start .pre) refl (E .if1 .left) (C₁ .count-at .ensures) (C₂ .count-at2 .ensures) (O .own-row .ensures) (D .depart .ensures) (A .arrive .ensures) (T .touch-others .ensures) (P .own-row2 .ensures)
-
 same-length : tie.Need-same-length
 same-length c = search needs
 
@@ -90,18 +77,11 @@ same-length-2 : tie.Need-same-length-2
 same-length-2 c = search needs
 
 same-length-3 : tie.Need-same-length-3
-same-length-3 c =
-    let P = c .before .before .before .before in
-    let T = P .before .before .before .before in
-    let A = T .before .before .before .before .before .before in
-    let D = A .before .before .before .before .before .before .before in
-    let O = D .before .before .before .before in
-    omega (arith, c .before .own-moved .ensures .len, P .own-row2 .ensures .len, T .touch-others .ensures .len, O .own-row .ensures .len)
+same-length-3 c = search needs
 
 returns-2 : tie.Need-returns-2
 returns-2 c =
-    let M = c .before in
-    let P = M .before .before .before in
+    let P = c .before in
     let T = P .before .before .before .before in
     let A = T .before .before .before .before .before .before in
     let D = A .before .before .before .before .before .before .before in
@@ -110,7 +90,7 @@ returns-2 c =
     let C₁ = C₂ .before .before in
     let E = C₁ .before .before .before in
     let start = E .before .before .before .before .before .before in
-    set-done (start .pre) refl (E .if1 .left) (C₁ .count-at .ensures) (C₂ .count-at2 .ensures) (O .own-row .ensures) (D .depart .ensures) (A .arrive .ensures) (T .touch-others .ensures) (P .own-row2 .ensures) (M .own-moved .ensures)
+    set-done (start .pre) refl (E .if1 .left) (C₁ .count-at .ensures) (C₂ .count-at2 .ensures) (O .own-row .ensures) (D .depart .ensures) (A .arrive .ensures) (T .touch-others .ensures) (P .own-row2 .ensures)
 
 pub set-pin-spec : {M : Type 1} → statement M
 set-pin-spec =
@@ -126,7 +106,6 @@ set-pin-spec =
     arrive-requires
     touch-others-requires
     own-row-requires-2
-    own-moved-requires
     same-length
     same-length-2
     same-length-3
