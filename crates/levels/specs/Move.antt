@@ -13,7 +13,7 @@ use lib.IntN.{ℤ}
 use Rattle.laws.specs.Choice.{one, one-full, one-none}
 use Rattle.laws.specs.Place.{place, place-at, place-off}
 use Rattle.incidence.specs.On.{on, Next}
-use Rattle.connectivity.specs.Listed.{has, vertexAt}
+use Rattle.connectivity.specs.Listed.{has, has-in, vertexAt}
 use Rattle.connectivity.specs.Matrix.{setPin, Stands, Kept}
 use Rattle.connectivity.specs.Row.{row, row-yes, row-no, row-set, setPin-here, setPin-there}
 use Rattle.connectivity.specs.Laid.{Net}
@@ -110,6 +110,13 @@ module _ {weights cs₀ vs₀ pins blocks firsts sizes bits : List ℕ} {g₀ : 
       a-in = omega (arith, c .stands .tally .block-le i u hi (o .u-in), seen u (o .u-in) ∙ place-at (row pins blocks f p) u s);
       b-in = omega (arith, eb, o .t-in);
     }
+
+    -- a pin has a block
+    pub moving-both : (s ≡ b → ⊥) → (1 ≤ s) × (1 ≤ b) × (s ≡ b → ⊥)
+    moving-both ne =
+        let j = has-in pins f p u has-u in
+        let z : vertexAt pins f (j .0) ≡ u = omega (arith, j .2) in
+        (omega (arith, moving-sets .net .in-blocks (j .0) (j .1), ap (λ (v : ℕ). getD blocks v 0) z, es), omega (arith, eb, o .t-in), ne)
 
     pub moving-more : {cs₁ vs₁ : List ℕ} {g₁ : List ℤ} {i′ : ℕ} → Set weights pins blocks n m k f p i u s b cs cs₁ vs vs₁ g g₁ → Next bits u (i + 1) m i′ →
         Moving weights pins blocks firsts sizes n m k u t i′ cs₀ cs₁ vs₀ vs₁ g₀ g₁

@@ -16,6 +16,7 @@ use Rattle.model.specs.Machine.{uncontract}
 use Rattle.guarantees.specs.Climbs.{Joins}
 use Rattle.incidence.specs.On.{on}
 use Rattle.connectivity.specs.Listed.{has, has-no, has-is}
+use Rattle.connectivity.specs.Set.{kept-none}
 use Rattle.pins.specs.Stack.{row as stackRow, present-on, present-gone, loadedPin}
 use Rattle.pins.specs.Board.{join, Board}
 use Rattle.levels.specs.World.{world-set}
@@ -95,6 +96,34 @@ move-does {T} {u = u} {t = t} o d = record {
     blocks-past = λ y l. getD-set-other (T .blocks) u y t 0 (λ q. omega (arith, o .u-in));
   };
 }
+
+-- to the block that it has
+pub move-stays : {T : Running} {n m k u t : ℕ} → getD (T .blocks) u 0 ≡ t → MoveDoes T T n m k u t
+move-stays {T} {n} {u = u} {t = t} q = record {
+  follows = λ h cs block loaded w. record {
+    says = record {
+      sound = w .says .sound;
+      board = w .says .board;
+      all-vertices = w .says .all-vertices;
+      all-nets = w .says .all-nets;
+      all-blocks = w .says .all-blocks;
+      weighs = w .says .weighs;
+      sits = λ y l. sits block y (w .says .sits y l) (ℕ-discrete y u);
+    };
+    world = w .world;
+    room = w .room;
+  };
+  untouched = λ loaded. record {
+    tables = kept-none (T .counts) (T .visited) (T .gains);
+    lists = record { pins-len = refl; sizes-len = refl; pins-past = λ i h. refl; sizes-past = λ e l. refl };
+    blocks-len = refl;
+    blocks-past = λ y l. refl;
+  };
+}
+  where
+    sits : (block : ℕ → ℕ) (y : ℕ) → getD (T .blocks) y 0 ≡ block (y + 1) → Dec (y ≡ u) → getD (T .blocks) y 0 ≡ place block (u + 1) t (y + 1)
+    sits block y s (yes z) = rw z (q ∙ sym (place-at block (u + 1) t))
+    sits block y s (no z) = s ∙ sym (place-off block (u + 1) t (y + 1) (λ v. z (omega arith)))
 
 -- ---- a contraction: the machine's J
 -- what `contract` needs: the tables follow some state in which u and v are on the board, in one block

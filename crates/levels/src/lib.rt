@@ -7,7 +7,7 @@ ghost use Rattle.levels.specs.Running.{running};
 ghost use Rattle.levels.specs.Contract.{ContractsAll, ContractedAll};
 ghost use Rattle.levels.specs.Uncontract.{UncontractsAll, UncontractedAll};
 ghost use Rattle.levels.specs.Operations.{MoveNeeds, MoveDoes, ContractNeeds, ContractDoes, UncontractNeeds, UncontractDoes};
-use connectivity::set_pin;
+use connectivity::move_pin;
 use incidence::copy_or;
 use incidence::next_net;
 use incidence::numbers::index;
@@ -40,11 +40,14 @@ pub fn move_vertex(
 {
     let s = index(blocks[u]);
     let b = index(t);
+    if s == b {
+        return;
+    }
     let mut e = next_net(bits, u, 0, m);
     while e < m {
         let first = index(firsts[e]);
         let p = index(presentsizes[e]);
-        set_pin(
+        move_pin(
             counts,
             visited,
             gains,
