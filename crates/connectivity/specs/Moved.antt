@@ -1,6 +1,6 @@
 -- The row of a pin that moves: raised by one number. Rests on Touch.
 use Prim.Native.Nat.{ℕ, _+_, _*_, _^_, _<_, _≤_}
-use mathlib.Core.Path.{_≡_, _∙_}
+use mathlib.Core.Path.{_≡_, refl, sym, _∙_}
 use mathlib.Core.List.{List}
 use native.Mathlib.Omega.{arith}
 use lib.IntN.{ℤ, pos, natAbs, _-ℤ_}
@@ -11,6 +11,7 @@ use Rattle.laws.specs.Integer.{eq-by, sub-is, pos-is, natAbs-diff, read32}
 use Rattle.connectivity.specs.Share.{when, when-le}
 use Rattle.connectivity.specs.Raised.{Raised}
 use Rattle.connectivity.specs.Matrix.{KeptGains}
+use Rattle.connectivity.specs.Change.{when-no}
 use Rattle.connectivity.specs.Touch.{Room}
 
 -- what each gain of a pin changes by when it moves, where the block that it leaves counted `fa` and the other `fb`: the net's share in the gain of
@@ -21,6 +22,10 @@ wayBack fa fb w = pos (when fb 0 w) -ℤ pos (when fa 1 w)
 -- where as much is freed as drawn
 pub back-even : (fa fb w : ℕ) {f d : ℕ} → f ≡ when fb 0 w → d ≡ when fa 1 w → f ≡ d → wayBack fa fb w ≡ pos 0
 back-even fa fb w {f} ef ed e = rw (← ef, ← ed, ← e) (eq-by _ _ (omega (arith, sub-is (pos f) (pos f), pos-is f, pos-is 0)))
+
+-- where neither count is critical
+pub back-idle : (fa fb w : ℕ) → 2 < fa → 1 < fb → wayBack fa fb w ≡ pos 0
+back-idle fa fb w ha hb = back-even fa fb w refl refl (when-no fb 0 w (λ z. omega arith) ∙ sym (when-no fa 1 w (λ z. omega arith)))
 
 pub raised-level : {u v : ℤ} {row k : ℕ} {g g′ : List ℤ} → u ≡ v → Raised (λ _. u) row k g g′ → Raised (λ _. v) row k g g′
 raised-level {row = row} {k = k} {g = g} {g′ = g′} e r = rw (← e) r

@@ -7,7 +7,7 @@ use mathlib.Core.List.{List}
 use native.Mathlib.Omega.{arith}
 use native.Mathlib.Decide.{ℕ-discrete}
 use lib.ListN.{length, getD}
-use lib.IntN.{ℤ, pos, natAbs, _+ℤ_, _-ℤ_, +ℤ-idr}
+use lib.IntN.{ℤ, natAbs, _+ℤ_, _-ℤ_, +ℤ-idr}
 use borrow.Author.Tests.{eq-eqb, ne-eqb}
 use lib.Dec.{eqb}
 use Rattle.laws.specs.Choice.{one}
@@ -22,8 +22,8 @@ use Rattle.connectivity.specs.Law.{Step, count-of, given-is, small-of, s
 use Rattle.connectivity.specs.Set.{Sets, Set, come, kept-none, kept-tally-trans, kept-gains-trans, kept-step, kept-laid, past-none}
 use Rattle.connectivity.specs.Listed.{clear16}
 use Rattle.connectivity.specs.Change.{delta, delta-none, share-change, own-change, rowCount-one}
-use Rattle.connectivity.specs.Touch.{Room, Sole, Others, Delta}
-use Rattle.connectivity.specs.Moved.{wayBack, kept-row}
+use Rattle.connectivity.specs.Touch.{Room, Sole, Others, Delta, raised-still, others-idle}
+use Rattle.connectivity.specs.Moved.{wayBack, back-idle, kept-row}
 use Rattle.connectivity.specs.Laid.{Laid, given, given-none, signed, signed-le, laid-none, laid-more, laid-next, raised-given}
 
 -- the count of a block, and `none` where there is no block
@@ -310,3 +310,8 @@ module _ {weights cs vs pins blocks : List ℕ} {g : List ℤ} {n m k first p e 
           of-gains = kept-gains-trans (kept-laid (λ i. delta-none a b fa fb w (i + 1)) (past-none x 0 (o .x-in) (o .net)) l) (kept-row (o .x-in) (o .frame .few) r);
         };
       }
+
+    -- neither count is critical
+    pub move-idle : {cs₁ vs₁ cs₂ vs₂ : List ℕ} → 1 ≤ a → 1 ≤ b → 2 < fa → 1 < fb → Step e a (getD cs (16 * e + (a - 1)) 0 - 1) cs cs₁ vs vs₁ → Step e b (getD cs₁ (16 * e + (b - 1)) 0 + 1) cs₁ cs₂ vs₁ vs₂ →
+        Set weights pins blocks n m k first p e x a b cs cs₂ vs vs₂ g g
+    move-idle la lb ha hb d u = move-done (others-idle move-others ha hb) la lb d u (raised-still g (λ j l. back-idle fa fb w ha hb))

@@ -209,8 +209,8 @@ fn column_if(
     shift_column(gains, pins, blocks, n, k, first, p, x, a, w, take);
 }
 
-// The four rules at the pins of the stretch but `x`. Where neither count is critical nothing is done. A count that goes from 1 to 0 or from 0 to
-// 1 changes one gain of each of them; one that goes from 2 to 1 or from 1 to 2 changes the gains of the one other pin of that block.
+// The four rules at the pins of the stretch but `x`. A count that goes from 1 to 0 or from 0 to 1 changes one gain of each of them; one that goes
+// from 2 to 1 or from 1 to 2 changes the gains of the one other pin of that block.
 fn touch_others(
     gains: &mut [i32],
     pins: &[u16],
@@ -229,11 +229,6 @@ fn touch_others(
     requires { ⌜ Others (now gains) (now pins) (now blocks) n k first p x a b fa fb w ⌝ }
     ensures { λ _. ⌜ Laid (Delta a b fa fb w) (place (row (now (pins .entry)) (now (blocks .entry)) first p) x 0) k (now (gains .entry)) (now (gains .exit)) ⌝ }
 {
-    if fa > 2 {
-        if fb > 1 {
-            return;
-        }
-    }
     last_if(gains, pins, blocks, n, k, first, p, x, a, fa, 2, w, false);
     last_if(gains, pins, blocks, n, k, first, p, x, b, fb, 1, w, true);
     column_if(gains, pins, blocks, n, k, first, p, x, a, fa, 1, w, true);
@@ -338,7 +333,8 @@ pub fn set_pin(
     own_row(gains, counts, x, e, b, k, w, false);
 }
 
-// `set_pin` where the pin has a block before and after: its own gains change by one number, and no test asks for a missing block.
+// `set_pin` where the pin has a block before and after: its own gains change by one number, and no test asks for a missing block. Where neither
+// count is critical no gain changes.
 pub fn move_pin(
     counts: &mut [u16],
     visited: &mut [u16],
@@ -365,6 +361,11 @@ pub fn move_pin(
     let fb = counts[16 * e + (b - 1)];
     depart(counts, visited, e, a);
     arrive(counts, visited, e, b);
+    if fa > 2 {
+        if fb > 1 {
+            return;
+        }
+    }
     touch_others(gains, pins, blocks, n, k, first, p, x, a, b, fa, fb, w);
     own_moved(gains, x, fa, fb, k, w);
 }
