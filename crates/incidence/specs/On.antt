@@ -11,7 +11,7 @@ use lib.Seq.{getD-set-same, getD-set-other}
 use lib.Bits.{bitOr}
 use Rattle.laws.specs.Bit.{bit, Made}
 use Rattle.laws.specs.Fold.{zeros-get}
-use Rattle.incidence.specs.Word.{Lowest, bit-or-max, bit-shr, bit-of-zero, bit-high}
+use Rattle.incidence.specs.Word.{Lowest, NextBit, bit-or-max, bit-shr, bit-of-zero, bit-high}
 
 -- 1 where vertex x is a pin of net e, below 1,024; else 0
 unfoldable pub on : List ℕ → ℕ → ℕ → ℕ
@@ -152,6 +152,18 @@ next-none l x from to m h g k = record {
   high = omega arith;
   found = λ q. absurd (omega arith);
   passed = λ e a b. k e a (omega arith);
+}
+
+-- a word in hand: its next bit is the next net below the next word's
+pub next-in-word : (l : List ℕ) (x w word from r : ℕ) {i : ℕ} → i ≡ 64 * w + from → word ≡ getD l (16 * x + w) 0 → NextBit word from r → Next l x i (64 * w + 64) (64 * w + r)
+next-in-word l x w word from r start q b = record {
+  low = omega (arith, b .low);
+  high = omega (arith, b .high);
+  found = λ h. same-word l x (64 * w + r) w r (omega arith) (omega arith) ∙ ap (λ (z : ℕ). bit z r) (sym q) ∙ b .found (omega arith);
+  passed = λ e h g.
+      same-word l x e w (e - 64 * w) (omega (arith, b .high)) (omega (arith, b .high))
+      ∙ ap (λ (z : ℕ). bit z (e - 64 * w)) (sym q)
+      ∙ b .passed (e - 64 * w) (omega arith) (omega arith);
 }
 
 -- ---- two rows joined

@@ -61,7 +61,7 @@ pub fn next_bit(word: u64, from: usize) -> usize
 }
 
 // The lesser of two numbers.
-fn least(a: usize, b: usize) -> usize
+pub fn least(a: usize, b: usize) -> usize
     ensures { λ r. ⌜ Cut a b r ⌝ }
 {
     if a < b { a } else { b }

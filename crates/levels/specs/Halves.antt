@@ -18,7 +18,7 @@ use Rattle.connectivity.specs.Raised.{at}
 use Rattle.connectivity.specs.Share.{when, when-le}
 use Rattle.levels.specs.Running.{Running, running, Follows, netAt}
 use Rattle.levels.specs.Reading.{reads, has-pin, sum-nets}
-use Rattle.levels.specs.Operations.{MoveNeeds, move-needs}
+use Rattle.levels.specs.Operations.{marked-on}
 
 -- the tables follow a state in which u is on the board in a block; and t is a block
 pub record HalvesOf (h : Hypergraph) (cs : List Contraction) (block : ℕ → ℕ) (T : Running) (n m k u t : ℕ) : Type 0 where
@@ -87,9 +87,6 @@ module _ (counts weights bits : List ℕ) (u b want : ℕ) where
 
 -- ---- the sums are the machine's
 module _ {h : Hypergraph} {cs : List Contraction} {block : ℕ → ℕ} {T : Running} {n m k u t : ℕ} (o : HalvesOf h cs block T n m k u t) where
-  moves : MoveNeeds T n m k u t
-  moves = record { h = h; cs = cs; block = block; loaded = o .loaded; follows = o .follows; on-board = o .on-board; u-in = o .u-in; t-in = o .t-in }
-
   -- the weight of a net that has u, if its count in the block p is `want`
   abbrev weighed : ℕ → ℕ → Net → ℕ
   weighed p want e = cond (pin cs e (u + 1) && eqb (pinCount h cs block e p) want) (e .weight) 0
@@ -104,7 +101,7 @@ module _ {h : Hypergraph} {cs : List Contraction} {block : ℕ → ℕ} {T : Run
 
       each : (e : ℕ) → e < m → cond (eqb (on (T .bits) u e) 1) (cond (eqb (getD (T .counts) (16 * e + b) 0) want) (getD (T .weights) e 0) 0) 0 ≡ weighed p want (netAt h e)
       each e le =
-          let marked : on (T .bits) u e ≡ one (pin cs (netAt h e) (u + 1)) = move-needs moves .marked e le ∙ ap one (has-pin (o .follows .says) e le u) in
+          let marked : on (T .bits) u e ≡ one (pin cs (netAt h e) (u + 1)) = marked-on (o .follows) u (o .u-in) (o .on-board) e le ∙ ap one (has-pin (o .follows .says) e le u) in
           let counted : getD (T .counts) (16 * e + b) 0 ≡ pinCount h cs block (netAt h e) p = reads (o .follows) .counted e b le l ∙ ap (pinCount h cs block (netAt h e)) q in
           rw (marked, counted, o .follows .says .weighs e le) (chosen (pin cs (netAt h e) (u + 1)) (eqb (pinCount h cs block (netAt h e) p) want) (netAt h e .weight))
 

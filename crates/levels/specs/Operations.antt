@@ -1,5 +1,5 @@
 -- The contracts of the operations: each follows the machine's step, and leaves alone what is not in use. Rests on Running and on the loops' files.
-use Prim.Native.Nat.{ℕ, _+_, _-_, _<_, _≤_}
+use Prim.Native.Nat.{ℕ, _+_, _<_, _≤_}
 use native.Mathlib.Omega.{arith}
 use native.Mathlib.Decide.{ℕ-discrete}
 use mathlib.Core.Path.{_≡_, refl, sym, ap, _∙_}
@@ -21,7 +21,7 @@ use Rattle.pins.specs.Stack.{row as stackRow, present-on, present-gone, loadedP
 use Rattle.pins.specs.Board.{join, Board}
 use Rattle.levels.specs.World.{world-set}
 use Rattle.levels.specs.Running.{Running, running, Follows, Untouched, netAt}
-use Rattle.levels.specs.Move.{Moves, Moved}
+use Rattle.levels.specs.Move.{Moves, Moved, half-none}
 use Rattle.levels.specs.Contract.{ContractsAll, ContractedAll}
 use Rattle.levels.specs.Uncontract.{UncontractsAll, UncontractedAll}
 
@@ -35,7 +35,7 @@ sits-set blocks block v t fit s y l = go (ℕ-discrete y v)
     go (no q) = getD-set-other blocks v y t 0 q ∙ s y l ∙ sym (place-off block (v + 1) t (y + 1) (λ z. q (omega arith)))
 
 -- what is on a net's list is what is in its row of the bitset, on the board
-marked-on : {h : Hypergraph} {cs : List Contraction} {block : ℕ → ℕ} {loaded : List ℕ} {T : Running} {n m k : ℕ} → Follows h cs block loaded T n m k → (u : ℕ) → u < n → above cs (u + 1) ≡ 0 →
+pub marked-on : {h : Hypergraph} {cs : List Contraction} {block : ℕ → ℕ} {loaded : List ℕ} {T : Running} {n m k : ℕ} → Follows h cs block loaded T n m k → (u : ℕ) → u < n → above cs (u + 1) ≡ 0 →
     (e : ℕ) → e < m → on (T .bits) u e ≡ one (has (T .pins) (getD (T .firsts) e 0) (getD (T .sizes) e 0) u)
 marked-on {h} {cs} {T = T} w u l q e le =
     w .says .board .marked u e l le
@@ -63,19 +63,25 @@ pub record MoveDoes (T T′ : Running) (n m k u t : ℕ) : Type 0 where
   pub follows : (h : Hypergraph) (cs : List Contraction) (block : ℕ → ℕ) (loaded : List ℕ) → Follows h cs block loaded T n m k → Follows h cs (place block (u + 1) t) loaded T′ n m k
   pub untouched : (loaded : List ℕ) → Untouched loaded n m k T T′
 
-pub move-needs : {T : Running} {n m k u t : ℕ} → MoveNeeds T n m k u t → Moves (T .weights) (T .counts) (T .visited) (T .pins) (T .blocks) (T .firsts) (T .sizes) (T .bits) (T .gains) n m k u t
-move-needs {T} {u = u} o = record {
-  world = o .follows .world;
+-- no net has seen the move; s and b are the blocks as the loop has them
+pub move-needs : {T : Running} {n m k u t s b : ℕ} → MoveNeeds T n m k u t → s ≡ getD (T .blocks) u 0 → b ≡ t → (s ≡ b → ⊥) →
+    Moves (T .weights) (T .counts) (T .visited) (T .pins) (T .blocks) (T .firsts) (T .sizes) (T .bits) (T .gains) n m k u s b 0
+move-needs {T} {u = u} {b = b} o es eb ne = record {
+  stands = half-none (T .pins) (T .blocks) (T .firsts) (T .sizes) u b (o .follows .world .stands);
+  frame = o .follows .world .frame;
+  lists = o .follows .world .lists;
   marked = marked-on (o .follows) u (o .u-in) (o .on-board);
   bits-fit = omega (arith, o .follows .room .bits-fit, o .u-in);
   u-in = o .u-in;
-  t-in = o .t-in;
+  t-in = rw eb (o .t-in);
+  s-is = es;
+  other = ne;
 }
 
-pub move-does : {T : Running} {n m k u t : ℕ} {cs vs : List ℕ} {g : List ℤ} → MoveNeeds T n m k u t →
-    Moved (T .weights) (T .pins) (T .firsts) (T .sizes) n m k (set (T .blocks) u t) (T .counts) cs (T .visited) vs (T .gains) g →
+pub move-does : {T : Running} {n m k u t b : ℕ} {cs vs : List ℕ} {g : List ℤ} → MoveNeeds T n m k u t → b ≡ t →
+    Moved (T .weights) (T .pins) (T .firsts) (T .sizes) n m k (set (T .blocks) u b) (T .counts) cs (T .visited) vs (T .gains) g →
     MoveDoes T (running cs vs g (T .pins) (T .sizes) (T .bits) (set (T .blocks) u t) (T .weights) (T .firsts)) n m k u t
-move-does {T} {u = u} {t = t} o d = record {
+move-does {T} {u = u} {t = t} o eb d = record {
   follows = λ h cs block loaded w. record {
     says = record {
       sound = w .says .sound;
@@ -86,7 +92,7 @@ move-does {T} {u = u} {t = t} o d = record {
       weighs = w .says .weighs;
       sits = sits-set (T .blocks) block u t (omega (arith, o .u-in, o .follows .world .lists .blocks-fit)) (w .says .sits);
     };
-    world = d .world;
+    world = rw (← eb) (d .world);
     room = w .room;
   };
   untouched = λ loaded. record {

@@ -2,18 +2,74 @@
 pub mod halves;
 mod nets;
 
-ghost use Prim.Native.Nat.{_+_, _<_};
+ghost use Prim.Native.Nat.{_+_, _*_, _<_};
 ghost use Rattle.levels.specs.Running.{running};
+ghost use Rattle.levels.specs.Move.{Moves, Moving};
 ghost use Rattle.levels.specs.Contract.{ContractsAll, ContractedAll};
 ghost use Rattle.levels.specs.Uncontract.{UncontractsAll, UncontractedAll};
 ghost use Rattle.levels.specs.Operations.{MoveNeeds, MoveDoes, ContractNeeds, ContractDoes, UncontractNeeds, UncontractDoes};
 use connectivity::move_pin;
 use incidence::copy_or;
+use incidence::least;
+use incidence::next_bit;
 use incidence::next_net;
 use incidence::numbers::index;
 use incidence::numbers::narrow;
 use nets::contract_net;
 use nets::split_net;
+
+// Moves the vertex `u` from the block `s` to `b` in those of its nets that the word `c` of its row has. The word stays in hand, and is not read
+// from memory for each net.
+fn move_word(
+    counts: &mut [u16],
+    visited: &mut [u16],
+    gains: &mut [i32],
+    blocks: &[u16],
+    netweights: &[u16],
+    presentpins: &[u16],
+    firsts: &[u16],
+    presentsizes: &[u16],
+    bits: &[u64],
+    n: usize,
+    m: usize,
+    k: usize,
+    u: usize,
+    s: usize,
+    b: usize,
+    c: usize,
+)
+    requires { ⌜ Moves (now netweights) (now counts) (now visited) (now presentpins) (now blocks) (now firsts) (now presentsizes) (now bits) (now gains) n m k u s b (64 * c) ⌝ }
+    requires { ⌜ 64 * c < m ⌝ }
+    ensures { λ _. ⌜ Moving (now (netweights .entry)) (now (presentpins .entry)) (now (blocks .entry)) (now (firsts .entry)) (now (presentsizes .entry)) n m k u b (64 * (c + 1)) (now (counts .entry)) (now (counts .exit)) (now (visited .entry)) (now (visited .exit)) (now (gains .entry)) (now (gains .exit)) ⌝ }
+{
+    let base = 64 * c;
+    let word = bits[16 * u + c];
+    let to = least(m - base, 64);
+    let mut j = next_bit(word, 0);
+    while j < to {
+        let e = base + j;
+        let first = index(firsts[e]);
+        let p = index(presentsizes[e]);
+        move_pin(
+            counts,
+            visited,
+            gains,
+            netweights,
+            presentpins,
+            blocks,
+            n,
+            m,
+            k,
+            first,
+            p,
+            e,
+            u,
+            s,
+            b,
+        );
+        j = next_bit(word, j + 1);
+    }
+}
 
 // Moves the vertex `u`, which is on the board, to the block `t`.
 pub fn move_vertex(
@@ -43,28 +99,27 @@ pub fn move_vertex(
     if s == b {
         return;
     }
-    let mut e = next_net(bits, u, 0, m);
-    while e < m {
-        let first = index(firsts[e]);
-        let p = index(presentsizes[e]);
-        move_pin(
+    let mut c = 0;
+    while 64 * c < m {
+        move_word(
             counts,
             visited,
             gains,
+            blocks,
             netweights,
             presentpins,
-            blocks,
+            firsts,
+            presentsizes,
+            bits,
             n,
             m,
             k,
-            first,
-            p,
-            e,
             u,
             s,
             b,
+            c,
         );
-        e = next_net(bits, u, e + 1, m);
+        c += 1;
     }
     blocks[u] = t;
 }
