@@ -1,8 +1,8 @@
 -- The candidates of a search as three rows of bits: row 0 has the vertices that may be chosen, row 1 those that have moved and those that
 -- are fixed, which count here as moved, row 2 the nets whose pins have been marked. What marking does to them. Vertices and nets count from 0. Rests on incidence's rows of bits and
 -- connectivity's pin stretches. Assumes nothing.
-use Prim.Native.Nat.{ℕ, zero, suc, _+_, _*_, _-_, _<_, _≤_}
-use native.Mathlib.Decide.{ℕ-discrete}
+use Prim.Native.Nat.{ℕ, zero, suc, _+_, _*_, _-_, _/_, _%_, _<_, _≤_}
+use native.Mathlib.Decide.{ℕ-discrete, decLt}
 use native.Mathlib.Numerals.{add-one}
 use native.Mathlib.Omega.{arith}
 use mathlib.Core.Path.{_≡_, refl, sym, ap, ap₂, _∙_, subst}
@@ -11,7 +11,10 @@ use mathlib.Core.List.{List}
 use borrow.Author.Tests.{eq-eqb, ne-eqb, eqb-true}
 use lib.Dec.{eqb}
 use lib.ListN.{length, getD}
-use Rattle.incidence.specs.On.{on, Changed, Next}
+use lib.Bits.{bitAnd, bitXor}
+use Rattle.laws.specs.Bit.{bit, bit-lt, bit-and, bit-xor}
+use Rattle.incidence.specs.Word.{NextBit}
+use Rattle.incidence.specs.On.{on, on-is, Changed, Cut}
 use Rattle.connectivity.specs.Listed.{has}
 
 -- the vertex may be chosen
@@ -68,6 +71,16 @@ nets-same l = record { same = λ e k. refl }
 
 pub nets-then : {l l′ l″ : List ℕ} → SameNets l l′ → SameNets l′ l″ → SameNets l l″
 nets-then a b = record { same = λ e k. b .same e k ∙ a .same e k }
+
+-- row 2 has all that it had
+pub record MoreNets (l l′ : List ℕ) : Type 0 where
+  pub more : (e : ℕ) → e < 1024 → on l 2 e ≡ 1 → on l′ 2 e ≡ 1
+
+pub more-none : (l : List ℕ) → MoreNets l l
+more-none l = record { more = λ e k o. o }
+
+pub more-then : {l l′ l″ : List ℕ} → MoreNets l l′ → MoreNets l′ l″ → MoreNets l l″
+more-then a b = record { more = λ e k o. b .more e k (a .more e k o) }
 
 -- a bit of another row is changed
 pub nets-beside : {l l′ : List ℕ} {r x v : ℕ} → r < 2 → Changed l l′ r x v → SameNets l l′
@@ -151,33 +164,6 @@ module _ (bits pins firsts sizes : List ℕ) (u : ℕ) where
   unfolding near
   near-first x = refl
 
-  -- a net that u is no pin of
-  near-pass : (e x : ℕ) → on bits u e ≡ 0 → near bits pins firsts sizes u (e + 1) x ≡ near bits pins firsts sizes u e x
-  near-pass e x z =
-      near-step e x
-      ∙ ap (λ (b : Bool). near bits pins firsts sizes u e x || (b && has pins (getD firsts e 0) (getD sizes e 0) x)) (ne-eqb (on bits u e) 1 (λ q. omega arith))
-      ∙ or-false (near bits pins firsts sizes u e x)
-
-  near-skip : (a d x : ℕ) → ((e : ℕ) → a ≤ e → e < a + d → on bits u e ≡ 0) → near bits pins firsts sizes u (a + d) x ≡ near bits pins firsts sizes u a x
-  near-skip a zero x h = ap (λ (i : ℕ). near bits pins firsts sizes u i x) (let q : a + 0 ≡ a = omega arith in q)
-  near-skip a (suc d) x h =
-      ap (λ (i : ℕ). near bits pins firsts sizes u i x) (let q : a + suc d ≡ a + d + 1 = omega arith in q)
-      ∙ near-pass (a + d) x (h (a + d) (omega arith) (omega arith))
-      ∙ near-skip a d x (λ e l k. h e l (omega arith))
-
-  near-to : (a c x : ℕ) → a ≤ c → ((e : ℕ) → a ≤ e → e < c → on bits u e ≡ 0) → near bits pins firsts sizes u c x ≡ near bits pins firsts sizes u a x
-  near-to a c x l h =
-      let q : c ≡ a + (c - a) = omega arith in
-      ap (λ (i : ℕ). near bits pins firsts sizes u i x) q ∙ near-skip a (c - a) x (λ e p r. h e p (omega arith))
-
-  pub nets-none : (l : List ℕ) (m e : ℕ) → Next bits u 0 m e → Marked l l (near bits pins firsts sizes u e)
-  nets-none l m e n = marked-none l (near bits pins firsts sizes u e) (λ x k. near-to 0 e x (omega arith) (n .passed) ∙ near-first x)
-
-  pub nets-more : {l l′ l″ : List ℕ} (m e e′ : ℕ) → on bits u e ≡ 1 → Marked l l′ (near bits pins firsts sizes u e) → Marked l′ l″ (has pins (getD firsts e 0) (getD sizes e 0)) → Next bits u (e + 1) m e′
-      → Marked l l″ (near bits pins firsts sizes u e′)
-  nets-more m e e′ o a b n = marked-ext (near bits pins firsts sizes u e′) (marked-more a b) (λ x k.
-      sym (near-to (e + 1) e′ x (n .low) (n .passed) ∙ near-step e x ∙ ap (λ (t : Bool). near bits pins firsts sizes u e x || (t && has pins (getD firsts e 0) (getD sizes e 0) x)) (eq-eqb (on bits u e) 1 o)))
-
   pub nets-all : {l l′ : List ℕ} (m e : ℕ) → e ≤ m → m ≤ e → Marked l l′ (near bits pins firsts sizes u e) → Marked l l′ (near bits pins firsts sizes u m)
   nets-all {l} {l′} m e p q a = let r : e ≡ m = omega arith in subst (λ (i : ℕ). Marked l l′ (near bits pins firsts sizes u i)) r a
 
@@ -233,6 +219,13 @@ module _ (pins firsts sizes : List ℕ) {l l₁ l₂ : List ℕ} (e f s : ℕ) (
     marks = λ x k. beside-nets b 0 x (omega arith) k ∙ a .marks x k;
   }) (λ x k. ap₂ (λ (i j : ℕ). has pins i j x) qf qs)
 
+  pub net-more : SameNets l l₁ → MoreNets l l₂
+  net-more n = record { more = λ e′ k o. go e′ k o (ℕ-discrete e′ e) }
+    where
+      go : (e′ : ℕ) → e′ < 1024 → on l 2 e′ ≡ 1 → Dec (e′ ≡ e) → on l₂ 2 e′ ≡ 1
+      go e′ k o (yes d) = ap (on l₂ 2) d ∙ b .here
+      go e′ k o (no d) = b .elsewhere 2 e′ k (λ _ r. d r) ∙ n .same e′ k ∙ o
+
   pub net-covered : SameNets l l₁ → Covered l pins firsts sizes → Covered l₂ pins firsts sizes
   net-covered n c = record { covers = λ e′ k o x kx q. ap₂ (λ (s t : Bool). s || t) (net-marked .marks x kx) (net-marked .moved x kx) ∙ law (has pins (getD firsts e 0) (getD sizes e 0) x) (candidateBit l x) (movedBit l x) ∙ go e′ k o x kx q (ℕ-discrete e′ e) }
     where
@@ -250,6 +243,145 @@ module _ (pins firsts sizes : List ℕ) {l l₁ l₂ : List ℕ} (e f s : ℕ) (
           ∙ or-true (candidateBit l x || movedBit l x)
       go e′ k o x kx q (no d) =
           ap (λ (t : Bool). t || has pins (getD firsts e 0) (getD sizes e 0) x) (c .covers e′ k (sym (b .elsewhere 2 e′ k (λ _ r. d r) ∙ n .same e′ k) ∙ o) x kx q)
+
+-- ---- the nets of one word
+
+-- the bits of a word that another has not
+pub record Fresh (word seen r : ℕ) : Type 0 where
+  pub on-word : (j : ℕ) → bit r j ≡ 1 → bit word j ≡ 1
+  pub on-seen : (j : ℕ) → bit r j ≡ 0 → bit word j ≡ 1 → bit seen j ≡ 1
+
+pub fresh-law : (word seen : ℕ) → Fresh word seen (bitXor word (bitAnd word seen))
+fresh-law word seen = record {
+  on-word = λ j h. first (bit word j) (bit seen j) (bit-lt word j) (bit-lt seen j) (sym (told j) ∙ h);
+  on-seen = λ j h q. second (bit word j) (bit seen j) (bit-lt seen j) q (sym (told j) ∙ h);
+}
+  where
+    told : (j : ℕ) → bit (bitXor word (bitAnd word seen)) j ≡ bitXor (bit word j) (bitAnd (bit word j) (bit seen j))
+    told j = bit-xor word (bitAnd word seen) j ∙ ap (λ (z : ℕ). bitXor (bit word j) z) (bit-and word seen j)
+
+    first : (a b : ℕ) → a < 2 → b < 2 → bitXor a (bitAnd a b) ≡ 1 → a ≡ 1
+    first zero zero h k q = absurd (omega (arith, q))
+    first zero (suc zero) h k q = absurd (omega (arith, q))
+    first zero (suc (suc b)) h k q = absurd (omega arith)
+    first (suc zero) b h k q = refl
+    first (suc (suc a)) b h k q = absurd (omega arith)
+
+    second : (a b : ℕ) → b < 2 → a ≡ 1 → bitXor a (bitAnd a b) ≡ 0 → b ≡ 1
+    second a zero k e q = absurd (omega (arith, ap (λ (z : ℕ). bitXor z (bitAnd z 0)) e, q))
+    second a (suc zero) k e q = refl
+    second a (suc (suc b)) k e q = absurd (omega arith)
+
+-- the net j of the word w
+same-word : (l : List ℕ) (x e w j : ℕ) → e / 64 ≡ w → e % 64 ≡ j → on l x e ≡ bit (getD l (16 * x + w) 0) j
+same-word l x e w j p q = on-is l x e ∙ ap₂ (λ (a b : ℕ). bit (getD l (16 * x + a) 0) b) p q
+
+-- where the next word begins lies past where this one does
+pub word-past : {from m r : ℕ} → from < m → Cut (from + 64) m r → from < r
+word-past {from} {m} {r} h c = by (decLt r m)
+  where
+    by : Dec (r < m) → from < r
+    by (yes k) = omega (arith, c .same k)
+    by (no k) = omega arith
+
+-- what `mark_word` does: whatever had been marked up to `from`, up to r it is now
+pub record WordMarked (bits pins firsts sizes : List ℕ) (m u from r : ℕ) (l₀ l : List ℕ) : Type 0 where
+  pub cut : Cut (from + 64) m r
+  pub marked : (l₁ : List ℕ) → Marked l₁ l₀ (near bits pins firsts sizes u from) → Marked l₁ l (near bits pins firsts sizes u r)
+  pub len : length l ≡ length l₀
+  pub covered : Covered l pins firsts sizes
+
+-- its loop: the nets below bit j of the word are marked, and none past `to`
+pub record Words (bits pins firsts sizes : List ℕ) (u from to : ℕ) (l₀ : List ℕ) (j : ℕ) (l : List ℕ) : Type 0 where
+  pub marked : (l₁ : List ℕ) (i : ℕ) → Cut (from + j) to i → Marked l₁ l₀ (near bits pins firsts sizes u from) → Marked l₁ l (near bits pins firsts sizes u i)
+  pub len : length l ≡ length l₀
+  pub covered : Covered l pins firsts sizes
+  pub more : MoreNets l₀ l
+
+module _ (bits pins firsts sizes : List ℕ) (u : ℕ) where
+  -- nets that u is no pin of, or whose pins are marked already
+  nets-pass : {l l′ : List ℕ} (a d : ℕ) → a + d ≤ 1024 → Covered l′ pins firsts sizes → ((e : ℕ) → a ≤ e → e < a + d → on bits u e ≡ 1 → on l′ 2 e ≡ 1) →
+      Marked l l′ (near bits pins firsts sizes u a) → Marked l l′ (near bits pins firsts sizes u (a + d))
+  nets-pass {l} {l′} a zero few c h k = let q : a ≡ a + 0 = omega arith in subst (λ (i : ℕ). Marked l l′ (near bits pins firsts sizes u i)) q k
+  nets-pass {l} {l′} a (suc d) few c h k = let q : a + d + 1 ≡ a + suc d = omega arith in
+      subst (λ (i : ℕ). Marked l l′ (near bits pins firsts sizes u i)) q (by (nets-pass a d (omega arith) c (λ e p r. h e p (omega arith)) k) (ℕ-discrete (on bits u (a + d)) 1))
+    where
+      by : Marked l l′ (near bits pins firsts sizes u (a + d)) → Dec (on bits u (a + d) ≡ 1) → Marked l l′ (near bits pins firsts sizes u (a + d + 1))
+      by z (yes o) = marked-ext (near bits pins firsts sizes u (a + d + 1)) (marked-more z (net-again (a + d) (omega arith) c (eq-eqb (on l′ 2 (a + d)) 1 (h (a + d) (omega arith) (omega arith) o))))
+          (λ x kx. sym (near-step bits pins firsts sizes u (a + d) x ∙ ap (λ (t : Bool). near bits pins firsts sizes u (a + d) x || (t && has pins (getD firsts (a + d) 0) (getD sizes (a + d) 0) x)) (eq-eqb (on bits u (a + d)) 1 o)))
+      by z (no o) = marked-ext (near bits pins firsts sizes u (a + d + 1)) z
+          (λ x kx. sym (near-step bits pins firsts sizes u (a + d) x ∙ ap (λ (t : Bool). near bits pins firsts sizes u (a + d) x || (t && has pins (getD firsts (a + d) 0) (getD sizes (a + d) 0) x)) (ne-eqb (on bits u (a + d)) 1 o) ∙ or-false _))
+
+  module _ (m from to word seen nets : ℕ) (l₀ : List ℕ) (few : m ≤ 1024) (lt : from < m) (even : from % 64 ≡ 0) (cut : Cut (from + 64) m to)
+      (ew : word ≡ getD bits (16 * u + from / 64) 0) (es : seen ≡ getD l₀ (32 + from / 64) 0) (f : Fresh word seen nets) where
+    small : to ≤ 1024
+    small = omega (arith, few, cut .right)
+
+    ends : to ≤ from + 64
+    ends = cut .left
+
+    begins : from ≤ to
+    begins = omega (arith, word-past lt cut)
+
+    seen-on : (j : ℕ) → j < 64 → from + j < 1024 → bit nets j ≡ 0 → on bits u (from + j) ≡ 1 → on l₀ 2 (from + j) ≡ 1
+    seen-on j h k z o =
+        same-word l₀ 2 (from + j) (from / 64) j (omega arith) (omega arith) ∙ ap (λ (v : ℕ). bit v j) (sym es)
+        ∙ f .on-seen j z (ap (λ (v : ℕ). bit v j) ew ∙ sym (same-word bits u (from + j) (from / 64) j (omega arith) (omega arith)) ∙ o)
+
+    -- from the bit a on the next is r: the nets between are passed
+    between : {l l₁ : List ℕ} (a r i : ℕ) → NextBit nets a r → Covered l pins firsts sizes → MoreNets l₀ l → a ≤ 64 → from + a ≤ to → Cut (from + r) to i →
+        Marked l₁ l (near bits pins firsts sizes u (from + a)) → Marked l₁ l (near bits pins firsts sizes u i)
+    between {l} {l₁} a r i b c n ha hi low k =
+        let le : from + a ≤ i = at-least (decLt i to) in
+        let q : from + a + (i - (from + a)) ≡ i = omega arith in
+        subst (λ (e : ℕ). Marked l₁ l (near bits pins firsts sizes u e)) q (nets-pass (from + a) (i - (from + a)) (omega (arith, low .right, small)) c (λ e p g o. passed e p (omega arith) o) k)
+      where
+        at-least : Dec (i < to) → from + a ≤ i
+        at-least (yes h) = omega (arith, low .same h, b .low)
+        at-least (no h) = omega arith
+
+        passed : (e : ℕ) → from + a ≤ e → e < i → on bits u e ≡ 1 → on l 2 e ≡ 1
+        passed e p g o =
+            let q : from + (e - from) ≡ e = omega arith in
+            n .more e (omega (arith, low .right, small)) (subst (λ (z : ℕ). on l₀ 2 z ≡ 1) q (seen-on (e - from) (omega (arith, low .left, b .high)) (omega (arith, low .right, small)) (b .passed (e - from) (omega arith) (omega (arith, low .left))) (ap (on bits u) q ∙ o)))
+
+    pub words-none : (r : ℕ) → NextBit nets 0 r → Covered l₀ pins firsts sizes → Words bits pins firsts sizes u from to l₀ r l₀
+    words-none r b c = record {
+      marked = λ l₁ i low k.
+          let q : from ≡ from + 0 = omega arith in
+          between 0 r i b c (more-none l₀) (omega arith) (omega (arith, begins)) low (subst (λ (e : ℕ). Marked l₁ l₀ (near bits pins firsts sizes u e)) q k);
+      len = refl;
+      covered = c;
+      more = more-none l₀;
+    }
+
+    pub words-on : (j : ℕ) → j < 64 → bit nets j ≡ 1 → on bits u (from + j) ≡ 1
+    words-on j h o = same-word bits u (from + j) (from / 64) j (omega arith) (omega arith) ∙ ap (λ (v : ℕ). bit v j) (sym ew) ∙ f .on-word j o
+
+    pub words-more : {l l′ : List ℕ} (j r : ℕ) → from + j < to → j < 64 → bit nets j ≡ 1 → Words bits pins firsts sizes u from to l₀ j l →
+        Marked l l′ (has pins (getD firsts (from + j) 0) (getD sizes (from + j) 0)) → Covered l′ pins firsts sizes → MoreNets l l′ → NextBit nets (j + 1) r → Words bits pins firsts sizes u from to l₀ r l′
+    words-more {l} {l′} j r h hj o w k c n b = record {
+      marked = λ l₁ i low z.
+          let q : from + j + 1 ≡ from + (j + 1) = omega arith in
+          between (j + 1) r i b c (more-then (w .more) n) (omega arith) (omega arith) low
+          (subst (λ (e : ℕ). Marked l₁ l′ (near bits pins firsts sizes u e)) q
+          (marked-ext (near bits pins firsts sizes u (from + j + 1)) (marked-more (w .marked l₁ (from + j) (record { left = omega arith; right = omega arith; same = λ _. refl }) z) k)
+          (λ x kx. sym (near-step bits pins firsts sizes u (from + j) x ∙ ap (λ (t : Bool). near bits pins firsts sizes u (from + j) x || (t && has pins (getD firsts (from + j) 0) (getD sizes (from + j) 0) x)) (eq-eqb (on bits u (from + j)) 1 (words-on j hj o))))));
+      len = k .len ∙ w .len;
+      covered = c;
+      more = more-then (w .more) n;
+    }
+
+    pub words-done : {l : List ℕ} (j : ℕ) → to ≤ from + j → Words bits pins firsts sizes u from to l₀ j l → WordMarked bits pins firsts sizes m u from to l₀ l
+    words-done j h w = record {
+      cut = cut;
+      marked = λ l₁ z. w .marked l₁ to (record { left = h; right = omega arith; same = λ q. absurd (omega arith) }) z;
+      len = w .len;
+      covered = w .covered;
+    }
+
+  pub nets-first : (l : List ℕ) → Marked l l (near bits pins firsts sizes u 0)
+  nets-first l = marked-none l (near bits pins firsts sizes u 0) (λ x k. near-first bits pins firsts sizes u x)
 
 -- ---- a vertex has moved
 

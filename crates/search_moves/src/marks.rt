@@ -2,16 +2,17 @@
 // those that are fixed, row 2 the nets whose pins have been marked in it. Such pins stay candidates until they move, so that a net is marked
 // only once: with large nets most of a walk's time would go into marking. Vertices and nets count from 0.
 use incidence::is_pin;
-use incidence::next_net;
+use incidence::least;
+use incidence::next_bit;
 use incidence::numbers::index;
 use incidence::put;
 use incidence::take;
 ghost use mathlib.Core.Path.{_≡_};
-ghost use Prim.Native.Nat.{_+_, _-_, _<_};
+ghost use Prim.Native.Nat.{_+_, _-_, _%_, _<_};
 ghost use lib.Dec.{eqb};
 ghost use lib.ListN.{length, getD};
 ghost use Rattle.connectivity.specs.Listed.{has};
-ghost use Rattle.search_moves.specs.Marks.{Marked, SameNets, PinsOk, Covered, near, NetsOk, Spread};
+ghost use Rattle.search_moves.specs.Marks.{Marked, SameNets, MoreNets, PinsOk, Covered, near, NetsOk, Fresh, WordMarked, Spread};
 
 // Makes `x` a candidate, unless it has moved or is fixed.
 pub fn mark_vertex(marks: &mut [u64; 48], x: usize)
@@ -36,7 +37,7 @@ fn mark_pins(marks: &mut [u64; 48], presentpins: &[u16], first: usize, size: usi
     }
 }
 
-// Makes the pins of net `e` candidates, unless that has been done before in this search.
+// Makes the pins of net `e` candidates.
 fn mark_net(
     marks: &mut [u64; 48],
     presentpins: &[u16],
@@ -46,13 +47,44 @@ fn mark_net(
 )
     requires { ⌜ (length (now marks) ≡ 48) × (e < 1024) × (e < length (now firsts)) × (e < length (now presentsizes))
         × PinsOk (now presentpins) (getD (now firsts) e 0) (getD (now presentsizes) e 0) × Covered (now marks) (now presentpins) (now firsts) (now presentsizes) ⌝ }
-    ensures { λ _. ⌜ Marked (now (marks .entry)) (now (marks .exit)) (has (now (presentpins .entry)) (getD (now (firsts .entry)) e 0) (getD (now (presentsizes .entry)) e 0)) × Covered (now (marks .exit)) (now (presentpins .entry)) (now (firsts .entry)) (now (presentsizes .entry)) ⌝ }
+    ensures { λ _. ⌜ Marked (now (marks .entry)) (now (marks .exit)) (has (now (presentpins .entry)) (getD (now (firsts .entry)) e 0) (getD (now (presentsizes .entry)) e 0)) × Covered (now (marks .exit)) (now (presentpins .entry)) (now (firsts .entry)) (now (presentsizes .entry)) × MoreNets (now (marks .entry)) (now (marks .exit)) ⌝ }
 {
-    if is_pin(marks, 2, e) {
-        return;
-    }
     mark_pins(marks, presentpins, index(firsts[e]), index(presentsizes[e]));
     put(marks, 2, e);
+}
+
+// The bits of `word` that are not in `seen`.
+fn fresh(word: u64, seen: u64) -> u64
+    ensures { λ r. ⌜ Fresh word seen r ⌝ }
+{
+    word ^ (word & seen)
+}
+
+// Makes the pins of the nets of `u` candidates that one word of its row has, from net `from` on, unless that has been done before in this
+// search: the word of row 2 tells that of all 64 nets at once. The answer is where the next word begins, or `m`.
+fn mark_word(
+    marks: &mut [u64; 48],
+    bits: &[u64],
+    presentpins: &[u16],
+    firsts: &[u16],
+    presentsizes: &[u16],
+    m: usize,
+    u: usize,
+    from: usize,
+) -> usize
+    requires { ⌜ (length (now marks) ≡ 48) × NetsOk (now bits) (now presentpins) (now firsts) (now presentsizes) m u
+        × Covered (now marks) (now presentpins) (now firsts) (now presentsizes) × (from < m) × (from % 64 ≡ 0) ⌝ }
+    ensures { λ r. ⌜ WordMarked (now (bits .entry)) (now (presentpins .entry)) (now (firsts .entry)) (now (presentsizes .entry)) m u from r (now (marks .entry)) (now (marks .exit)) ⌝ }
+{
+    let c = from / 64;
+    let to = least(from + 64, m);
+    let nets = fresh(bits[16 * u + c], marks[32 + c]);
+    let mut j = next_bit(nets, 0);
+    while from + j < to {
+        mark_net(marks, presentpins, firsts, presentsizes, from + j);
+        j = next_bit(nets, j + 1);
+    }
+    to
 }
 
 // Makes the pins of the nets of `u` candidates.
@@ -69,10 +101,9 @@ fn mark_nets(
         × Covered (now marks) (now presentpins) (now firsts) (now presentsizes) ⌝ }
     ensures { λ _. ⌜ Marked (now (marks .entry)) (now (marks .exit)) (near (now (bits .entry)) (now (presentpins .entry)) (now (firsts .entry)) (now (presentsizes .entry)) u m) × Covered (now (marks .exit)) (now (presentpins .entry)) (now (firsts .entry)) (now (presentsizes .entry)) ⌝ }
 {
-    let mut e = next_net(bits, u, 0, m);
+    let mut e = 0;
     while e < m {
-        mark_net(marks, presentpins, firsts, presentsizes, e);
-        e = next_net(bits, u, e + 1, m);
+        e = mark_word(marks, bits, presentpins, firsts, presentsizes, m, u, e);
     }
 }
 

@@ -1,17 +1,8 @@
-use mathlib.Core.Path.{sym, _∙_}
 use denote.Ref.{now}
 use borrow.Author.Needs.{needs}
-use Rattle.search_moves.specs.Marks.{net-again, net-marked, net-covered}
+use Rattle.search_moves.specs.Marks.{net-marked, net-covered, net-more}
 use Rattle.search_moves.proofs.marks.mark_net.Statement.{statement}
 use Rattle.search_moves.proofs.marks.mark_net.Tie as tie
-
-is-pin-requires : tie.Need-is-pin-requires
-is-pin-requires c κs = search needs
-
-returns : tie.Need-returns
-returns c =
-    let start = c .before .before .before .before .before .before .before in
-    (net-again (start .args .e) (start .pre .1) (start .pre .5) (sym (c .before .is-pin .ensures) ∙ c .if1 .taken), start .pre .5)
 
 mul-index : tie.Need-mul-index
 mul-index c = search needs
@@ -33,25 +24,27 @@ index-requires-2 c κs = search needs
 
 mark-pins-requires : tie.Need-mark-pins-requires
 mark-pins-requires c κs =
-    let start = c .before .before .before .before .before .before .before .before .before .before .before .before in
+    let start = c .before .before .before .before .before .before .before .before in
     (start .pre .0, rw (c .before .before .index .ensures, c .index2 .ensures) (start .pre .4))
 
 put-requires : tie.Need-put-requires
 put-requires c κs = search needs
 
-returns-2 : tie.Need-returns-2
-returns-2 c =
+returns : tie.Need-returns
+returns c =
+    let marked = c .before .before .mark-pins .ensures in
     let at-index2 = c .before .before .before in
     let at-index = at-index2 .before .before in
-    let start = at-index .before .before .before .before .before .before .before .before .before .before in
-    (net-marked (now (start .args .presentpins)) (now (start .args .firsts)) (now (start .args .presentsizes)) (start .args .e) (at-index .index .result) (at-index2 .index2 .result) (at-index .index .ensures) (at-index2 .index2 .ensures) (c .before .before .mark-pins .ensures .0) (c .put .ensures), net-covered (now (start .args .presentpins)) (now (start .args .firsts)) (now (start .args .presentsizes)) (start .args .e) (at-index .index .result) (at-index2 .index2 .result) (at-index .index .ensures) (at-index2 .index2 .ensures) (c .before .before .mark-pins .ensures .0) (c .put .ensures) (c .before .before .mark-pins .ensures .1) (start .pre .5))
+    let start = at-index .before .before .before .before .before .before in (
+      net-marked (now (start .args .presentpins)) (now (start .args .firsts)) (now (start .args .presentsizes)) (start .args .e) (at-index .index .result) (at-index2 .index2 .result) (at-index .index .ensures) (at-index2 .index2 .ensures) (marked .0) (c .put .ensures),
+      net-covered (now (start .args .presentpins)) (now (start .args .firsts)) (now (start .args .presentsizes)) (start .args .e) (at-index .index .result) (at-index2 .index2 .result) (at-index .index .ensures) (at-index2 .index2 .ensures) (marked .0) (c .put .ensures) (marked .1) (start .pre .5),
+      net-more (now (start .args .presentpins)) (now (start .args .firsts)) (now (start .args .presentsizes)) (start .args .e) (at-index .index .result) (at-index2 .index2 .result) (at-index .index .ensures) (at-index2 .index2 .ensures) (marked .0) (c .put .ensures) (marked .1),
+    )
 
 pub mark-net-spec : {M : Type 1} → statement M
 mark-net-spec =
     tie.close
     (tie.spec
-    is-pin-requires
-    returns
     mul-index
     shared-slice-read-index
     index-requires
@@ -60,4 +53,4 @@ mark-net-spec =
     index-requires-2
     mark-pins-requires
     put-requires
-    returns-2)
+    returns)
