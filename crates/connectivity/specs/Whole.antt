@@ -1,12 +1,16 @@
 -- The pins of a net that has none yet, all at once: they are counted, then the net's shares are added to the gains of each. Rests on Set.
-use Prim.Native.Nat.{ℕ, _+_, _*_, _-_, _<_, _≤_}
+use Prim.Native.Nat.{ℕ, zero, suc, _+_, _*_, _-_, _<_, _≤_}
 use mathlib.Core.Path.{_≡_, refl, sym, ap, _∙_}
 use mathlib.Core.Bool.{false}
-use mathlib.Core.List.{List}
+use mathlib.Core.List.{List, [], _∷_}
 use native.Mathlib.Omega.{arith}
 use native.Mathlib.Decide.{ℕ-discrete}
-use lib.ListN.{length, getD}
+use borrow.Author.Tests.{lt-ltb}
+use lib.ListN.{length, getD, set}
+use lib.Seq.{getD-set-same, set-getD}
 use lib.IntN.{ℤ, pos, natAbs, _+ℤ_, _-ℤ_, +ℤ-idr}
+use Rattle.laws.specs.Choice.{one}
+use Rattle.laws.specs.Bit.{bit, Masked}
 use Rattle.laws.specs.Place.{place, place-at, place-off}
 use Rattle.laws.specs.IntegerSum.{sumZ, sumZ-change}
 use Rattle.connectivity.specs.Share.{share}
@@ -14,7 +18,7 @@ use Rattle.connectivity.specs.Raised.{Raised, Ready, at}
 use Rattle.connectivity.specs.Matrix.{rowCount, shareOf, rowShare, setPin, setRow, Tally, Stands, KeptTally, Kept}
 use Rattle.connectivity.specs.Row.{row, row-none, rowCount-le, shareOf-none, setPin-here, setPin-there, setRow-here, setRow-there}
 use Rattle.connectivity.specs.Laid.{Laid, Net, given, given-none, signed, laid-none, laid-next, laid-more, raised-given, row-past, pin-range, pin-block, next-fresh, next-here, next-there}
-use Rattle.connectivity.specs.Law.{Step, MaskShows, count-of, mask-shows, tally-arrive, tally-ext, given-is, small-of}
+use Rattle.connectivity.specs.Law.{Step, MaskShows, count-of, mask-shows, tally-arrive, tally-ext, step-set, given-is, small-of}
 use Rattle.connectivity.specs.Set.{Frame, kept-tally-none, kept-tally-trans, kept-step, kept-laid}
 
 -- the net `e` has no pin
@@ -22,6 +26,11 @@ abbrev pub Bare : (ℕ → ℕ → ℕ) → ℕ → ℕ → Type 0
 Bare Q e n = (y : ℕ) → y < n → Q e y ≡ 0
 
 -- ---- the counts
+
+set-again : (l : List ℕ) (i a b : ℕ) → set (set l i a) i b ≡ set l i b
+set-again [] i a b = refl
+set-again (x ∷ l) zero a b = refl
+set-again (x ∷ l) (suc i) a b = ap (λ (r : List ℕ). x ∷ r) (set-again l i a b)
 
 -- what `count_pins` needs
 pub record CountsPins (counts visited pins blocks : List ℕ) (n m k first p e : ℕ) : Type 0 where
@@ -87,6 +96,25 @@ module _ {cs₀ vs₀ pins blocks : List ℕ} {n m k first p e : ℕ} (o : Count
             setPin-there (setRow Q e (row pins blocks first i)) e (q - 1) b d z
             ∙ setRow-there Q e (row pins blocks first i) d z
             ∙ sym (setRow-there Q e (row pins blocks first (i + 1)) d z))
+
+  -- the net's mask is in hand, and stored once all are counted
+  pub held-none : CountedPins pins blocks n m k first 0 e cs₀ cs₀ vs₀ (set vs₀ e (getD vs₀ e 0))
+  held-none = rw set-getD count-none
+
+  module _ {i q b : ℕ} {cs : List ℕ} (mask : ℕ) (hi : i < p) (c : CountedPins pins blocks n m k first i e cs₀ cs vs₀ (set vs₀ e mask)) (eq : q ≡ getD pins (first + i) 0) (eb : b ≡ getD blocks (q - 1) 0) where
+    held : getD (set vs₀ e mask) e 0 ≡ mask
+    held = getD-set-same vs₀ e mask 0 (omega (arith, o .masks-fit, o .e-in))
+
+    some : 1 ≤ b
+    some = pin-block (o .net) hi eq eb .0
+
+    pub held-shows : 1 ≤ getD cs (16 * e + (b - 1)) 0 → bit mask (b - 1) ≡ 1
+    held-shows h = ap (λ (z : ℕ). bit z (b - 1)) (sym held) ∙ count-shows hi c eq eb some ∙ ap one (lt-ltb 0 (getD cs (16 * e + (b - 1)) 0) h)
+
+    pub held-more : {r : ℕ} → Masked mask (b - 1) 1 r → CountedPins pins blocks n m k first (i + 1) e cs₀ (set cs (16 * e + (b - 1)) (getD cs (16 * e + (b - 1)) 0 + 1)) vs₀ (set vs₀ e r)
+    held-more {r} s = rw (← set-again vs₀ e mask r) (count-more hi c eq eb (step-set e b (getD cs (16 * e + (b - 1)) 0 + 1) r cs (set vs₀ e mask) some
+        (omega (arith, c .kept .counts-len, o .counts-fit, o .e-in, o .few, pin-block (o .net) hi eq eb)) (omega (arith, c .kept .masks-len, o .masks-fit, o .e-in))
+        (rw (held, lt-ltb 0 (getD cs (16 * e + (b - 1)) 0 + 1) (omega arith)) s)))
 
 -- ---- the gains
 

@@ -17,7 +17,7 @@ fn one_if_none(n: u16) -> u16
 }
 
 // The mask with the block `s` in it where that had no pin, and else as it is.
-fn set_first(m: u16, s: usize, had: u16) -> u16
+pub fn set_first(m: u16, s: usize, had: u16) -> u16
     requires { ⌜ s < 16 ⌝ }
     requires { ⌜ (1 ≤ had → bit m s ≡ 1) ⌝ }
     ensures { λ r. ⌜ Masked m s 1 r ⌝ }

@@ -4,11 +4,11 @@ ghost use mathlib.Core.Bool.{false};
 ghost use Rattle.connectivity.specs.Row.{row};
 ghost use Rattle.connectivity.specs.Laid.{Laid, given};
 ghost use Rattle.connectivity.specs.Whole.{CountsPins, CountedPins, SharesPins, FillsPins, FilledPins};
-use crate::counts::arrive;
+use crate::counts::set_first;
 use crate::shares::share_row;
 use incidence::numbers::index;
 
-// Counts the `p` pins from `first` in the net `e`, each in its block.
+// Counts the `p` pins from `first` in the net `e`, each in its block. The net's mask stays in hand, and is stored once.
 fn count_pins(
     counts: &mut [u16],
     visited: &mut [u16],
@@ -24,13 +24,18 @@ fn count_pins(
     requires { ⌜ CountsPins (now counts) (now visited) (now pins) (now blocks) n m k first p e ⌝ }
     ensures { λ _. ⌜ CountedPins (now (pins .entry)) (now (blocks .entry)) n m k first p e (now (counts .entry)) (now (counts .exit)) (now (visited .entry)) (now (visited .exit)) ⌝ }
 {
+    let mut mask = visited[e];
     let mut i = 0;
     while i < p {
         let x = index(pins[first + i]) - 1;
-        let b = index(blocks[x]);
-        arrive(counts, visited, e, b);
+        let s = index(blocks[x]) - 1;
+        let at = 16 * e + s;
+        let had = counts[at];
+        counts[at] = had + 1;
+        mask = set_first(mask, s, had);
         i += 1;
     }
+    visited[e] = mask;
 }
 
 // Adds the shares of the net `e`, of weight `w`, to the gains of the `p` pins from `first`.
