@@ -1,7 +1,6 @@
--- Laws of bounds: how they begin, the first of the highest, and how they are raised over the pins of a net and the nets of a vertex.
+-- Laws of bounds: how they begin, and how they are raised over the pins of a net and the nets of a vertex.
 -- Rests on Bound and RatingLaw. Assumes nothing.
 use mathlib.Core.Path.{_≡_, sym, ap, ap₂, _∙_, subst}
-use mathlib.Core.Logic.{_⊎_, inl, inr}
 use mathlib.Core.Bool.{Bool, true, false, _&&_, cond}
 use mathlib.Core.List.{List}
 use Prim.Native.Nat.{ℕ, _+_, _-_, _*_, _≤_, _<_}
@@ -17,7 +16,7 @@ use Rattle.laws.specs.Occurrence.{at, same, occ, same-yes, same-no, occ-zero, o
 use Rattle.best_contraction.specs.Rating.{ownSum, scoreOf, termOf, TablesOk, TakeOk}
 use Rattle.best_contraction.specs.RatingLaw.{over-first, over-next, own-room}
 use Rattle.best_contraction.specs.JoinLaw.{score-own}
-use Rattle.best_contraction.specs.Bound.{Bounded, Highest, ceiling, earlier, nearRise, farRise, riseAt, riseOf, Risen, Lifted, Ready, Planned}
+use Rattle.best_contraction.specs.Bound.{Bounded, ceiling, earlier, nearRise, farRise, riseAt, riseOf, Risen, Lifted, Ready, Planned}
 use Rattle.best_contraction.specs.declared.join.Join.{Join}
 
 -- ---- how they begin
@@ -45,43 +44,6 @@ module _ (bits pins firsts sizes netWeights blocks weights : List ℕ) (m n limi
   -- no rating passes the ceiling
   pub score-small : (u z : ℕ) → scoreOf bits pins firsts sizes netWeights blocks weights m limit u z ≤ ceiling
   score-small u z = omega (arith, score-own bits pins firsts sizes netWeights blocks weights m n limit u ok z, own-room bits sizes netWeights u m m (omega arith) (ok .nets) (ok .light))
-
--- ---- the first of the highest
-
--- the vertex x of bound b weighed against t, of bound c: r, of bound d, is chosen
-abbrev pub Tops : ℕ → ℕ → ℕ → ℕ → ℕ → ℕ → Type 0
-Tops b x c t d r = ((c < b) × (d ≡ b) × (r ≡ x)) ⊎ ((b ≤ c) × (d ≡ c) × (r ≡ t))
-
-pub highest-one : (l : List ℕ) → Highest l 1 1
-highest-one l = record { low = omega arith; high = omega arith; first = λ x a b. absurd (omega arith); most = λ x a b. let q : x ≡ 1 = omega arith in omega (arith, ap (λ (k : ℕ). getD l k 0) q) }
-
-pub highest-more : (l : List ℕ) (i b c t d r : ℕ) → 1 ≤ i → Highest l i t → c ≡ getD l t 0 → b ≡ getD l (i + 1) 0 → Tops b (i + 1) c t d r → Highest l (i + 1) r × (d ≡ getD l r 0)
-highest-more l i b c t d r some h ec eb (inl w) = (
-  subst (Highest l (i + 1)) (sym (w .2)) (record {
-    low = omega arith;
-    high = omega arith;
-    first = λ x a k. omega (arith, h .most x a (omega arith), w .0);
-    most = λ x a k. go x a k (ℕ-discrete x (i + 1));
-  }),
-  w .1 ∙ eb ∙ ap (λ (k : ℕ). getD l k 0) (sym (w .2)),
-)
-  where
-    go : (x : ℕ) → 1 ≤ x → x ≤ i + 1 → Dec (x ≡ i + 1) → getD l x 0 ≤ getD l (i + 1) 0
-    go x a k (yes q) = omega (arith, ap (λ (k : ℕ). getD l k 0) q)
-    go x a k (no q) = omega (arith, h .most x a (omega arith), w .0)
-highest-more l i b c t d r some h ec eb (inr w) = (
-  subst (Highest l (i + 1)) (sym (w .2)) (record {
-    low = h .low;
-    high = omega (arith, h .high);
-    first = h .first;
-    most = λ x a k. go x a k (ℕ-discrete x (i + 1));
-  }),
-  w .1 ∙ ec ∙ ap (λ (k : ℕ). getD l k 0) (sym (w .2)),
-)
-  where
-    go : (x : ℕ) → 1 ≤ x → x ≤ i + 1 → Dec (x ≡ i + 1) → getD l x 0 ≤ getD l t 0
-    go x a k (yes q) = omega (arith, ap (λ (k : ℕ). getD l k 0) q, w .0)
-    go x a k (no q) = h .most x a (omega arith)
 
 -- ---- raised
 

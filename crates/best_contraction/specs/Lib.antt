@@ -5,7 +5,8 @@
 -- JoinLaw     the best pair to contract, row by row
 -- JoinPair    it is model's best pair
 -- Bound       bounds on the ratings of each vertex
--- BoundLaw    how bounds begin, which is the highest, how they are raised
+-- BoundLaw    how bounds begin, and how they are raised
+-- PartTop     the highest bound of each part of 64 vertices, and the highest of all by them
 -- Settling    the best pair found by bounds
 -- JoinLink    it is the pair that model contracts, where the tables hold its state
 -- BoundLink   bounds raised for a contraction are bounds after it
@@ -16,6 +17,7 @@ pub mod JoinLaw
 pub mod JoinPair
 pub mod Bound
 pub mod BoundLaw
+pub mod PartTop
 pub mod Settling
 pub mod JoinLink
 pub mod BoundLink

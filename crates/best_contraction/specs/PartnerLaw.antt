@@ -102,18 +102,6 @@ module _ (s y : ℕ) (b : Partner) where
   pub weighed-unfit : (t : Bool) → t ≡ false → b ≡ topped (cond t s 0) y b
   weighed-unfit t q = subst (λ (t : Bool). b ≡ topped (cond t s 0) y b) (sym q) (sym (ap (λ (p : Bool). cond {A = Partner} p (record { rating = 0; vertex = y }) b) (le-ltb (b .rating) 0 (omega arith))))
 
--- ---- four ratings
-
--- r is not below p and q, p not below the first two after y, q not below the next two
-pub four-under : (l : List ℕ) (y p q r : ℕ) → (getD l (y + 1) 0 ≤ p) × (getD l (y + 2) 0 ≤ p) → (getD l (y + 3) 0 ≤ q) × (getD l (y + 4) 0 ≤ q) → (p ≤ r) × (q ≤ r) → (z : ℕ) → y < z → z ≤ y + 4 → getD l z 0 ≤ r
-four-under l y p q r a b h z low high = go (ℕ-discrete z (y + 1)) (ℕ-discrete z (y + 2)) (ℕ-discrete z (y + 3))
-  where
-    go : Dec (z ≡ y + 1) → Dec (z ≡ y + 2) → Dec (z ≡ y + 3) → getD l z 0 ≤ r
-    go (yes e) _ _ = omega (arith, ap (λ (k : ℕ). getD l k 0) e)
-    go (no _) (yes e) _ = omega (arith, ap (λ (k : ℕ). getD l k 0) e)
-    go (no _) (no _) (yes e) = omega (arith, ap (λ (k : ℕ). getD l k 0) e)
-    go (no n1) (no n2) (no n3) = let e : z ≡ y + 4 = omega arith in omega (arith, ap (λ (k : ℕ). getD l k 0) e)
-
 -- ---- the loop over the vertices after u
 
 module _ (acc blocks weights : List ℕ) (u own a limit : ℕ) where

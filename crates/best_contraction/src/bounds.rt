@@ -10,17 +10,11 @@ ghost use Prim.Native.Nat.{ℕ, _+_, _-_, _*_, _≤_};
 ghost use lib.ListN.{length};
 ghost use Rattle.laws.specs.Occurrence.{occ};
 ghost use Rattle.best_contraction.specs.Rating.{TablesOk, TakeOk};
-ghost use Rattle.best_contraction.specs.Bound.{Highest, ceiling, nearRise, farRise, riseAt, riseOf, Risen, Lifted};
-ghost use Rattle.best_contraction.specs.BoundLaw.{OwnSums, Tops};
+ghost use Rattle.best_contraction.specs.Bound.{ceiling, nearRise, farRise, riseAt, riseOf, Risen, Lifted};
+ghost use Rattle.best_contraction.specs.BoundLaw.{OwnSums};
 
 // A bound above every rating: of a vertex whose ratings are not known.
 const ABOVE_ALL: u64 = 36028797018963968;
-
-// A vertex and its bound.
-struct Top {
-    bound: u64,
-    vertex: usize,
-}
 
 // What a net adds to the bounds of its pins: to those of the vertices before `u` in its block, and to those of the others.
 struct Shares {
@@ -49,37 +43,6 @@ pub fn begin(
         bounds[i + 1] = own_sum(bits, presentsizes, netWeights, i + 1, m);
         i += 1;
     }
-}
-
-// The higher of the vertex `x`, of that bound, and the highest before it.
-fn higher(bound: u64, x: usize, top: Top) -> Top
-    ensures { λ r. ⌜ Tops bound x (top .bound) (top .vertex) (r .bound) (r .vertex) ⌝ }
-{
-    let high = top.bound;
-    if high < bound {
-        return Top {
-            bound: bound,
-            vertex: x,
-        };
-    }
-    top
-}
-
-// The vertex of the highest bound, the first of those.
-pub fn highest(bounds: &[u64; 1025], n: usize) -> usize
-    requires { ⌜ (length (now bounds) ≡ 1025) × (1 ≤ n) × (n ≤ 1024) ⌝ }
-    ensures { λ r. ⌜ Highest (now (bounds .entry)) n r ⌝ }
-{
-    let mut top = Top {
-        bound: bounds[1],
-        vertex: 1,
-    };
-    let mut i = 1;
-    while i < n {
-        top = higher(bounds[i + 1], i + 1, top);
-        i += 1;
-    }
-    top.vertex
 }
 
 // How many pins a net of `n` has when it has lost one.

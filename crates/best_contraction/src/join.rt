@@ -1,18 +1,22 @@
 // The pair to contract: the best partner of a vertex by its own nets, and the best of those. `limit` is ⌈W/k⌉, the average weight of a
 // block. The table `acc` is all 0 between calls; `bounds` spares most vertices the rating.
-use crate::bounds::highest;
 use crate::bounds::lift;
 use crate::rating::accumulate;
+use crate::tops::four_top;
+use crate::tops::highest;
+use crate::tops::set_bound;
+use crate::tops::set_tops;
 use incidence::numbers::long;
 ghost use mathlib.Core.Path.{_≡_};
 ghost use mathlib.Core.Bool.{cond};
-ghost use Prim.Native.Nat.{ℕ, _+_, _-_, _≤_, _<_};
+ghost use Prim.Native.Nat.{_+_, _-_, _≤_, _<_};
 ghost use lib.ListN.{length, getD};
 ghost use Rattle.best_contraction.specs.Rating.{fits, scoreIn, scoreOf, TablesOk, Blank, Cleared};
 ghost use Rattle.best_contraction.specs.PartnerLaw.{topped, topTo};
 ghost use Rattle.best_contraction.specs.JoinLaw.{PartnerOf};
 ghost use Rattle.best_contraction.specs.JoinPair.{BestJoin};
 ghost use Rattle.best_contraction.specs.Bound.{Bounded, Planned, riseOf};
+ghost use Rattle.best_contraction.specs.PartTop.{Topped};
 ghost use Rattle.best_contraction.specs.Settling.{Rates};
 
 // The best partner of a vertex; vertex 0 and rating 0 where there is none.
@@ -113,24 +117,6 @@ fn weigh_to(
         y += 1;
     }
     best
-}
-
-// The larger of two ratings.
-fn larger(a: u64, b: u64) -> u64
-    ensures { λ r. ⌜ (a ≤ r) × (b ≤ r) ⌝ }
-{
-    if a < b { b } else { a }
-}
-
-// The highest of the ratings of the four vertices after `y`.
-fn four_top(acc: &[u64; 1025], y: usize) -> u64
-    requires { ⌜ (length (now acc) ≡ 1025) × (y + 4 ≤ 1024) ⌝ }
-    ensures { λ r. ⌜ ((z : ℕ) → y < z → z ≤ y + 4 → getD (now (acc .entry)) z 0 ≤ r) ⌝ }
-{
-    larger(
-        larger(acc[y + 1], acc[y + 2]),
-        larger(acc[y + 3], acc[y + 4]),
-    )
 }
 
 // The best of the vertices up to `y + 4`, where `best` is the best of those up to `y`. Few rate higher, so that four are compared with it at
@@ -237,6 +223,7 @@ fn best_partner(
 fn rate(
     acc: &mut [u64; 1025],
     bounds: &mut [u64; 1025],
+    tops: &mut [u64; 17],
     bits: &[u64],
     presentpins: &[u16],
     firsts: &[u16],
@@ -251,10 +238,12 @@ fn rate(
 ) -> Rated
     requires { ⌜ TablesOk (now bits) (now presentpins) (now firsts) (now presentsizes) (now netWeights) (now blocks) m n ⌝ }
     requires { ⌜ Blank (now acc) × (length (now bounds) ≡ 1025) × (1 ≤ u) × (u ≤ n) × (n ≤ length (now weights)) ⌝ }
+    requires { ⌜ Topped (now bounds) n (now tops) ⌝ }
     ensures { λ r. ⌜ Rates
         (scoreOf (now (bits .entry)) (now (presentpins .entry)) (now (firsts .entry)) (now (presentsizes .entry)) (now (netWeights .entry)) (now (blocks .entry)) (now (weights .entry)) m limit)
         n (now (bounds .entry)) (now (bounds .exit)) u (r .rating) (r .into) (r .gone) (r .top) ⌝ }
     ensures { λ r. ⌜ Blank (now (acc .exit)) ⌝ }
+    ensures { λ r. ⌜ Topped (now (bounds .exit)) n (now (tops .exit)) ⌝ }
 {
     let p = best_partner(
         acc,
@@ -271,12 +260,12 @@ fn rate(
         n,
     );
     let rating = p.rating;
-    bounds[u] = rating;
+    set_bound(bounds, tops, u, rating, n);
     Rated {
         rating: rating,
         into: u,
         gone: p.vertex,
-        top: highest(bounds, n),
+        top: highest(tops, bounds, n),
     }
 }
 
@@ -307,10 +296,13 @@ fn best_join(
         n (now (bounds .exit)) ⌝ }
     ensures { λ r. ⌜ Blank (now (acc .exit)) ⌝ }
 {
-    let start = highest(bounds, n);
+    let mut tops = [0u64; 17];
+    set_tops(&mut tops, bounds, n);
+    let start = highest(&tops, bounds, n);
     let mut s = rate(
         acc,
         bounds,
+        &mut tops,
         bits,
         presentpins,
         firsts,
@@ -327,6 +319,7 @@ fn best_join(
         s = rate(
             acc,
             bounds,
+            &mut tops,
             bits,
             presentpins,
             firsts,

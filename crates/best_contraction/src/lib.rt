@@ -2,3 +2,4 @@
 pub mod bounds;
 pub mod join;
 mod rating;
+mod tops;

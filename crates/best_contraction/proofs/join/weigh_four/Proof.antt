@@ -13,7 +13,7 @@ returns : tie.Need-returns
 returns c =
     let start = c .before .before .before .before in
     let a = start .args in
-    select-kept (now (a .acc)) (now (a .blocks)) (now (a .weights)) (a .u) (a .own) (a .a) (a .limit) (a .y) 4 (a .best) (start .pre .1) (λ z l h. omega (arith, c .before .four-top .ensures z l h, c .if1 .taken))
+    select-kept (now (a .acc)) (now (a .blocks)) (now (a .weights)) (a .u) (a .own) (a .a) (a .limit) (a .y) 4 (a .best) (start .pre .1) (λ z l h. omega (arith, c .before .four-top .ensures .above z l h, c .if1 .taken))
 
 add-weigh-to : tie.Need-add-weigh-to
 add-weigh-to c = search needs

@@ -1,9 +1,9 @@
--- `higher`: the vertex is chosen where its bound is the higher one.
+-- `higher`: the part is chosen where its top is the higher one.
 use mathlib.Core.Logic.{inl, inr}
 use mathlib.Core.Path.{refl}
 use native.Mathlib.Omega.{arith}
-use Rattle.best_contraction.proofs.bounds.higher.Statement.{statement}
-use Rattle.best_contraction.proofs.bounds.higher.Tie as tie
+use Rattle.best_contraction.proofs.tops.higher.Statement.{statement}
+use Rattle.best_contraction.proofs.tops.higher.Tie as tie
 
 returns : tie.Need-returns
 returns c = inl (omega arith, refl, refl)

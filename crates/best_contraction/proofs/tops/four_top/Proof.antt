@@ -1,9 +1,9 @@
--- `four_top`: each of the four ratings is under one of the two larger ones.
-use Rattle.best_contraction.specs.PartnerLaw.{four-under}
+-- `four_top`: the larger of the tops of two and two.
+use Rattle.best_contraction.specs.PartTop.{top-four}
 use denote.Ref.{now}
 use borrow.Author.Needs.{needs}
-use Rattle.best_contraction.proofs.join.four_top.Statement.{statement}
-use Rattle.best_contraction.proofs.join.four_top.Tie as tie
+use Rattle.best_contraction.proofs.tops.four_top.Statement.{statement}
+use Rattle.best_contraction.proofs.tops.four_top.Tie as tie
 
 add-larger : tie.Need-add-larger
 add-larger c = search needs
@@ -54,7 +54,7 @@ returns : tie.Need-returns
 returns c =
     let at-larger = c .before .before .before .before in
     let a = c .before .before .before .before .before .before .before .args in
-    four-under (now (a .acc)) (a .y) _ _ _ (at-larger .larger .ensures) (c .before .larger2 .ensures) (c .larger3 .ensures)
+    top-four (now (a .table)) (a .y) _ _ _ (at-larger .larger .ensures) (c .before .larger2 .ensures) (c .larger3 .ensures)
 
 pub four-top-spec : {M : Type 1} → statement M
 four-top-spec =
