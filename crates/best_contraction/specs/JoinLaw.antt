@@ -12,7 +12,7 @@ use lib.Dec.{ltb, leb}
 use lib.ListN.{getD}
 use Rattle.laws.specs.Choice.{cond-le}
 use Rattle.laws.specs.Occurrence.{at, occ-none}
-use Rattle.best_contraction.specs.Rating.{near, fits, termOf, rowOf, ownSum, scoreIn, scoreOf, TablesOk, Blank, Raised, Cleared}
+use Rattle.best_contraction.specs.Rating.{near, fits, termOf, rowOf, ownSum, scoreIn, scoreOf, TablesOk, Blank, Holds, Cleared}
 use Rattle.best_contraction.specs.RatingLaw.{over-nil, row-own, row-ok}
 use Rattle.best_contraction.specs.PartnerLaw.{topTo, top-ext}
 use Rattle.best_contraction.specs.declared.join.Partner.{Partner}
@@ -56,20 +56,17 @@ module _ (bits pins firsts sizes netWeights blocks weights : List ℕ) (m n limi
   unmet : (z : ℕ) → ((g : ℕ) → g < m → (i : ℕ) → i < getD sizes g 0 → at pins (getD firsts g 0) i ≡ z → ⊥) → whole z ≡ 0
   unmet z no-pin = over-nil bits (u - 1) m _ (λ g h. ap (λ (k : ℕ). termOf (getD netWeights g 0) (getD sizes g 0) * k) (occ-none pins (getD firsts g 0) (getD sizes g 0) z (no-pin g h)) ∙ mul-zero (termOf (getD netWeights g 0) (getD sizes g 0)))
 
-  pub partner-law : (l0 l1 l2 : List ℕ) (p : Partner) → Blank l0 → Raised l0 l1 whole → p ≡ topTo (scoreIn test (λ z. getD l1 z 0)) n → Cleared l1 l2 n
+  pub partner-law : (l1 l2 : List ℕ) (p : Partner) → Holds l1 whole → p ≡ topTo (scoreIn test (λ z. getD l1 z 0)) n → Cleared l1 l2 n
       → PartnerOf (scoreOf bits pins firsts sizes netWeights blocks weights m limit u) n l2 p
   unfolding scoreOf
-  partner-law l0 l1 l2 p b r e c = record {
-    best = e ∙ top-ext (scoreIn test (λ z. getD l1 z 0)) points (λ z. ap (λ (k : ℕ). cond (test z) k 0) (raised z)) n;
+  partner-law l1 l2 p h e c = record {
+    best = e ∙ top-ext (scoreIn test (λ z. getD l1 z 0)) points (λ z. ap (λ (k : ℕ). cond (test z) k 0) (h .here z)) n;
     clear = record { len = c .len; zeros = λ z. zeros z (ℕ-discrete z 0) (decLt n z) };
   }
     where
-      raised : (z : ℕ) → getD l1 z 0 ≡ whole z
-      raised z = omega (arith, r .here z, b .zeros z)
-
       -- pins are vertices, so that no other place was raised
       beyond : (z : ℕ) → (1 ≤ z → z ≤ n → ⊥) → getD l2 z 0 ≡ 0
-      beyond z out = c .still z (raised z ∙ unmet z (λ g h i k q. out (omega (arith, ok .pin g h i k .0)) (omega (arith, ok .pin g h i k .1))))
+      beyond z out = c .still z (h .here z ∙ unmet z (λ g l i k q. out (omega (arith, ok .pin g l i k .0)) (omega (arith, ok .pin g l i k .1))))
 
       zeros : (z : ℕ) → Dec (z ≡ 0) → Dec (n < z) → getD l2 z 0 ≡ 0
       zeros z (yes q) k = beyond z (λ a b. omega arith)
@@ -89,7 +86,7 @@ module _ (bits pins firsts sizes netWeights blocks weights : List ℕ) (m n limi
   -- no rating passes the sum of the terms of u's own nets
   pub score-own : (z : ℕ) → scoreOf bits pins firsts sizes netWeights blocks weights m limit u z ≤ ownSum bits sizes netWeights u m
   unfolding scoreOf
-  score-own z = omega (arith, cond-le (test z) (whole z) (whole z) (omega arith), row-own bits pins firsts sizes netWeights u m n (row-ok ok) z)
+  score-own z = omega (arith, cond-le (test z) (whole z) (whole z) (omega arith), row-own bits pins firsts sizes netWeights u m (row-ok ok) z)
 
 -- the best pair of the rows 1 .. k, each of n places
 unfoldable pub joinTo : (ℕ → ℕ → ℕ) → ℕ → ℕ → Join

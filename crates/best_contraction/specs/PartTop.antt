@@ -8,6 +8,8 @@ use native.Mathlib.Decide.{ℕ-discrete, decLt}
 use native.Mathlib.Omega.{arith}
 use lib.ListN.{length, getD, set, length-set}
 use lib.Seq.{getD-set-same, getD-set-other}
+use Rattle.incidence.specs.On.{Cut}
+use Rattle.best_contraction.specs.Rating.{lesser}
 use Rattle.best_contraction.specs.Bound.{Highest}
 
 -- r is the highest of the entries after `from`, up to `to`; 0 where there is none
@@ -17,7 +19,14 @@ pub record TopOf (l : List ℕ) (from to r : ℕ) : Type 0 where
 
 -- the last vertex of part c, where there are n
 abbrev pub partEnd : ℕ → ℕ → ℕ
-partEnd c n = 64 * c - (64 * c - n)
+partEnd c n = lesser (64 * c) n
+
+pub cut-end : (c n r : ℕ) → Cut (64 * c) n r → r ≡ partEnd c n
+cut-end c n r k = go (decLt r n)
+  where
+    go : Dec (r < n) → r ≡ partEnd c n
+    go (yes h) = omega (arith, k .same h)
+    go (no h) = omega (arith, k .left, k .right)
 
 -- the first `done` parts have their tops
 pub record ToppedTo (l : List ℕ) (n done : ℕ) (tops : List ℕ) : Type 0 where

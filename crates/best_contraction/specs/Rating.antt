@@ -10,6 +10,10 @@ use Rattle.incidence.specs.On.{on}
 use Rattle.laws.specs.Occurrence.{at, occ}
 use Rattle.laws.specs.Sum.{sum}
 
+-- the smaller of two numbers
+abbrev pub lesser : ℕ → ℕ → ℕ
+lesser a b = a - (a - b)
+
 -- a partner comes after u and is in u's block
 abbrev pub near : List ℕ → ℕ → ℕ → ℕ → Bool
 near blocks u own z = ltb u z && eqb (getD blocks (z - 1) 0) own
@@ -73,8 +77,7 @@ pub record TablesOk (bits pins firsts sizes netWeights blocks : List ℕ) (m n :
   pub once : (e z : ℕ) → e < m → occ pins (getD firsts e 0) (getD sizes e 0) z ≤ 1
 
 -- what the adding up of ratings needs of them
-pub record RowOk (bits pins firsts sizes netWeights : List ℕ) (m n : ℕ) : Type 0 where
-  pub rows : 16 * n ≤ length bits
+pub record RowOk (pins firsts sizes netWeights : List ℕ) (m : ℕ) : Type 0 where
   pub nets : m ≤ 1024
   pub in-firsts : m ≤ length firsts
   pub in-sizes : m ≤ length sizes
@@ -98,11 +101,16 @@ pub record Blank (l : List ℕ) : Type 0 where
   pub len : length l ≡ 1025
   pub zeros : (z : ℕ) → getD l z 0 ≡ 0
 
--- ---- the table raised by d, and cleared
+-- ---- the table raised by d, what it holds then, and cleared
 
 pub record Raised (l l′ : List ℕ) (d : ℕ → ℕ) : Type 0 where
   pub here : (z : ℕ) → getD l′ z 0 ≡ getD l z 0 + d z
   pub len : length l′ ≡ 1025
+
+-- the table holds d
+pub record Holds (l : List ℕ) (d : ℕ → ℕ) : Type 0 where
+  pub here : (z : ℕ) → getD l z 0 ≡ d z
+  pub len : length l ≡ 1025
 
 -- the places 1 .. n are 0, and each that was 0 still is
 pub record Cleared (l l′ : List ℕ) (n : ℕ) : Type 0 where

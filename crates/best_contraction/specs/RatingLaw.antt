@@ -1,20 +1,21 @@
 -- Laws of the table that ratings are added up in: one pin, one net, all nets of a vertex; how it is cleared; and that no rating passes the
 -- sum of the vertex's own terms. Rests on Rating. Assumes nothing.
-use mathlib.Core.Path.{_≡_, refl, sym, ap, _∙_, subst}
+use mathlib.Core.Path.{_≡_, refl, sym, ap, ap₂, _∙_, subst}
 use mathlib.Core.Bool.{Bool, true, false, cond}
 use mathlib.Core.List.{List}
 use Prim.Native.Nat.{ℕ, zero, suc, _+_, _-_, _*_, _/_, _≤_, _<_}
-use native.Mathlib.Decide.{ℕ-discrete}
+use native.Mathlib.Decide.{ℕ-discrete, decLt}
 use native.Mathlib.Nat.{div-zero, div-le-self, mul-one, mul-zero, mul-add}
 use native.Mathlib.Omega.{arith}
 use borrow.Author.Tests.{eq-eqb, ne-eqb}
 use lib.Dec.{eqb}
 use lib.ListN.{length, getD, set, length-set}
 use lib.Seq.{getD-set-same, getD-set-other}
-use Rattle.incidence.specs.On.{on, Next}
+use Rattle.incidence.specs.Word.{NextBit}
+use Rattle.incidence.specs.On.{on, Next, Cut, next-in-word}
 use Rattle.laws.specs.Occurrence.{at, same, occ, same-yes, same-no, occ-zero, occ-step, occ-more}
 use Rattle.laws.specs.Sum.{sum, sum-step, sum-nil, sum-mono, sum-skip}
-use Rattle.best_contraction.specs.Rating.{termOf, over, rowOf, ownSum, StretchOk, TablesOk, RowOk, OwnOk, Blank, Raised, Cleared}
+use Rattle.best_contraction.specs.Rating.{lesser, termOf, over, rowOf, ownSum, StretchOk, TablesOk, RowOk, OwnOk, Blank, Raised, Holds, Cleared}
 
 pub raised-none : (l : List ℕ) (d : ℕ → ℕ) → length l ≡ 1025 → ((z : ℕ) → d z ≡ 0) → Raised l l d
 raised-none l d h k = record { here = λ z. omega (arith, k z); len = h }
@@ -89,16 +90,24 @@ module _ (l0 pins : List ℕ) (f n t : ℕ) (ok : StretchOk l0 pins f n 11529215
 -- ---- all nets of a vertex
 
 module _ (bits : List ℕ) (x : ℕ) (G : ℕ → ℕ) where
-  pub over-first : (m e : ℕ) → Next bits x 0 m e → over bits x e G ≡ 0
+  -- nets that are not x's add nothing
+  over-skip : (i m e : ℕ) → Next bits x i m e → over bits x e G ≡ over bits x i G
   unfolding over
-  over-first m e k = sum-nil e _ (λ i h. ap (λ (b : Bool). cond b (G i) 0) (ne-eqb (on bits x i) 1 (λ q. omega (arith, k .passed i (omega arith) h))))
+  over-skip i m e k = sum-skip i e _ (k .low) (λ j l h. ap (λ (b : Bool). cond b (G j) 0) (ne-eqb (on bits x j) 1 (λ q. omega (arith, k .passed j l h))))
+
+  over-none : over bits x 0 G ≡ 0
+  unfolding over
+  over-none = sum-nil 0 _ (λ i h. absurd (omega arith))
+
+  pub over-first : (m e : ℕ) → Next bits x 0 m e → over bits x e G ≡ 0
+  over-first m e k = over-skip 0 m e k ∙ over-none
+
+  over-step : (e : ℕ) → on bits x e ≡ 1 → over bits x (e + 1) G ≡ over bits x e G + G e
+  unfolding over
+  over-step e here = sum-step e _ ∙ ap (λ (b : Bool). over bits x e G + cond b (G e) 0) (eq-eqb _ _ here)
 
   pub over-next : (m e e′ : ℕ) → on bits x e ≡ 1 → Next bits x (e + 1) m e′ → over bits x e′ G ≡ over bits x e G + G e
-  unfolding over
-  over-next m e e′ here k =
-      sum-skip (e + 1) e′ _ (k .low) (λ i l h. ap (λ (b : Bool). cond b (G i) 0) (ne-eqb (on bits x i) 1 (λ q. omega (arith, k .passed i l h))))
-      ∙ sum-step e _
-      ∙ ap (λ (b : Bool). over bits x e G + cond b (G e) 0) (eq-eqb _ _ here)
+  over-next m e e′ here k = over-skip (e + 1) m e′ k ∙ over-step e here
 
 pub over-le : (bits : List ℕ) (x m : ℕ) (G : ℕ → ℕ) → ((e : ℕ) → e < m → G e ≤ 35184372088832) → over bits x m G ≤ m * 35184372088832
 unfolding over
@@ -126,22 +135,55 @@ over-mono bits x m G H h = sum-mono m _ _ (λ e l. go (eqb (on bits x e) 1) e l)
     go true e l = h e l
     go false e l = omega arith
 
+-- ---- a word in hand
+
+module _ (bits : List ℕ) (x c word to : ℕ) (held : word ≡ getD bits (16 * x + c) 0) (few : to ≤ 64) where
+  word-found : (from r : ℕ) → NextBit word from r → r < to → on bits x (64 * c + r) ≡ 1
+  word-found from r b h = next-in-word bits x c word from r refl held b .found (omega arith)
+
+  -- the next set bit of the word c is the next net, as far as the first `to` of its nets go
+  word-next : (from r i : ℕ) → from ≤ to → i ≡ 64 * c + from → NextBit word from r → Next bits x i (64 * c + to) (lesser (64 * c + r) (64 * c + to))
+  word-next from r i l e b = record {
+    low = omega (arith, k .low);
+    high = omega arith;
+    found = λ h. let q : lesser (64 * c + r) (64 * c + to) ≡ 64 * c + r = omega arith in rw q (word-found from r b (omega arith));
+    passed = λ d f h. k .passed d f (omega arith);
+  }
+    where
+      k : Next bits x i (64 * c + 64) (64 * c + r)
+      k = next-in-word bits x c word from r e held b
+
+word-end : (c m to j : ℕ) → 64 * c < m → to ≤ j → Cut (m - 64 * c) 64 to → lesser (64 * c + j) (64 * c + to) ≡ lesser (64 * (c + 1)) m
+word-end c m to j some all k = go (decLt to 64)
+  where
+    go : Dec (to < 64) → lesser (64 * c + j) (64 * c + to) ≡ lesser (64 * (c + 1)) m
+    go (yes h) = let e : 64 * c + to ≡ m = omega (arith, k .same h) in omega arith
+    go (no h) = let e : to ≡ 64 = omega (arith, k .right) in omega (arith, k .left)
+
+-- j is the next bit of the word c, of which the first `to` nets count, and the nets before it have been added up
+pub record InWord (bits pins firsts sizes netWeights : List ℕ) (u c to j : ℕ) (l : List ℕ) : Type 0 where
+  pub found : j < to → on bits (u - 1) (64 * c + j) ≡ 1
+  pub holds : Holds l (rowOf bits pins firsts sizes netWeights u (lesser (64 * c + j) (64 * c + to)))
+
 -- ---- all nets: the two loops
 
-module _ (bits pins firsts sizes netWeights : List ℕ) (u m n : ℕ) (ok : RowOk bits pins firsts sizes netWeights m n) where
+module _ (bits pins firsts sizes netWeights : List ℕ) (u m : ℕ) (ok : RowOk pins firsts sizes netWeights m) where
   abbrev row : ℕ → ℕ → ℕ
   row = rowOf bits pins firsts sizes netWeights u
 
-  pub row-none : (l : List ℕ) (e : ℕ) → Blank l → Next bits (u - 1) 0 m e → Raised l l (row e)
-  row-none l e h k = raised-none l (row e) (h .len) (λ z. over-first bits (u - 1) _ m e k)
+  pub row-none : (l : List ℕ) → Blank l → Holds l (row 0)
+  row-none l h = record { here = λ z. h .zeros z ∙ sym (over-none bits (u - 1) _); len = h .len }
 
-  pub row-stretch : (l0 l : List ℕ) (e f s : ℕ) → Blank l0 → e < m → Raised l0 l (row e) → f ≡ getD firsts e 0 → s ≡ getD sizes e 0 → StretchOk l pins f s 1152921504606846976
-  row-stretch l0 l e f s c h r ef es = subst (λ (k : ℕ). StretchOk l pins k s 1152921504606846976) (sym ef) (subst (λ (k : ℕ). StretchOk l pins (getD firsts e 0) k 1152921504606846976) (sym es) (record {
+  row-skip : (l : List ℕ) (i end e : ℕ) → Holds l (row i) → Next bits (u - 1) i end e → Holds l (row e)
+  row-skip l i end e h k = record { here = λ z. h .here z ∙ sym (over-skip bits (u - 1) _ i end e k); len = h .len }
+
+  pub row-stretch : (l : List ℕ) (e f s : ℕ) → e < m → Holds l (row e) → f ≡ getD firsts e 0 → s ≡ getD sizes e 0 → StretchOk l pins f s 1152921504606846976
+  row-stretch l e f s h r ef es = subst (λ (k : ℕ). StretchOk l pins k s 1152921504606846976) (sym ef) (subst (λ (k : ℕ). StretchOk l pins (getD firsts e 0) k 1152921504606846976) (sym es) (record {
     len = r .len;
     stretch = ok .stretch e h;
     pin = ok .pin e h;
     once = λ z. ok .once e z h;
-    small = λ z. omega (arith, r .here z, c .zeros z, ok .nets, bound z);
+    small = λ z. omega (arith, r .here z, ok .nets, bound z);
   }))
     where
       inner : (z g : ℕ) → g < m → termOf (getD netWeights g 0) (getD sizes g 0) * occ pins (getD firsts g 0) (getD sizes g 0) z ≤ 35184372088832
@@ -150,20 +192,43 @@ module _ (bits pins firsts sizes netWeights : List ℕ) (u m n : ℕ) (ok : RowO
       bound : (z : ℕ) → row e z ≤ e * 35184372088832
       bound z = over-le bits (u - 1) e _ (λ g q. inner z g (omega arith))
 
-  pub row-more : (l0 l l′ : List ℕ) (e e′ f s t : ℕ) → Raised l0 l (row e) → on bits (u - 1) e ≡ 1 → f ≡ getD firsts e 0 → s ≡ getD sizes e 0 → t ≡ termOf (getD netWeights e 0) (getD sizes e 0)
-      → Raised l l′ (λ z. t * occ pins f s z) → Next bits (u - 1) (e + 1) m e′ → Raised l0 l′ (row e′)
-  row-more l0 l l′ e e′ f s t r here ef es et h k = raised-more l0 l l′ (row e) _ (row e′) r h (λ z. over-next bits (u - 1) _ m e e′ here k ∙ ap (λ (q : ℕ). row e z + q) (same-net z))
+  row-more : (l l′ : List ℕ) (e end e′ f s t : ℕ) → Holds l (row e) → on bits (u - 1) e ≡ 1 → f ≡ getD firsts e 0 → s ≡ getD sizes e 0 → t ≡ termOf (getD netWeights e 0) (getD sizes e 0)
+      → Raised l l′ (λ z. t * occ pins f s z) → Next bits (u - 1) (e + 1) end e′ → Holds l′ (row e′)
+  row-more l l′ e end e′ f s t h here ef es et r k = record {
+    here = λ z. r .here z ∙ ap₂ (λ (a b : ℕ). a + b) (h .here z) (sym (same-net z)) ∙ sym (over-next bits (u - 1) _ end e e′ here k);
+    len = r .len;
+  }
     where
       same-net : (z : ℕ) → termOf (getD netWeights e 0) (getD sizes e 0) * occ pins (getD firsts e 0) (getD sizes e 0) z ≡ t * occ pins f s z
       same-net z = rw (ef, es, et)
+
+  -- the loop over the bits of a word
+  module _ (c word to : ℕ) (held : word ≡ getD bits (16 * (u - 1) + c) 0) (few : to ≤ 64) where
+    pub word-none : (l : List ℕ) (r : ℕ) → Holds l (row (64 * c)) → NextBit word 0 r → InWord bits pins firsts sizes netWeights u c to r l
+    word-none l r h b = record {
+      found = word-found bits (u - 1) c word to held few 0 r b;
+      holds = row-skip l (64 * c) (64 * c + to) _ h (word-next bits (u - 1) c word to held few 0 r (64 * c) (omega arith) (omega arith) b);
+    }
+
+    pub word-here : (l : List ℕ) (j : ℕ) → j < to → InWord bits pins firsts sizes netWeights u c to j l → Holds l (row (64 * c + j))
+    word-here l j h w = let q : lesser (64 * c + j) (64 * c + to) ≡ 64 * c + j = omega arith in subst (λ (e : ℕ). Holds l (row e)) q (w .holds)
+
+    pub word-more : (l l′ : List ℕ) (j r f s t : ℕ) → j < to → InWord bits pins firsts sizes netWeights u c to j l → f ≡ getD firsts (64 * c + j) 0 → s ≡ getD sizes (64 * c + j) 0
+        → t ≡ termOf (getD netWeights (64 * c + j) 0) (getD sizes (64 * c + j) 0) → Raised l l′ (λ z. t * occ pins f s z) → NextBit word (j + 1) r → InWord bits pins firsts sizes netWeights u c to r l′
+    word-more l l′ j r f s t h w ef es et k b = record {
+      found = word-found bits (u - 1) c word to held few (j + 1) r b;
+      holds = row-more l l′ (64 * c + j) (64 * c + to) _ f s t (word-here l j h w) (w .found h) ef es et k (word-next bits (u - 1) c word to held few (j + 1) r (64 * c + j + 1) (omega arith) (omega arith) b);
+    }
+
+  pub word-all : (l : List ℕ) (c to j : ℕ) → 64 * c < m → to ≤ j → Cut (m - 64 * c) 64 to → InWord bits pins firsts sizes netWeights u c to j l → Holds l (row (lesser (64 * (c + 1)) m))
+  word-all l c to j some all k w = subst (λ (e : ℕ). Holds l (row e)) (word-end c m to j some all k) (w .holds)
 
   -- no rating passes the sum of the terms of u's own nets
   pub row-own : (z : ℕ) → row m z ≤ ownSum bits sizes netWeights u m
   row-own z = over-mono bits (u - 1) m _ _ (λ e l. times-once (termOf (getD netWeights e 0) (getD sizes e 0)) (occ pins (getD firsts e 0) (getD sizes e 0) z) (ok .once e z l))
 
-pub row-ok : {bits pins firsts sizes netWeights blocks : List ℕ} {m n : ℕ} → TablesOk bits pins firsts sizes netWeights blocks m n → RowOk bits pins firsts sizes netWeights m n
+pub row-ok : {bits pins firsts sizes netWeights blocks : List ℕ} {m n : ℕ} → TablesOk bits pins firsts sizes netWeights blocks m n → RowOk pins firsts sizes netWeights m
 row-ok ok = record {
-  rows = ok .rows;
   nets = ok .nets;
   in-firsts = ok .in-firsts;
   in-sizes = ok .in-sizes;

@@ -212,7 +212,6 @@ fn best_partner(
         netWeights,
         u,
         m,
-        n,
     );
     let best = select(acc, blocks, weights, limit, u, n);
     clear(acc, n);

@@ -1,10 +1,13 @@
 // Ratings of one vertex with all others, added up over its own nets. Vertices and blocks count from 1, nets from 0.
+use incidence::least;
+use incidence::next_bit;
 use incidence::next_net;
 use incidence::numbers::index;
 ghost use mathlib.Core.Path.{_≡_};
-ghost use Prim.Native.Nat.{_*_, _≤_};
+ghost use Prim.Native.Nat.{_+_, _*_, _≤_, _<_};
+ghost use lib.ListN.{length};
 ghost use Rattle.laws.specs.Occurrence.{occ};
-ghost use Rattle.best_contraction.specs.Rating.{termOf, rowOf, ownSum, OwnOk, Raised, StretchOk, RowOk, Blank};
+ghost use Rattle.best_contraction.specs.Rating.{lesser, termOf, rowOf, ownSum, OwnOk, Raised, Holds, StretchOk, RowOk, Blank};
 
 // What a net of weight `w` with `n` pins adds to the rating of two of them.
 pub fn term(w: u16, n: u16) -> u64
@@ -30,6 +33,40 @@ fn add_net(acc: &mut [u64; 1025], presentpins: &[u16], first: usize, n: usize, t
     }
 }
 
+// Adds the terms of those nets of `u` that the word `c` of its row has, where `acc` has those of the words before. The word stays in hand, and
+// is not read from memory for each net.
+fn add_word(
+    acc: &mut [u64; 1025],
+    bits: &[u64],
+    presentpins: &[u16],
+    firsts: &[u16],
+    presentsizes: &[u16],
+    netWeights: &[u16],
+    u: usize,
+    c: usize,
+    m: usize,
+)
+    requires { ⌜ RowOk (now presentpins) (now firsts) (now presentsizes) (now netWeights) m × (1 ≤ u) × (16 * u ≤ length (now bits)) × (64 * c < m) ⌝ }
+    requires { ⌜ Holds (now acc) (rowOf (now bits) (now presentpins) (now firsts) (now presentsizes) (now netWeights) u (64 * c)) ⌝ }
+    ensures { λ _. ⌜ Holds (now (acc .exit)) (rowOf (now (bits .entry)) (now (presentpins .entry)) (now (firsts .entry)) (now (presentsizes .entry)) (now (netWeights .entry)) u (lesser (64 * (c + 1)) m)) ⌝ }
+{
+    let base = 64 * c;
+    let word = bits[16 * (u - 1) + c];
+    let to = least(m - base, 64);
+    let mut j = next_bit(word, 0);
+    while j < to {
+        let e = base + j;
+        add_net(
+            acc,
+            presentpins,
+            index(firsts[e]),
+            index(presentsizes[e]),
+            term(netWeights[e], presentsizes[e]),
+        );
+        j = next_bit(word, j + 1);
+    }
+}
+
 // Adds up the ratings of `u` with every vertex, whether the two may be contracted or not.
 pub fn accumulate(
     acc: &mut [u64; 1025],
@@ -40,22 +77,25 @@ pub fn accumulate(
     netWeights: &[u16],
     u: usize,
     m: usize,
-    n: usize,
 )
-    requires { ⌜ RowOk (now bits) (now presentpins) (now firsts) (now presentsizes) (now netWeights) m n ⌝ }
-    requires { ⌜ Blank (now acc) × (1 ≤ u) × (u ≤ n) ⌝ }
-    ensures { λ _. ⌜ Raised (now (acc .entry)) (now (acc .exit)) (rowOf (now (bits .entry)) (now (presentpins .entry)) (now (firsts .entry)) (now (presentsizes .entry)) (now (netWeights .entry)) u m) ⌝ }
+    requires { ⌜ RowOk (now presentpins) (now firsts) (now presentsizes) (now netWeights) m ⌝ }
+    requires { ⌜ Blank (now acc) × (1 ≤ u) × (16 * u ≤ length (now bits)) ⌝ }
+    ensures { λ _. ⌜ Holds (now (acc .exit)) (rowOf (now (bits .entry)) (now (presentpins .entry)) (now (firsts .entry)) (now (presentsizes .entry)) (now (netWeights .entry)) u m) ⌝ }
 {
-    let mut e = next_net(bits, u - 1, 0, m);
-    while e < m {
-        add_net(
+    let mut c = 0;
+    while 64 * c < m {
+        add_word(
             acc,
+            bits,
             presentpins,
-            index(firsts[e]),
-            index(presentsizes[e]),
-            term(netWeights[e], presentsizes[e]),
+            firsts,
+            presentsizes,
+            netWeights,
+            u,
+            c,
+            m,
         );
-        e = next_net(bits, u - 1, e + 1, m);
+        c += 1;
     }
 }
 

@@ -1,5 +1,6 @@
 // Tops: for each part of 64 vertices the highest of their bounds, so that a bound that changes needs a pass over its part only. Vertices and
 // parts count from 1: part c ends with vertex 64 * c, or with the last of all.
+use incidence::least;
 ghost use mathlib.Core.Path.{_≡_};
 ghost use Prim.Native.Nat.{_+_, _-_, _*_, _≤_, _<_};
 ghost use lib.ListN.{length, set};
@@ -63,8 +64,7 @@ fn part_end(c: usize, n: usize) -> usize
     requires { ⌜ c ≤ 16 ⌝ }
     ensures { λ r. ⌜ r ≡ partEnd c n ⌝ }
 {
-    let end = 64 * c;
-    if end < n { end } else { n }
+    least(64 * c, n)
 }
 
 // Sets the tops of all parts of the `n` vertices.
