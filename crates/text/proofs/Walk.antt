@@ -1,14 +1,14 @@
 -- Laws of a cursor that walks a stretch of bytes: what the stretch from the cursor on says, one byte further. Rests on model's grammar.
 use Prim.Native.Nat.{ℕ, zero, suc, _+_, _-_, _≤_, _<_}
 use mathlib.Core.Path.{_≡_, refl, ap, sym, _∙_}
-use mathlib.Core.List.{List, [], _∷_}
+use mathlib.Core.List.{List, [], _∷_, _++_}
 use mathlib.Core.Bool.{Bool, true, false, _||_, cond, true≢false}
 use native.Mathlib.Decide.{ℕ-discrete}
 use native.Mathlib.Omega.{arith}
 use native.Mathlib.Numerals.{add-one}
 use native.Mathlib.Nat.{zero-add, suc-add}
 use lib.ListN.{length, getD, take, drop}
-use lib.Seq.{slice, slice-cons, slice-empty, length-slice, take-nil, take-take, drop-drop}
+use lib.Seq.{slice, slice-cons, slice-empty, length-slice, length-take-le, take-nil, take-take, take-add, drop-drop, drop-append-le}
 use lib.Dec.{eqb}
 use borrow.Author.Tests.{eq-eqb, ne-eqb}
 use Rattle.laws.specs.Choice.{or-none}
@@ -75,6 +75,21 @@ take-slice s at end k h =
     let e : end ≡ at + (end - at) = omega arith in
     let m : k ≤ end - at = omega arith in
     ap (λ (n : ℕ). take k (slice at n s)) e ∙ ap (take k) (slice-is at (end - at) s) ∙ take-take k (end - at) (drop at s) m ∙ sym (slice-is at k s)
+
+-- a stretch is what stands before a place of it and what stands from there on
+pub slice-split : (s : List ℕ) (at e end : ℕ) → at ≤ e → e ≤ end → end ≤ length s → slice at end s ≡ slice at e s ++ slice e end s
+slice-split s at e end le lt within =
+    let n : e + (end - e) ≡ end = omega arith in
+    let z : at ≤ length (take e s) = omega (arith, length-take-le e s (omega arith)) in
+    ap (λ (k : ℕ). drop at (take k s)) (sym n)
+    ∙ ap (drop at) (take-add e (end - e) s)
+    ∙ drop-append-le at (take e s) (take (end - e) (drop e s)) z
+    ∙ ap (λ (l : List ℕ). slice at e s ++ l) (sym (slice-is e (end - e) s) ∙ ap (λ (k : ℕ). slice e k s) n)
+
+pub slice-more : (s : List ℕ) (at i : ℕ) → at ≤ i → i < length s → slice at (i + 1) s ≡ slice at i s ++ (getD s i 0 ∷ [])
+slice-more s at i le lt =
+    slice-split s at i (i + 1) le (omega arith) (omega arith)
+    ∙ ap (λ (l : List ℕ). slice at i s ++ l) (slice-at s i (i + 1) (omega arith) (omega arith) ∙ ap (λ (l : List ℕ). getD s i 0 ∷ l) (slice-empty (i + 1) s))
 
 pub drop-slice : (s : List ℕ) (at end k : ℕ) → drop (suc k) (slice at end s) ≡ slice (at + k + 1) end s
 drop-slice s at end k =

@@ -24,16 +24,20 @@ pub record FirstAt (s : List ℕ) (at end sep r : ℕ) : Type 0 where
 abbrev pub Without : List ℕ → ℕ → ℕ → ℕ → Type 0
 Without s at n b = (j : ℕ) → j < n → getD s (at + j) 0 ≡ b → ⊥
 
--- how many digits stand before the first element that is none
-abbrev pub run : List ℕ → ℕ
-run [] = zero
-run (b ∷ bs) = cond (isDigit b) (suc (run bs)) zero
-
--- r is where the digits of s from `at` on stop, at `end` at the latest; the bounds follow from `is`
-pub record DigitsEnd (s : List ℕ) (at end r : ℕ) : Type 0 where
-  pub is : r ≡ at + run (slice at end s)
+-- r is where nine digits from `at` on would end, or `end` where that comes before it
+pub record NineDigits (at end r : ℕ) : Type 0 where
   pub low : at ≤ r
   pub high : r ≤ end
+  pub short : r ≤ at + 9
+  pub full : r < end → r ≡ at + 9
+
+-- the digits of s from `at` on stop at e, at `end` at the latest, and have the value v
+pub record DigitsRead (s : List ℕ) (at end v e : ℕ) : Type 0 where
+  pub low : at ≤ e
+  pub high : e ≤ end
+  pub digits : all (slice at e s) isDigit ≡ true
+  pub stops : e < end → isDigit (getD s e 0) ≡ false
+  pub is : v ≡ value (slice at e s)
 
 -- r is where the field of s from `at` on ends, if it is a number; else `at`
 pub record NumberEnd (s : List ℕ) (at end r : ℕ) : Type 0 where
@@ -42,6 +46,11 @@ pub record NumberEnd (s : List ℕ) (at end r : ℕ) : Type 0 where
   pub ends : at < r → FirstAt s at end 44 r
   pub is : at < r → isNumber (slice at r s) ≡ true
   pub none : r ≡ at → (e : ℕ) → FirstAt s at end 44 e → isNumber (slice at e s) ≡ false
+
+-- the same, and the value of such a field is v
+pub record NumberRead (s : List ℕ) (at end v r : ℕ) : Type 0 where
+  pub ends : NumberEnd s at end r
+  pub is : at < r → v ≡ value (slice at r s)
 
 -- the field of s from `at` on ends at e and has the value v
 pub record FieldRead (s : List ℕ) (at end v e : ℕ) : Type 0 where

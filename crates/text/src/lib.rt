@@ -8,7 +8,7 @@ ghost use lib.ListN.{length};
 ghost use lib.Seq.{slice};
 ghost use Rattle.model.specs.Grammar.{same, parts, fields, within, at as fieldAt};
 ghost use Rattle.model.specs.Report.{digits};
-ghost use Rattle.text.specs.Field.{FirstAt, Without, DigitsEnd, NumberEnd, FieldRead, counted, formOf, Numbered, Third};
+ghost use Rattle.text.specs.Field.{FirstAt, Without, NineDigits, DigitsRead, NumberEnd, NumberRead, FieldRead, counted, formOf, Numbered, Third};
 ghost use Rattle.text.specs.Output.{written, signOf};
 
 // A number, and where its field ends.
@@ -74,64 +74,73 @@ pub fn line_end(s: &[u8], at: usize, end: usize) -> usize
     find(s, i, end, b'\n')
 }
 
-// The first byte at or after `at` and before `end` that is no digit, or `end`.
-fn digits_end(s: &[u8], at: usize, end: usize) -> usize
-    requires { ⌜ (at ≤ end) × (end ≤ length (now s)) ⌝ }
-    ensures { λ r. ⌜ DigitsEnd (now (s .entry)) at end r ⌝ }
+// Where nine digits from `at` on would end, or `end` where that comes before it.
+fn nine_digits(at: usize, end: usize) -> usize
+    requires { ⌜ at ≤ end ⌝ }
+    ensures { λ r. ⌜ NineDigits at end r ⌝ }
 {
-    let mut i = at;
-    while i < end {
-        let b = s[i];
-        if b < b'0' {
-            return i;
-        }
-        if b'9' < b {
-            return i;
-        }
-        i += 1;
+    if 9 < end - at {
+        return at + 9;
     }
-    i
+    end
 }
 
-// Where the field from `at` on ends, if it is a number; else `at`, since a number has a digit.
-pub fn number_end(s: &[u8], at: usize, end: usize) -> usize
-    requires { ⌜ (at ≤ end) × (end ≤ length (now s)) ⌝ }
-    ensures { λ r. ⌜ NumberEnd (now (s .entry)) at end r ⌝ }
-{
-    let e = digits_end(s, at, end);
-    let n = e - at;
-    if 9 < n {
-        return at;
-    }
-    if 1 < n {
-        if s[at] == b'0' {
-            return at;
-        }
-    }
-    if e < end {
-        if s[e] != b',' {
-            return at;
-        }
-    }
-    e
-}
-
-// The number in the field from `at` on, and where the field ends.
-pub fn read_field(s: &[u8], at: usize, end: usize) -> Number
-    requires { ⌜ (at ≤ end) × (end ≤ length (now s)) × Numbered (fields (slice at end (now s))) 0 ⌝ }
-    ensures { λ r. ⌜ FieldRead (now (s .entry)) at end (r .value) (r .end) ⌝ }
+// The digits from `at` on, up to `end` at most, as a number, and where they stop. Each is tested and read at once.
+fn read_digits(s: &[u8], at: usize, end: usize) -> Number
+    requires { ⌜ (at ≤ end) × (end ≤ length (now s)) × (end ≤ at + 9) ⌝ }
+    ensures { λ r. ⌜ DigitsRead (now (s .entry)) at end (r .value) (r .end) ⌝ }
 {
     let mut v: u32 = 0;
     let mut i = at;
     while i < end {
         let b = s[i];
-        if b == b',' {
+        if b < b'0' {
+            return Number { value: v, end: i };
+        }
+        if b'9' < b {
             return Number { value: v, end: i };
         }
         v = v * 10 + (b - b'0') as u32;
         i += 1;
     }
     Number { value: v, end: i }
+}
+
+// The number in the field from `at` on, and where the field ends; that is `at` where the field is no number, since a number has a digit.
+pub fn read_number(s: &[u8], at: usize, end: usize) -> Number
+    requires { ⌜ (at ≤ end) × (end ≤ length (now s)) ⌝ }
+    ensures { λ r. ⌜ NumberRead (now (s .entry)) at end (r .value) (r .end) ⌝ }
+{
+    let stop = nine_digits(at, end);
+    let d = read_digits(s, at, stop);
+    let e = d.end;
+    if 1 < e - at {
+        if s[at] == b'0' {
+            return Number { value: 0, end: at };
+        }
+    }
+    if e < end {
+        if s[e] != b',' {
+            return Number { value: 0, end: at };
+        }
+    }
+    d
+}
+
+// Where the field from `at` on ends, if it is a number; else `at`.
+pub fn number_end(s: &[u8], at: usize, end: usize) -> usize
+    requires { ⌜ (at ≤ end) × (end ≤ length (now s)) ⌝ }
+    ensures { λ r. ⌜ NumberEnd (now (s .entry)) at end r ⌝ }
+{
+    read_number(s, at, end).end
+}
+
+// The number in the field from `at` on, which is one, and where the field ends.
+pub fn read_field(s: &[u8], at: usize, end: usize) -> Number
+    requires { ⌜ (at ≤ end) × (end ≤ length (now s)) × Numbered (fields (slice at end (now s))) 0 ⌝ }
+    ensures { λ r. ⌜ FieldRead (now (s .entry)) at end (r .value) (r .end) ⌝ }
+{
+    read_number(s, at, end)
 }
 
 // x is neither below low nor above high.
