@@ -1,14 +1,14 @@
 -- The marks of one buyer, the stamps that tell which lots it has marked, and a buyer's line. Rests on Line. Assumes nothing.
 use Prim.Native.Nat.{ℕ, _+_, _-_, _≤_, _<_}
 use mathlib.Core.Path.{_≡_}
-use mathlib.Core.Bool.{cond}
+use mathlib.Core.Bool.{Bool, false, _&&_, cond}
 use mathlib.Core.List.{List, []}
-use lib.Dec.{eqb}
-use lib.ListN.{length, getD, take}
+use lib.Dec.{eqb, leb}
+use lib.ListN.{length, getD, take, drop}
 use lib.Seq.{slice}
-use Rattle.laws.specs.Fold.{any}
+use Rattle.laws.specs.Fold.{all, any}
 use Rattle.model.specs.Catalogue.{Hypergraph, vertices}
-use Rattle.model.specs.Grammar.{Fields, Book, Reading, stopped, Marking, marked, wrong, mark, marking, netRead, buyLine}
+use Rattle.model.specs.Grammar.{Fields, parts, fields, at as fieldAt, isNumber, isLine, Book, Reading, stopped, Marking, marked, wrong, mark, marking, netRead, buyLine}
 use Rattle.lines.specs.Line.{Past}
 use Rattle.lines.specs.declared.Pinned.{Pinned}
 use Rattle.lines.specs.declared.Pinned.the-variants.{Good, Wrong}
@@ -39,6 +39,13 @@ pub record MarkOne (v lots j m r : ℕ) (marks stamps marks′ stamps′ : List 
   pub next : (first : ℕ) → r ≡ 0 → Stamped first m j marks stamps → Stamped first (m + 1) j marks′ stamps′
   pub room : r ≡ 0 → m < 8192
 
+-- the form of a line comes first: 2 where a field is no number, else the refusal q, or the marks after others
+abbrev pub refusalOf : ℕ → Fields → ℕ
+refusalOf q fs = cond (all fs isNumber) q 2
+
+unfoldable pub tested : Hypergraph → Marking → Fields → Marking
+tested h m fs = cond (all fs isNumber) (marking h m fs) (wrong 2)
+
 -- the marks of a line
 abbrev pub marksSeen : ℕ → Pinned → List ℕ → Marking
 marksSeen first (Good m) marks = marked (slice first m marks) m
@@ -49,10 +56,22 @@ pub record MarksRead (fs : Fields) (lots j first : ℕ) (r : Pinned) (marks mark
   pub past : (m : ℕ) → r ≡ Good m → Past m marks marks′
   pub len : length marks′ ≡ length marks
   pub slen : length stamps′ ≡ 1024
-  pub says : (h : Hypergraph) → vertices h ≡ lots → marksSeen first r marks′ ≡ marking h (marked [] first) fs
+  pub says : (h : Hypergraph) → vertices h ≡ lots → marksSeen first r marks′ ≡ tested h (marked [] first) fs
   pub next : (m : ℕ) → r ≡ Good m → Stamped first m j marks′ stamps′
 
--- a buyer's line
+-- ---- a buyer's line
+-- it begins as one and has a lot
+abbrev pub isBuy : Fields → Bool
+isBuy fs = isLine "BUY" fs && leb 3 (length fs)
+
+-- its weight is v, if the field of it ends at e before the line does; the form is then that of the fields behind it
+pub record WeightRead (s : List ℕ) (at end v e : ℕ) : Type 0 where
+  pub high : e ≤ end
+  pub none : e ≡ end → isBuy (fields (slice at end s)) ≡ false
+  pub form : e < end → isBuy (fields (slice at end s)) ≡ all (parts 44 (slice (e + 1) end s)) isNumber
+  pub is : e < end → v ≡ fieldAt (fields (slice at end s)) 1
+  pub rest : e < end → parts 44 (slice (e + 1) end s) ≡ drop 2 (fields (slice at end s))
+
 abbrev pub buySeen : ℕ → Book → ℕ → Buy → List ℕ → Reading
 buySeen n k first (Bought w m) marks = netRead n k w (marked (slice first m marks) m)
 buySeen n k first (NoBuy q) marks = stopped q n

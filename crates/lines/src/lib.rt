@@ -1,14 +1,12 @@
 // One line of a sale file: the first line, a lot's, a buyer's, a call's. Each function is proved against a definition of model.
 use text::between;
 ghost use mathlib.Core.Path.{_≡_};
-ghost use mathlib.Core.Bool.{true};
 ghost use Prim.Native.Nat.{_-_, _≤_};
 ghost use lib.ListN.{length};
 ghost use lib.Seq.{slice};
-ghost use Rattle.laws.specs.Fold.{all};
-ghost use Rattle.model.specs.Grammar.{parts, fields, isNumber, at as fieldAt};
+ghost use Rattle.model.specs.Grammar.{parts, fields, at as fieldAt};
 ghost use Rattle.lines.specs.Line.{limitsOf, CallRead, Announces, SaleRead, FieldsEnd, numbersOf, LowRead, balesRefusal, sessionRefusal, firstOf, LotRead};
-ghost use Rattle.lines.specs.Mark.{Fresh, MarkOne, MarksRead, BuyRead};
+ghost use Rattle.lines.specs.Mark.{Fresh, MarkOne, refusalOf, MarksRead, WeightRead, BuyRead};
 
 // A call line's call: the byte of its letter and its numbers.
 pub enum Ask {
@@ -236,7 +234,18 @@ fn put_pin(
     0
 }
 
-// The marks of buyer j, in the fields from `at` to `end`, into the table from `first` on.
+// The refusal `q` of a line, or 2 where a field from `at` on is no number: the form of a line is tested before what stands in it.
+fn refusal(s: &[u8], at: usize, end: usize, q: u8) -> u8
+    requires { ⌜ (1 ≤ at) × (at ≤ end) × (end ≤ length (now s)) ⌝ }
+    ensures { λ r. ⌜ r ≡ refusalOf q (parts 44 (slice at end (now (s .entry)))) ⌝ }
+{
+    if text::count(s, at, end) == 0 {
+        return 2;
+    }
+    q
+}
+
+// The marks of buyer j, in the fields from `at` to `end`, into the table from `first` on. Each field is tested and read at once.
 fn read_pins(
     s: &[u8],
     at: usize,
@@ -247,18 +256,21 @@ fn read_pins(
     loadedpins: &mut [u16],
     stamps: &mut [u16; 1024],
 ) -> Pinned
-    requires { ⌜ (at ≤ end) × (end ≤ length (now s)) × (all (parts 44 (slice at end (now s))) isNumber ≡ true) × (vertices ≤ 1024) × (first ≤ 8192)
+    requires { ⌜ (1 ≤ at) × (at ≤ end) × (end ≤ length (now s)) × (vertices ≤ 1024) × (first ≤ 8192)
         × (8192 ≤ length (now loadedpins)) × (length (now stamps) ≡ 1024) × Fresh j (now stamps) ⌝ }
     ensures { λ r. ⌜ MarksRead (parts 44 (slice at end (now (s .entry)))) vertices j first r (now (loadedpins .entry)) (now (loadedpins .exit)) (now (stamps .exit)) ⌝ }
 {
     let mut i = at;
     let mut m = first;
     loop {
-        let f = text::read_field(s, i, end);
+        let f = text::read_number(s, i, end);
         let e = f.end;
+        if e == i {
+            return Pinned::Wrong(2);
+        }
         let q = put_pin(f.value, vertices, j, m, loadedpins, stamps);
         if q != 0 {
-            return Pinned::Wrong(q);
+            return Pinned::Wrong(refusal(s, i, end, q));
         }
         m += 1;
         if e == end {
@@ -266,6 +278,26 @@ fn read_pins(
         }
         i = e + 1;
     }
+}
+
+// The weight of a buyer's line and where its field ends; that is `end` where the line begins otherwise or has no lot.
+fn read_weight(s: &[u8], at: usize, end: usize) -> text::Number
+    requires { ⌜ (at ≤ end) × (end ≤ length (now s)) ⌝ }
+    ensures { λ r. ⌜ WeightRead (now (s .entry)) at end (r .value) (r .end) ⌝ }
+{
+    let none = text::Number { value: 0, end: end };
+    let a = text::find(s, at, end, b',');
+    if !text::word(s, at, a, b"BUY") {
+        return none;
+    }
+    if a == end {
+        return none;
+    }
+    let f = text::read_number(s, a + 1, end);
+    if f.end == a + 1 {
+        return none;
+    }
+    f
 }
 
 // The line of buyer j.
@@ -282,15 +314,16 @@ pub fn buy_line(
     requires { ⌜ (at ≤ end) × (end ≤ length (now s)) × (vertices ≤ 1024) × (first ≤ 8192) × (8192 ≤ length (now loadedpins)) × (length (now stamps) ≡ 1024) × Fresh j (now stamps) ⌝ }
     ensures { λ r. ⌜ BuyRead (fields (slice at end (now (s .entry)))) vertices j first r (now (loadedpins .entry)) (now (loadedpins .exit)) (now (stamps .exit)) ⌝ }
 {
-    if text::form(s, at, end, b"BUY") < 3 {
+    let f = read_weight(s, at, end);
+    let w = f.value;
+    let e = f.end;
+    if e == end {
         return Buy::NoBuy(2);
     }
-    let w = text::get(s, at, end, 1);
     if !between(1, 1000, w) {
-        return Buy::NoBuy(3);
+        return Buy::NoBuy(refusal(s, e + 1, end, 3));
     }
-    let b = text::third(s, at, end);
-    match read_pins(s, b, end, vertices, j, first, loadedpins, stamps) {
+    match read_pins(s, e + 1, end, vertices, j, first, loadedpins, stamps) {
         Pinned::Good(m) => Buy::Bought(w as u16, m),
         Pinned::Wrong(q) => Buy::NoBuy(q),
     }

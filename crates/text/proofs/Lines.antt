@@ -12,7 +12,7 @@ use borrow.Author.Tests.{ltb-true, ltb-false, eq-eqb, ne-eqb}
 use Rattle.laws.specs.Fold.{all}
 use Rattle.laws.specs.Choice.{and-left, and-right}
 use Rattle.model.specs.Grammar.{Fields, same, parts, isNumber, value, fields, bytes, isLine, isLineOf}
-use Rattle.text.specs.Field.{first, FirstAt, NumberEnd, FieldRead, counted, formOf, Numbered, Third}
+use Rattle.text.specs.Field.{first, FirstAt, NumberEnd, FieldRead, counted, formOf, Numbered}
 use Rattle.text.proofs.Walk.{first-within, fields-on, fields-one, parts-some}
 
 -- ---- the parts from a cursor on, where `find` answered e
@@ -181,22 +181,3 @@ module _ (word : String) (w : List ℕ) (n r : ℕ) (l : List ℕ) (is : bytes w
 
   pub line-no : (r ≡ suc n → ⊥) → isLineOf word n (fields l) ≡ false
   line-no e = of ∙ ne-eqb r (suc n) e
-
--- ---- the third field
-module _ (s : List ℕ) (at end a : ℕ) (le : at ≤ end) (within : end ≤ length s) (found : FirstAt s at end 44 a) (long : 3 ≤ length (fields (slice at end s))) where
-  pub third-one : a ≡ end → ⊥
-  unfolding fields
-  third-one x = omega (arith, long, ap length (parts-last s at end 44 a le within found x))
-
-  module _ (more : a < end) (b : ℕ) (found2 : FirstAt s (a + 1) end 44 b) where
-    pub third-two : b ≡ end → ⊥
-    unfolding fields
-    third-two x = omega (arith, long, ap length (parts-on s at end 44 a le within found more), ap length (parts-last s (a + 1) end 44 b (omega arith) within found2 x))
-
-    pub third-here : b < end → Third s at end (b + 1)
-    unfolding fields
-    third-here x = record {
-      low = omega (arith, found .low, found2 .low);
-      high = omega arith;
-      is = sym (ap (drop 2) (parts-on s at end 44 a le within found more) ∙ ap (drop 1) (parts-on s (a + 1) end 44 b (omega arith) within found2 x));
-    }

@@ -7,7 +7,7 @@ use lib.Dec.{eqb}
 use lib.ListN.{length, getD, drop}
 use lib.Seq.{slice}
 use Rattle.laws.specs.Fold.{all}
-use Rattle.model.specs.Grammar.{Fields, same, parts, fields, isDigit, isNumber, value}
+use Rattle.model.specs.Grammar.{Fields, same, isDigit, isNumber, value}
 
 -- how many elements stand before the first separator: all of them, where there is none
 abbrev pub first : ℕ → List ℕ → ℕ
@@ -69,9 +69,3 @@ formOf w fs = cond (same (getD fs 0 []) w) (counted 1 (drop 1 fs)) 0
 pub record Numbered (fs : Fields) (i : ℕ) : Type 0 where
   pub inside : i < length fs
   pub is : isNumber (getD fs i []) ≡ true
-
--- the third field of the line from `at` to `end` starts at r
-pub record Third (s : List ℕ) (at end r : ℕ) : Type 0 where
-  pub low : at ≤ r
-  pub high : r ≤ end
-  pub is : parts 44 (slice r end s) ≡ drop 2 (fields (slice at end s))

@@ -8,7 +8,7 @@ ghost use lib.ListN.{length};
 ghost use lib.Seq.{slice};
 ghost use Rattle.model.specs.Grammar.{same, parts, fields, within, at as fieldAt};
 ghost use Rattle.model.specs.Report.{digits};
-ghost use Rattle.text.specs.Field.{FirstAt, Without, NineDigits, DigitsRead, NumberEnd, NumberRead, FieldRead, counted, formOf, Numbered, Third};
+ghost use Rattle.text.specs.Field.{FirstAt, Without, NineDigits, DigitsRead, NumberEnd, NumberRead, FieldRead, counted, formOf, Numbered};
 ghost use Rattle.text.specs.Output.{written, signOf};
 
 // A number, and where its field ends.
@@ -172,7 +172,7 @@ pub fn word(s: &[u8], at: usize, end: usize, w: &[u8]) -> bool
 }
 
 // One more than the number of fields from `at` to `end`, if each is a number; else 0.
-fn count(s: &[u8], at: usize, end: usize) -> usize
+pub fn count(s: &[u8], at: usize, end: usize) -> usize
     requires { ⌜ (1 ≤ at) × (at ≤ end) × (end ≤ length (now s)) ⌝ }
     ensures { λ r. ⌜ r ≡ counted 1 (parts 44 (slice at end (now (s .entry)))) ⌝ }
 {
@@ -222,22 +222,6 @@ pub fn get(s: &[u8], at: usize, end: usize, i: usize) -> u32
         k -= 1;
     }
     read_field(s, a, end).value
-}
-
-// Where the third field of a line starts.
-pub fn third(s: &[u8], at: usize, end: usize) -> usize
-    requires { ⌜ (at ≤ end) × (end ≤ length (now s)) × (3 ≤ length (fields (slice at end (now s)))) ⌝ }
-    ensures { λ r. ⌜ Third (now (s .entry)) at end r ⌝ }
-{
-    let a = find(s, at, end, b',');
-    if a == end {
-        return end;
-    }
-    let b = find(s, a + 1, end, b',');
-    if b == end {
-        return end;
-    }
-    b + 1
 }
 
 // Writes x in base ten from `at` on, and says where it ends.

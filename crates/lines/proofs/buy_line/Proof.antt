@@ -1,68 +1,64 @@
 -- `lines::buy_line` meets its contract.
-use mathlib.Core.List.{List, [], _∷_}
-use Prim.Native.Nat.{_-_}
-use lib.Seq.{slice}
-use lib.Dec.{leb}
-use borrow.Author.Tests.{not-true, not-false, leb-true}
 use native.Mathlib.Omega.{arith}
-use mathlib.Core.Path.{sym, _∙_, ap}
+use mathlib.Core.Path.{sym, _∙_}
+use lib.Dec.{leb}
 use denote.Ref.{now}
+use borrow.Author.Tests.{not-true, not-false, leb-true}
 use borrow.Author.Needs.{needs}
-use Rattle.laws.specs.Fold.{all}
 use Rattle.laws.specs.Choice.{and-right}
-use Rattle.model.specs.Grammar.{fields, isNumber}
-use Rattle.text.proofs.Lines.{numbered}
-use Rattle.lines.proofs.Asks.{word-BUY}
-use Rattle.lines.proofs.Bids.{buy-long, buy-rest, buy-bad, buy-range, buy-read, buy-wrong}
+use Rattle.lines.proofs.Bids.{buy-bad, buy-range, buy-read, buy-wrong}
 use Rattle.lines.proofs.buy_line.Statement.{statement}
 use Rattle.lines.proofs.buy_line.Tie as tie
 
-slice-aggregate-form : tie.Need-slice-aggregate-form
-slice-aggregate-form c = search needs
-
-form-requires : tie.Need-form-requires
-form-requires c κs = search needs
+read-weight-requires : tie.Need-read-weight-requires
+read-weight-requires c κs = search needs
 
 returns : tie.Need-returns
 returns c =
-    let start = c .before .before .before .before .before in
-    let a = start .args in let x = slice (a .at) (a .end) (now (a .s)) in buy-bad (now (a .s)) (a .at) (a .end) (a .vertices) (a .j) (a .first) (now (a .loadedpins)) (now (a .stamps)) (start .pre .5) (c .before .form .result) word-BUY (c .before .form .ensures) (c .if1 .taken)
-
-get-requires : tie.Need-get-requires
-get-requires c κs =
-    let start = c .before .before .before .before .before in
-    let a = start .args in let x = slice (a .at) (a .end) (now (a .s)) in (omega arith, omega arith, numbered (66 ∷ 85 ∷ 89 ∷ []) (fields x) (c .before .form .result - 1) 1 (sym (c .before .form .ensures) ∙ omega arith) (omega arith) (omega arith))
+    let start = c .before .before .before .before in
+    let a = c .before .before .before .before .args in
+    let f = c .before .read-weight in
+    buy-bad (now (a .s)) (a .at) (a .end) (a .vertices) (a .j) (a .first) (now (a .loadedpins)) (now (a .stamps)) (start .pre .5) (f .result .value) (f .result .end) (f .ensures) (c .if1 .taken)
 
 between-requires : tie.Need-between-requires
 between-requires c κs = search needs
 
+add-refusal : tie.Need-add-refusal
+add-refusal c = search needs
+
+refusal-requires : tie.Need-refusal-requires
+refusal-requires c κs =
+    let at-read-weight = c .before .before .before in
+    (omega arith, omega (arith, at-read-weight .read-weight .ensures .high), omega arith)
+
 returns-2 : tie.Need-returns-2
 returns-2 c =
-    let at-form = c .before .before .before .before in
-    let start = at-form .before .before .before .before in
-    let a = start .args in let x = slice (a .at) (a .end) (now (a .s)) in buy-range (now (a .s)) (a .at) (a .end) (a .vertices) (a .j) (a .first) (now (a .loadedpins)) (now (a .stamps)) (start .pre .5) (at-form .form .result) word-BUY (at-form .form .ensures) (omega arith) (c .before .before .get .result) (c .before .before .get .ensures) (sym (c .before .between .ensures) ∙ not-true _ (c .if2 .taken))
+    let at-read-weight = c .before .before .before .before in
+    let start = at-read-weight .before .before .before in
+    let a = c .before .before .before .before .before .before .before .args in
+    let f = at-read-weight .read-weight in
+    buy-range (now (a .s)) (a .at) (a .end) (a .vertices) (a .j) (a .first) (now (a .loadedpins)) (now (a .stamps)) (start .pre .5) (f .result .value) (f .result .end) (f .ensures)
+    (omega (arith, f .ensures .high)) (sym (c .before .before .between .ensures) ∙ not-true _ (c .before .if2 .taken)) (c .refusal .result) (c .refusal .ensures)
 
-third-requires : tie.Need-third-requires
-third-requires c κs =
-    let at-form = c .before .before .before .before in
-    let start = at-form .before .before .before .before in
-    let a = start .args in let x = slice (a .at) (a .end) (now (a .s)) in (omega arith, omega arith, buy-long x (at-form .form .result) word-BUY (at-form .form .ensures) (omega arith))
+add-read-pins : tie.Need-add-read-pins
+add-read-pins c = search needs
 
 read-pins-requires : tie.Need-read-pins-requires
 read-pins-requires c κs =
-    let at-form = c .before .before .before .before .before .before .before in
-    let start = at-form .before .before .before .before in
-    let a = start .args in let x = slice (a .at) (a .end) (now (a .s)) in (omega arith, omega arith, ap (λ (fs : List (List _)). all fs isNumber) (c .before .before .third .ensures .is) ∙ buy-rest x (at-form .form .result) word-BUY (at-form .form .ensures) (omega arith), start .pre .2, start .pre .3, start .pre .4, start .pre .5, start .pre .6)
+    let at-read-weight = c .before .before .before .before .before in
+    let p = c .before .before .before .before .before .before .before .before .pre in
+    (omega arith, omega (arith, at-read-weight .read-weight .ensures .high), omega arith, p .2, p .3, p .4, p .5, p .6)
 
 enum-known-m : tie.Need-enum-known-m
 enum-known-m c = search needs
 
 cast-t24 : tie.Need-cast-t24
 cast-t24 c =
-    let at-if2 = c .before .before .before .before .before .before .before .before .before in
+    let at-if2 = c .before .before .before .before .before .before .before .before in
     let at-between = at-if2 .before in
-    let at-get = at-between .before in
-    omega (arith, leb-true (at-get .get .result) 1000 (and-right (leb 1 (at-get .get .result)) _ (sym (at-between .between .ensures) ∙ not-false _ (at-if2 .if2 .left))))
+    let at-read-weight = at-between .before .before in
+    let w = at-read-weight .read-weight .result .value in
+    omega (arith, leb-true w 1000 (and-right (leb 1 w) _ (sym (at-between .between .ensures) ∙ not-false _ (at-if2 .if2 .left))))
 
 enum-known-q : tie.Need-enum-known-q
 enum-known-q c = search needs
@@ -73,13 +69,15 @@ same-length c = search needs
 returns-3 : tie.Need-returns-3
 returns-3 c =
     let at-read-pins = c .before .before .before .before .before in
-    let at-third = at-read-pins .before .before .before in
-    let at-if2 = at-third .before in
+    let at-if2 = at-read-pins .before .before .before in
     let at-between = at-if2 .before in
-    let at-get = at-between .before in
-    let at-form = at-get .before .before in
-    let start = at-form .before .before .before .before in
-    let a = start .args in let x = slice (a .at) (a .end) (now (a .s)) in buy-read (now (a .s)) (a .at) (a .end) (a .vertices) (a .j) (a .first) (now (a .loadedpins)) (now (a .stamps)) (start .pre .5) (at-form .form .result) word-BUY (at-form .form .ensures) (omega arith) (at-get .get .result) (at-get .get .ensures) (sym (at-between .between .ensures) ∙ not-false _ (at-if2 .if2 .left)) (at-third .third .result) (at-third .third .ensures) (at-read-pins .read-pins .result) (at-read-pins .read-pins .last .1 .1 .1 .1 .1 .1 .0) (at-read-pins .read-pins .last .1 .1 .1 .1 .1 .1 .1 .0) (at-read-pins .read-pins .ensures) (c .before .m .given .0 .0) (c .before .m .given .1)
+    let at-read-weight = at-between .before .before in
+    let start = at-read-weight .before .before .before in
+    let a = c .before .before .before .before .before .before .before .before .before .before .before .before .before .before .args in
+    let f = at-read-weight .read-weight in
+    let r = at-read-pins .read-pins in
+    buy-read (now (a .s)) (a .at) (a .end) (a .vertices) (a .j) (a .first) (now (a .loadedpins)) (now (a .stamps)) (start .pre .5) (f .result .value) (f .result .end) (f .ensures)
+    (omega (arith, f .ensures .high)) (sym (at-between .between .ensures) ∙ not-false _ (at-if2 .if2 .left)) (r .result) (r .last .1 .1 .1 .1 .1 .1 .0) (r .last .1 .1 .1 .1 .1 .1 .1 .0) (r .ensures) (c .before .m .given .0 .0) (c .before .m .given .1)
 
 same-length-2 : tie.Need-same-length-2
 same-length-2 c = search needs
@@ -87,25 +85,27 @@ same-length-2 c = search needs
 returns-4 : tie.Need-returns-4
 returns-4 c =
     let at-read-pins = c .before .before .before .before .before in
-    let at-third = at-read-pins .before .before .before in
-    let at-if2 = at-third .before in
+    let at-if2 = at-read-pins .before .before .before in
     let at-between = at-if2 .before in
-    let at-get = at-between .before in
-    let at-form = at-get .before .before in
-    let start = at-form .before .before .before .before in
-    let a = start .args in let x = slice (a .at) (a .end) (now (a .s)) in buy-wrong (now (a .s)) (a .at) (a .end) (a .vertices) (a .j) (a .first) (now (a .loadedpins)) (now (a .stamps)) (start .pre .5) (at-form .form .result) word-BUY (at-form .form .ensures) (omega arith) (at-get .get .result) (at-get .get .ensures) (sym (at-between .between .ensures) ∙ not-false _ (at-if2 .if2 .left)) (at-third .third .result) (at-third .third .ensures) (at-read-pins .read-pins .result) (at-read-pins .read-pins .last .1 .1 .1 .1 .1 .1 .0) (at-read-pins .read-pins .last .1 .1 .1 .1 .1 .1 .1 .0) (at-read-pins .read-pins .ensures) (c .before .q .given .0 .0) (c .before .q .given .1)
+    let at-read-weight = at-between .before .before in
+    let start = at-read-weight .before .before .before in
+    let a = c .before .before .before .before .before .before .before .before .before .before .before .before .before .before .args in
+    let f = at-read-weight .read-weight in
+    let r = at-read-pins .read-pins in
+    buy-wrong (now (a .s)) (a .at) (a .end) (a .vertices) (a .j) (a .first) (now (a .loadedpins)) (now (a .stamps)) (start .pre .5) (f .result .value) (f .result .end) (f .ensures)
+    (omega (arith, f .ensures .high)) (sym (at-between .between .ensures) ∙ not-false _ (at-if2 .if2 .left)) (r .result) (r .last .1 .1 .1 .1 .1 .1 .0) (r .last .1 .1 .1 .1 .1 .1 .1 .0) (r .ensures) (c .before .q .given .0 .0) (c .before .q .given .1)
 
 pub buy-line-spec : {M : Type 1} → statement M
 buy-line-spec =
     tie.close
     (tie.spec
-    slice-aggregate-form
-    form-requires
+    read-weight-requires
     returns
-    get-requires
     between-requires
+    add-refusal
+    refusal-requires
     returns-2
-    third-requires
+    add-read-pins
     read-pins-requires
     enum-known-m
     cast-t24
