@@ -7,10 +7,10 @@ use native.Mathlib.Omega.{arith}
 use native.Mathlib.Numerals.{add-one}
 use native.Mathlib.Nat.{add-zero}
 use lib.ListN.{length, take, drop, set, getD, length-append, take-append-drop}
-use lib.Seq.{take-at, take-suc, take-all, drop-append-add, drop-drop, length-take-le}
+use lib.Seq.{take-suc, take-all, length-take-le}
 use Rattle.model.specs.Report.{digits, tail}
 use Rattle.text.specs.Output.{written}
-use Rattle.text.proofs.Digits.{written-one, length-written}
+use Rattle.text.proofs.Digits.{written-one, written-append, length-written}
 use Rattle.model.specs.CatalogueText.{numbers}
 use Rattle.fields.specs.Wrote.{Wrote, Remains}
 
@@ -23,20 +23,6 @@ wrote-none l at = record {
 
 pub wrote-length : {l l′ : List ℕ} {at : ℕ} {d : List ℕ} {r : ℕ} → Wrote l l′ at d r → at + length d ≤ length l → length l′ ≡ length l
 wrote-length {l} {l′} {at} {d} w h = ap length (w .is) ∙ length-written l d at h
-
-written-append : (l : List ℕ) (at : ℕ) (d e : List ℕ) → at + length d ≤ length l → written (written l at d) (at + length d) e ≡ written l at (d ++ e)
-unfolding written
-written-append l at d e h =
-    let n : length (take at l ++ d) ≡ at + length d = length-append (take at l) d ∙ ap (λ (k : ℕ). k + length d) (length-take-le at l (omega arith)) in
-    let ends : at + length d + length e ≡ at + length (d ++ e) = omega (arith, length-append d e) in
-    let back : drop (at + length d + length e) (take at l ++ d ++ drop (at + length d) l) ≡ drop (at + length (d ++ e)) l =
-    ap (λ (k : ℕ). drop (k + length e) (take at l ++ d ++ drop (at + length d) l)) (sym n)
-    ∙ drop-append-add (take at l ++ d) (drop (at + length d) l) (length e)
-    ∙ drop-drop (length e) (at + length d) l
-    ∙ ap (λ (k : ℕ). drop k l) ends in
-    ap (λ (t : List ℕ). t ++ e ++ drop (at + length d + length e) (take at l ++ d ++ drop (at + length d) l)) (take-at (take at l ++ d) (drop (at + length d) l) (at + length d) n)
-    ∙ ap (λ (t : List ℕ). take at l ++ d ++ e ++ t) back
-    ∙ ap (λ (t : List ℕ). t ++ drop (at + length (d ++ e)) l) (append-assoc (take at l) d e)
 
 -- one text after another
 pub wrote-append : {l m l′ : List ℕ} {at : ℕ} {d e : List ℕ} {p r : ℕ} → at + length d ≤ length l → Wrote l m at d p → Wrote m l′ p e r → Wrote l l′ at (d ++ e) r

@@ -9,7 +9,7 @@ ghost use lib.Seq.{slice};
 ghost use Rattle.model.specs.Grammar.{same, parts, fields, within, at as fieldAt};
 ghost use Rattle.model.specs.Report.{digits};
 ghost use Rattle.text.specs.Field.{FirstAt, Without, NineDigits, DigitsRead, NumberEnd, NumberRead, FieldRead, counted, formOf, Numbered};
-ghost use Rattle.text.specs.Output.{written, signOf};
+ghost use Rattle.text.specs.Output.{written, lastThree, signOf};
 
 // A number, and where its field ends.
 pub struct Number {
@@ -224,18 +224,44 @@ pub fn get(s: &[u8], at: usize, end: usize, i: usize) -> u32
     read_field(s, a, end).value
 }
 
-// Writes x in base ten from `at` on, and says where it ends.
-pub fn put_number(out: &mut [u8], at: usize, x: u32) -> usize
-    requires { ⌜ at + length (digits x) ≤ length (now out) ⌝ }
+// Writes the last three digits of x from `at` on, and says where they end.
+fn put_three(out: &mut [u8], at: usize, x: u32) -> usize
+    requires { ⌜ at + 3 ≤ length (now out) ⌝ }
+    ensures { λ r. ⌜ (r ≡ at + 3) × (now (out .exit) ≡ written (now (out .entry)) at (lastThree x)) ⌝ }
+{
+    out[at] = b'0' + (x / 100 % 10) as u8;
+    out[at + 1] = b'0' + (x / 10 % 10) as u8;
+    out[at + 2] = b'0' + (x % 10) as u8;
+    at + 3
+}
+
+// Writes x, below 1,000, in base ten from `at` on, and says where it ends.
+fn put_short(out: &mut [u8], at: usize, x: u32) -> usize
+    requires { ⌜ (x < 1000) × (at + length (digits x) ≤ length (now out)) ⌝ }
     ensures { λ r. ⌜ (r ≡ at + length (digits x)) × (now (out .exit) ≡ written (now (out .entry)) at (digits x)) ⌝ }
 {
     if x < 10 {
         out[at] = b'0' + x as u8;
         return at + 1;
     }
-    let n = put_number(out, at, x / 10);
-    out[n] = b'0' + (x % 10) as u8;
-    n + 1
+    if x < 100 {
+        out[at] = b'0' + (x / 10) as u8;
+        out[at + 1] = b'0' + (x % 10) as u8;
+        return at + 2;
+    }
+    put_three(out, at, x)
+}
+
+// Writes x in base ten from `at` on, and says where it ends.
+pub fn put_number(out: &mut [u8], at: usize, x: u32) -> usize
+    requires { ⌜ at + length (digits x) ≤ length (now out) ⌝ }
+    ensures { λ r. ⌜ (r ≡ at + length (digits x)) × (now (out .exit) ≡ written (now (out .entry)) at (digits x)) ⌝ }
+{
+    if x < 1000 {
+        return put_short(out, at, x);
+    }
+    let n = put_number(out, at, x / 1000);
+    put_three(out, n, x)
 }
 
 // A number's size and its side of 0.

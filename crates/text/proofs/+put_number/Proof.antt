@@ -1,16 +1,20 @@
 -- `text::put_number` meets its contract.
-use Prim.Native.Nat.{_+_, _/_, _%_}
-use lib.ListN.{length-set}
-use Rattle.model.specs.Report.{digits}
-use Rattle.text.proofs.Digits.{length-small, length-more, digits-small, digits-more, written-one, written-more}
+use Prim.Native.Nat.{_/_}
+use mathlib.Core.List.{List}
+use mathlib.Core.Path.{ap, sym, _∙_}
 use native.Mathlib.Omega.{arith}
 use denote.Ref.{now}
+use Rattle.model.specs.Report.{digits}
+use Rattle.text.specs.Output.{written, lastThree}
+use Rattle.text.proofs.Digits.{digits-thousand, length-thousand, written-append}
 use Prim.Native.Nat.{ℕ, _<_}
 use borrow.Fn.Kinds.{In}
 use borrow.Fn.PlainCycle.{Measures, is, falls, and}
 use Rattle.text.proofs.put_number.Reads as put-number
 use Rattle.text.proofs.put_number.Kinds as put-number-kinds
 use Rattle.text.proofs.+put_number.Lts-put_number as put-number-lts
+use Rattle.text.proofs.put_short.Reads as put-short-reads
+use Rattle.text.proofs.put_three.Reads as put-three-reads
 use Rattle.text.proofs.+put_number.{statement}
 use Rattle.text.proofs.+put_number.Tie.{close}
 
@@ -25,122 +29,110 @@ abbrev put-number-below : ℕ → In 1 put-number-kinds.ps
 put-number-below t =
     and 1 put-number-kinds.ps (falls 1 put-number-kinds.ps _<_ μ-put-number t) put-number.Pre
 
-put-number-cast-out :
-    (t : ℕ) →
-    put-number-lts.Need-cast-out
-    (put-number-below t, put-number.Post)
-    (put-number-at t)
-    put-number.Post
-put-number-cast-out t c = omega arith
-
-put-number-add-out :
-    (t : ℕ) →
-    put-number-lts.Need-add-out
-    (put-number-below t, put-number.Post)
-    (put-number-at t)
-    put-number.Post
-put-number-add-out t c = omega arith
-
-put-number-slice-write-out : (t : ℕ) → put-number-lts.Need-slice-write-out (
+put-number-put-short-requires : (t : ℕ) → put-number-lts.Need-put-short-requires (
+  put-short-reads.Asked,
+  put-short-reads.Learnt,
   put-number-below t,
   put-number.Post,
+  put-three-reads.Asked,
+  put-three-reads.Learnt,
 ) (put-number-at t) put-number.Post
-put-number-slice-write-out t c = let a = c .before .before .args in omega (arith, length-small (a .x) (c .if1 .taken))
-
-put-number-add-result : (t : ℕ) → put-number-lts.Need-add-result (
-  put-number-below t,
-  put-number.Post,
-) (put-number-at t) put-number.Post
-put-number-add-result t c = let a = c .before .before .args in omega (arith, length-small (a .x) (c .if1 .taken))
+put-number-put-short-requires t c κs = (omega arith, omega arith)
 
 put-number-same-length : (t : ℕ) → put-number-lts.Need-same-length (
+  put-short-reads.Asked,
+  put-short-reads.Learnt,
   put-number-below t,
   put-number.Post,
+  put-three-reads.Asked,
+  put-three-reads.Learnt,
 ) (put-number-at t) put-number.Post
-put-number-same-length t c = simp length-set
+put-number-same-length t c = c .before .before .put-short .kept .0
 
-put-number-returns :
-    (t : ℕ) →
-    put-number-lts.Need-returns
-    (put-number-below t, put-number.Post)
-    (put-number-at t)
-    put-number.Post
-put-number-returns t c = let a = c .before .before .args in let s = length-small (a .x) (c .if1 .taken) in
-    (omega arith, rw (digits-small (a .x) (c .if1 .taken)) (written-one (now (a .out)) (a .at) (48 + a .x) (omega arith)))
+put-number-returns : (t : ℕ) → put-number-lts.Need-returns (
+  put-short-reads.Asked,
+  put-short-reads.Learnt,
+  put-number-below t,
+  put-number.Post,
+  put-three-reads.Asked,
+  put-three-reads.Learnt,
+) (put-number-at t) put-number.Post
+put-number-returns t c = c .before .before .put-short .ensures
 
 put-number-put-number-requires : (t : ℕ) → put-number-lts.Need-put-number-requires (
+  put-short-reads.Asked,
+  put-short-reads.Learnt,
   put-number-below t,
   put-number.Post,
+  put-three-reads.Asked,
+  put-three-reads.Learnt,
 ) (put-number-at t) put-number.Post
-put-number-put-number-requires t c κs = let a = c .before .before .before .args in
-    let l = length-more (a .x) (c .before .if1 .left) in
+put-number-put-number-requires t c κs =
+    let a = c .before .before .before .args in
+    let l = length-thousand (a .x) (c .before .if1 .left) in
     (omega arith, omega arith)
 
-put-number-cast-out-2 : (t : ℕ) → put-number-lts.Need-cast-out-2 (
+put-number-put-three-requires : (t : ℕ) → put-number-lts.Need-put-three-requires (
+  put-short-reads.Asked,
+  put-short-reads.Learnt,
   put-number-below t,
   put-number.Post,
+  put-three-reads.Asked,
+  put-three-reads.Learnt,
 ) (put-number-at t) put-number.Post
-put-number-cast-out-2 t c = omega arith
-
-put-number-add-out-2 : (t : ℕ) → put-number-lts.Need-add-out-2 (
-  put-number-below t,
-  put-number.Post,
-) (put-number-at t) put-number.Post
-put-number-add-out-2 t c = omega arith
-
-put-number-slice-write-out-2 : (t : ℕ) → put-number-lts.Need-slice-write-out-2 (
-  put-number-below t,
-  put-number.Post,
-) (put-number-at t) put-number.Post
-put-number-slice-write-out-2 t c = let p = c .before .before in
-    let a = p .before .before .before .before .args in
-    let l = length-more (a .x) (omega arith) in
-    omega (arith, p .put-number .kept .0)
-
-put-number-add-result-2 : (t : ℕ) → put-number-lts.Need-add-result-2 (
-  put-number-below t,
-  put-number.Post,
-) (put-number-at t) put-number.Post
-put-number-add-result-2 t c = let p = c .before .before in
-    let a = p .before .before .before .before .args in
-    let l = length-more (a .x) (omega arith) in
-    omega (arith, p .put-number .ensures .0)
+put-number-put-three-requires t c κs =
+    let a = c .before .before .before .before .before .before .before .args in
+    let n = c .before .before .before .put-number in
+    omega (arith, n .ensures .0, n .kept .0, length-thousand (a .x) (c .before .before .before .before .before .if1 .left))
 
 put-number-same-length-2 : (t : ℕ) → put-number-lts.Need-same-length-2 (
+  put-short-reads.Asked,
+  put-short-reads.Learnt,
   put-number-below t,
   put-number.Post,
+  put-three-reads.Asked,
+  put-three-reads.Learnt,
 ) (put-number-at t) put-number.Post
-put-number-same-length-2 t c = simp length-set (c .before .before .put-number .kept .0)
+put-number-same-length-2 t c = c .before .before .put-three .kept .0 ∙ c .before .before .before .before .before .before .put-number .kept .0
 
 put-number-returns-2 : (t : ℕ) → put-number-lts.Need-returns-2 (
+  put-short-reads.Asked,
+  put-short-reads.Learnt,
   put-number-below t,
   put-number.Post,
+  put-three-reads.Asked,
+  put-three-reads.Learnt,
 ) (put-number-at t) put-number.Post
-put-number-returns-2 t c = let p = c .before .before in
-    let a = p .before .before .before .before .args in
-    let l = length-more (a .x) (omega arith) in
-    let e = p .put-number .ensures in (
-      omega arith,
-      rw (e .1, e .0, digits-more (a .x) (omega arith)) (written-more (now (a .out)) (digits (a .x / 10)) (a .at) (48 + a .x % 10) (omega arith)),
+put-number-returns-2 t c =
+    let a = c .before .before .before .before .before .before .before .before .before .before .args in
+    let high = c .before .before .before .before .before .before .before .before .if1 .left in
+    let n = c .before .before .before .before .before .before .put-number in
+    let e = c .before .before .put-three .ensures in
+    let ds = digits (a .x / 1000) in
+    let l = length-thousand (a .x) high in (
+      omega (arith, e .0, n .ensures .0),
+      e .1
+          ∙ ap (λ (m : List ℕ). written m (n .result) (lastThree (a .x))) (n .ensures .1)
+          ∙ ap (λ (k : ℕ). written (written (now (a .out)) (a .at) ds) k (lastThree (a .x))) (n .ensures .0)
+          ∙ written-append (now (a .out)) (a .at) ds (lastThree (a .x)) (omega arith)
+          ∙ ap (written (now (a .out)) (a .at)) (sym (digits-thousand (a .x) high)),
     )
 
 pub +put-number-spec : {M : Type 1} → statement M
 +put-number-spec = close μ-put-number λ t. put-number-lts.spec (
+  put-short-reads.Asked,
+  put-short-reads.Learnt,
   put-number-below t,
   put-number.Post,
+  put-three-reads.Asked,
+  put-three-reads.Learnt,
 )
     (put-number-at t)
     put-number.Post
-    (put-number-cast-out t)
-    (put-number-add-out t)
-    (put-number-slice-write-out t)
-    (put-number-add-result t)
+    (put-number-put-short-requires t)
     (put-number-same-length t)
     (put-number-returns t)
     (put-number-put-number-requires t)
-    (put-number-cast-out-2 t)
-    (put-number-add-out-2 t)
-    (put-number-slice-write-out-2 t)
-    (put-number-add-result-2 t)
+    (put-number-put-three-requires t)
     (put-number-same-length-2 t)
     (put-number-returns-2 t)
