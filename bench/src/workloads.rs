@@ -48,6 +48,16 @@ pub fn workloads() -> Vec<Workload> {
             catalogue(1024, 1024, 8, 16),
             cycle(),
         ),
+        workload(
+            "A, 16 sessions, 128 lists of 64",
+            catalogue(1024, 128, 64, 16),
+            cycle(),
+        ),
+        workload(
+            "A, 16 sessions, 8 lists of 1,024",
+            catalogue(1024, 8, 1024, 16),
+            cycle(),
+        ),
         workload("512 mixed calls, 256 lots", mixed, list),
         workload(
             "loading, 1,024 lists of 8",
