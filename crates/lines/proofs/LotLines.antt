@@ -5,13 +5,14 @@ use mathlib.Core.Bool.{Bool, true, false, not, _&&_, cond}
 use mathlib.Core.List.{List, [], _∷_}
 use native.Mathlib.Omega.{arith}
 use lib.Dec.{eqb, leb, ltb}
+use lib.ListN.{getD, drop}
 use lib.Seq.{slice}
 use borrow.Author.Tests.{eq-eqb, ne-eqb, leb-true}
 use Rattle.laws.specs.Choice.{and-right}
 use Rattle.model.specs.Catalogue.{isBlock}
 use Rattle.model.specs.Grammar.{Fields, Book, Reading, stopped, at as fieldAt, fields, isLineOf, within, endsInK, beforeK, grown, withLot, lotLine}
-use Rattle.text.specs.Field.{formOf, Numbered}
-use Rattle.text.proofs.Lines.{numbered, line-yes, line-no}
+use Rattle.text.specs.Field.{formOf, Kept}
+use Rattle.text.proofs.Lines.{kept-at, line-yes, line-no}
 use Rattle.lines.specs.Line.{book, FieldsEnd, numbersOf, balesRefusal, sessionRefusal, firstOf, LotRead}
 use Rattle.lines.specs.declared.Lot.the-variants.{Of, NoLot}
 use Rattle.lines.proofs.Asks.{word-LOT}
@@ -102,8 +103,10 @@ module _ (s : List ℕ) (at end last numbers form blocks : ℕ) (estimated : Boo
   lot-form other n k kind eb = by-end n k _ (sym (line-is n k (ltb last end) fs estimated kind false (line-no "LOT" (76 ∷ 79 ∷ 84 ∷ []) (numbersOf estimated) form (slice at last s) word-LOT told (λ e. other (omega arith)))))
 
   module _ (right : form ≡ numbers + 1) where
-    pub lot-number : (i : ℕ) → 1 ≤ i → i ≤ numbers → Numbered fs i
-    lot-number i l u = numbered (76 ∷ 79 ∷ 84 ∷ []) fs numbers i (sym told ∙ omega arith) l u
+    pub lot-value : (values : List ℕ) → Kept (drop 1 fs) form values → (i j : ℕ) → i ≡ j + 1 → i ≤ numbers → getD values j 0 ≡ fieldAt fs i
+    lot-value values kept i j e u =
+        let z : j ≡ i - 1 = omega arith in
+        ap (λ (m : ℕ). getD values m 0) z ∙ kept-at fs form values kept i (omega arith) (omega arith) (omega (arith, numbers-high estimated))
 
     module _ (low high b q : ℕ) (el : low ≡ fieldAt fs 1) (eh : high ≡ fieldAt fs (numbersOf estimated - 1)) (eb : b ≡ fieldAt fs numbers) (eq : q ≡ firstOf (balesRefusal low high) (sessionRefusal b blocks)) where
       says : (n : ℕ) (k : Book) → k .estimated ≡ estimated → k .graph .blocks ≡ blocks → lotLine n k (ltb last end) fs ≡ cond (eqb q 0) (taken n k (ltb last end) low high b) (stopped q n)

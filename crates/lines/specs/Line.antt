@@ -1,5 +1,5 @@
 -- What the functions for the first line, a lot line and a call line answer. Rests on model's grammar. Assumes nothing.
-use Prim.Native.Nat.{ℕ, _-_, _≤_}
+use Prim.Native.Nat.{ℕ, _≤_}
 use mathlib.Core.Path.{_≡_}
 use mathlib.Core.Bool.{Bool, true, cond, not, _&&_, _||_}
 use mathlib.Core.List.{List, []}
@@ -8,7 +8,7 @@ use lib.ListN.{getD}
 use lib.Seq.{slice}
 use Rattle.model.specs.Catalogue.{Limits, Hypergraph}
 use Rattle.model.specs.Machine.{Call}
-use Rattle.model.specs.Grammar.{Fields, Book, Reading, reading, stopped, asks, nothing, asked, callOf, grown, withLot, endsInK, beforeK, fields, at as fieldAt, within, isLineOf, saleLine, lotLine}
+use Rattle.model.specs.Grammar.{Fields, Book, Reading, reading, stopped, asks, nothing, asked, callOf, grown, withLot, endsInK, beforeK, fields, within, isLineOf, saleLine, lotLine}
 use Rattle.text.specs.Field.{Numbered}
 use Rattle.lines.specs.declared.Ask.{Ask}
 use Rattle.lines.specs.declared.Ask.the-variants.{Asks, Nothing}
@@ -75,11 +75,6 @@ pub record FieldsEnd (s : List ℕ) (at end r : ℕ) : Type 0 where
 -- how many numbers a lot line has: LOT,bales,session or LOT,low,high,session
 abbrev pub numbersOf : Bool → ℕ
 numbersOf estimated = cond estimated 3 2
-
--- the first number is read, and in an estimate there is a second
-pub record LowRead (fs : Fields) (estimated : Bool) (low : ℕ) : Type 0 where
-  pub low-is : low ≡ fieldAt fs 1
-  pub second : estimated ≡ true → Numbered fs 2
 
 -- the refusal of a lot's bales, of its session, and the first of two: 0 for none
 abbrev pub balesRefusal : ℕ → ℕ → ℕ

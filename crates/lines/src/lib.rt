@@ -1,11 +1,11 @@
 // One line of a sale file: the first line, a lot's, a buyer's, a call's. Each function is proved against a definition of model.
 use text::between;
 ghost use mathlib.Core.Path.{_≡_};
-ghost use Prim.Native.Nat.{_-_, _≤_};
+ghost use Prim.Native.Nat.{_≤_};
 ghost use lib.ListN.{length};
 ghost use lib.Seq.{slice};
-ghost use Rattle.model.specs.Grammar.{parts, fields, at as fieldAt};
-ghost use Rattle.lines.specs.Line.{limitsOf, CallRead, Announces, SaleRead, FieldsEnd, numbersOf, LowRead, balesRefusal, sessionRefusal, firstOf, LotRead};
+ghost use Rattle.model.specs.Grammar.{parts, fields};
+ghost use Rattle.lines.specs.Line.{limitsOf, CallRead, Announces, SaleRead, FieldsEnd, numbersOf, balesRefusal, sessionRefusal, firstOf, LotRead};
 ghost use Rattle.lines.specs.Mark.{Fresh, MarkOne, refusalOf, MarksRead, WeightRead, BuyRead};
 
 // A call line's call: the byte of its letter and its numbers.
@@ -141,17 +141,6 @@ fn numbers_of(estimated: bool) -> usize
     if estimated { 3 } else { 2 }
 }
 
-// A lot's most bales: the second number of an estimate's line; in a sale they are its least.
-fn high_of(s: &[u8], at: usize, end: usize, low: u32, estimated: bool) -> u32
-    requires { ⌜ (at ≤ end) × (end ≤ length (now s)) × LowRead (fields (slice at end (now s))) estimated low ⌝ }
-    ensures { λ r. ⌜ r ≡ fieldAt (fields (slice at end (now (s .entry)))) (numbersOf estimated - 1) ⌝ }
-{
-    if estimated {
-        return text::get(s, at, end, 2);
-    }
-    low
-}
-
 // The refusal of a lot's bales, or 0.
 fn refuses_bales(low: u32, high: u32) -> u8
     ensures { λ r. ⌜ r ≡ balesRefusal low high ⌝ }
@@ -182,19 +171,20 @@ fn first_of(one: u8, other: u8) -> u8
     if one == 0 { other } else { one }
 }
 
-// A lot line.
+// A lot line. In a sale its most bales are its least.
 pub fn lot_line(s: &[u8], at: usize, end: usize, blocks: u16, estimated: bool) -> Lot
     requires { ⌜ (at ≤ end) × (end ≤ length (now s)) ⌝ }
     ensures { λ r. ⌜ LotRead blocks estimated (slice at end (now (s .entry))) r ⌝ }
 {
     let last = before_k(s, at, end);
     let numbers = numbers_of(estimated);
-    if text::form(s, at, last, b"LOT") != numbers + 1 {
+    let mut values = [0u32; 4];
+    if text::read_line(s, at, last, b"LOT", &mut values) != numbers + 1 {
         return Lot::NoLot(2);
     }
-    let low = text::get(s, at, last, 1);
-    let high = high_of(s, at, last, low, estimated);
-    let block = text::get(s, at, last, numbers);
+    let low = values[0];
+    let high = values[numbers - 2];
+    let block = values[numbers - 1];
     let bales = refuses_bales(low, high);
     let session = refuses_session(block, blocks as u32);
     let q = first_of(bales, session);

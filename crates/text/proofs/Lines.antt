@@ -4,15 +4,16 @@ use Prim.Native.String.{String}
 use mathlib.Core.Path.{_≡_, refl, ap, sym, _∙_}
 use mathlib.Core.List.{List, [], _∷_}
 use mathlib.Core.Bool.{Bool, true, false, _&&_, cond}
+use native.Mathlib.Decide.{ℕ-discrete}
 use native.Mathlib.Omega.{arith}
-use lib.ListN.{length, getD, drop}
-use lib.Seq.{slice}
+use lib.ListN.{length, getD, drop, set, length-set}
+use lib.Seq.{slice, getD-drop, getD-set-same, getD-set-other}
 use lib.Dec.{eqb, ltb}
 use borrow.Author.Tests.{ltb-true, ltb-false, eq-eqb, ne-eqb}
 use Rattle.laws.specs.Fold.{all}
 use Rattle.laws.specs.Choice.{and-left, and-right}
 use Rattle.model.specs.Grammar.{Fields, same, parts, isNumber, value, fields, bytes, isLine, isLineOf}
-use Rattle.text.specs.Field.{first, FirstAt, NumberEnd, FieldRead, counted, formOf, Numbered}
+use Rattle.text.specs.Field.{first, FirstAt, NumberEnd, NumberRead, FieldRead, Keeps, Kept, counted, formOf, Numbered}
 use Rattle.text.proofs.Walk.{first-within, fields-on, fields-one, parts-some}
 
 -- ---- the parts from a cursor on, where `find` answered e
@@ -66,6 +67,74 @@ module _ (s : List ℕ) (i end e k : ℕ) (le : i ≤ end) (within : end ≤ len
     pub count-on : e < end → counted k (parts 44 (slice i end s)) ≡ counted (k + 1) (parts 44 (slice (e + 1) end s))
     count-on x = ap (counted k) (parts-on s i end 44 e le within (told .ends some) x) ∙ counted-on k (slice i e s) (parts 44 (slice (e + 1) end s)) (told .is some)
 
+-- ---- the values of the fields that are counted
+pub kept-none : (fs : Fields) (k : ℕ) (values : List ℕ) → k ≤ 1 → length values ≡ 4 → Kept fs k values
+kept-none fs k values h len = record { len = len; is = λ n l u. absurd (omega arith) }
+
+pub keeps-past : (k v : ℕ) (values : List ℕ) → 4 < k → Keeps k v values values
+keeps-past k v values h = record { len = refl; here = λ l. absurd (omega arith); before = λ n l. refl }
+
+pub keeps-one : (k v : ℕ) (values : List ℕ) → 1 ≤ k → k ≤ 4 → length values ≡ 4 → Keeps k v values (set values (k - 1) v)
+keeps-one k v values l u len = record {
+  len = length-set values (k - 1) v;
+  here = λ h. getD-set-same values (k - 1) v 0 (omega arith);
+  before = λ n h. getD-set-other values (k - 1) n v 0 (λ e. omega arith);
+}
+
+-- the fields from i on are those from the k-th on
+pub record OnNumbers (s : List ℕ) (at end k i : ℕ) (values : List ℕ) : Type 0 where
+  pub low : 1 ≤ k
+  pub below : k ≤ i
+  pub high : i ≤ end
+  pub counts : counted 1 (parts 44 (slice at end s)) ≡ counted k (parts 44 (slice i end s))
+  pub rest : (n : ℕ) → getD (parts 44 (slice at end s)) (k - 1 + n) [] ≡ getD (parts 44 (slice i end s)) n []
+  pub kept : Kept (parts 44 (slice at end s)) k values
+
+pub numbers-start : (s : List ℕ) (at end : ℕ) (values : List ℕ) → 1 ≤ at → at ≤ end → length values ≡ 4 → OnNumbers s at end 1 at values
+numbers-start s at end values l h len = record {
+  low = omega arith;
+  below = l;
+  high = h;
+  counts = refl;
+  rest = λ n. let e : 1 - 1 + n ≡ n = omega arith in ap (λ (m : ℕ). getD (parts 44 (slice at end s)) m []) e;
+  kept = kept-none (parts 44 (slice at end s)) 1 values (omega arith) len;
+}
+
+-- where `read_number` answered v and e, and v is kept
+module _ (s : List ℕ) (at end k i : ℕ) (values : List ℕ) (on : OnNumbers s at end k i values) (within : end ≤ length s) (v e : ℕ) (read : NumberRead s i end v e) where
+  pub numbers-bad : e ≡ i → 0 ≡ counted 1 (parts 44 (slice at end s))
+  numbers-bad z = sym (on .counts ∙ count-no s i end e k (on .high) within (read .ends) z)
+
+  module _ (some : i < e) (values′ : List ℕ) (keeps : Keeps k v values values′) where
+    here : v ≡ value (getD (parts 44 (slice at end s)) (k - 1) [])
+    here =
+        let z : k - 1 + 0 ≡ k - 1 = omega arith in
+        read .is some
+        ∙ ap (λ (fs : Fields). value (getD fs 0 [])) (sym (parts-first s i end 44 e (on .high) within (read .ends .ends some) .1))
+        ∙ ap value (sym (on .rest 0) ∙ ap (λ (m : ℕ). getD (parts 44 (slice at end s)) m []) z)
+
+    pub numbers-kept : Kept (parts 44 (slice at end s)) (k + 1) values′
+    numbers-kept = record { len = keeps .len ∙ on .kept .len; is = λ n l u. go n l u (ℕ-discrete n (k - 1)) }
+      where
+        go : (n : ℕ) → n + 1 < k + 1 → n < 4 → Dec (n ≡ k - 1) → getD values′ n 0 ≡ value (getD (parts 44 (slice at end s)) n [])
+        go n l u (yes z) = ap (λ (m : ℕ). getD values′ m 0) z ∙ keeps .here (omega (arith, on .low)) ∙ here ∙ ap (λ (m : ℕ). value (getD (parts 44 (slice at end s)) m [])) (sym z)
+        go n l u (no z) = keeps .before n (omega (arith, on .low)) ∙ on .kept .is n (omega (arith, on .low)) u
+
+    pub numbers-last : e ≡ end → k + 1 ≡ counted 1 (parts 44 (slice at end s))
+    numbers-last x = sym (on .counts ∙ count-last s i end e k (on .high) within (read .ends) some x)
+
+    pub numbers-on : e < end → OnNumbers s at end (k + 1) (e + 1) values′
+    numbers-on x = record {
+      low = omega arith;
+      below = omega (arith, on .below);
+      high = omega arith;
+      counts = on .counts ∙ count-on s i end e k (on .high) within (read .ends) some x;
+      rest = λ n.
+          let z : k + 1 - 1 + n ≡ k - 1 + suc n = omega (arith, on .low) in
+          ap (λ (m : ℕ). getD (parts 44 (slice at end s)) m []) z ∙ on .rest (suc n) ∙ ap (λ (fs : Fields). getD fs (suc n) []) (parts-on s i end 44 e (on .high) within (read .ends .ends some) x);
+      kept = numbers-kept;
+    }
+
 -- ---- the form of a line
 module _ (s w : List ℕ) (at end a : ℕ) (le : at ≤ end) (within : end ≤ length s) (found : FirstAt s at end 44 a) where
   pub form-no : same (slice at a s) w ≡ false → 0 ≡ formOf w (fields (slice at end s))
@@ -79,6 +148,14 @@ module _ (s w : List ℕ) (at end a : ℕ) (le : at ≤ end) (within : end ≤ l
   pub form-on : same (slice at a s) w ≡ true → a < end → counted 1 (parts 44 (slice (a + 1) end s)) ≡ formOf w (fields (slice at end s))
   unfolding formOf fields
   form-on h x = rw (parts-on s at end 44 a le within found x, h)
+
+  pub form-kept : a < end → (r : ℕ) (values : List ℕ) → Kept (parts 44 (slice (a + 1) end s)) r values → Kept (drop 1 (fields (slice at end s))) r values
+  unfolding fields
+  form-kept x r values k = rw (parts-on s at end 44 a le within found x) k
+
+-- the value of a field, the first after the word being 1
+pub kept-at : (fs : Fields) (r : ℕ) (values : List ℕ) → Kept (drop 1 fs) r values → (i : ℕ) → 1 ≤ i → i < r → i ≤ 4 → getD values (i - 1) 0 ≡ value (getD fs i [])
+kept-at fs r values k i l h u = let e : 1 + (i - 1) ≡ i = omega arith in k .is (i - 1) (omega arith) (omega arith) ∙ ap value (getD-drop 1 fs (i - 1) [] ∙ ap (λ (m : ℕ). getD fs m []) e)
 
 -- ---- the i-th field
 numbered-tail : (f : List ℕ) (fs : Fields) (k : ℕ) → 0 < k → Numbered (f ∷ fs) k → Numbered fs (k - 1)

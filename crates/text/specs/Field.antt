@@ -1,5 +1,5 @@
 -- The first separator of a stretch of bytes, where a field that is a number ends and what its value is, and a line's form. Rests on model's grammar. Assumes nothing.
-use Prim.Native.Nat.{ℕ, zero, suc, _+_, _≤_, _<_}
+use Prim.Native.Nat.{ℕ, zero, suc, _+_, _-_, _≤_, _<_}
 use mathlib.Core.Path.{_≡_}
 use mathlib.Core.Bool.{true, false, cond}
 use mathlib.Core.List.{List, [], _∷_}
@@ -56,6 +56,17 @@ pub record NumberRead (s : List ℕ) (at end v r : ℕ) : Type 0 where
 pub record FieldRead (s : List ℕ) (at end v e : ℕ) : Type 0 where
   pub ends : FirstAt s at end 44 e
   pub is : v ≡ value (slice at e s)
+
+-- v is kept as the k-th of four values, the first being 1; those before it stay
+pub record Keeps (k v : ℕ) (values values′ : List ℕ) : Type 0 where
+  pub len : length values′ ≡ length values
+  pub here : k ≤ 4 → getD values′ (k - 1) 0 ≡ v
+  pub before : (n : ℕ) → n + 1 < k → getD values′ n 0 ≡ getD values n 0
+
+-- the values are those of the fields before the k-th, the first being 1, as far as four go
+pub record Kept (fs : Fields) (k : ℕ) (values : List ℕ) : Type 0 where
+  pub len : length values ≡ 4
+  pub is : (n : ℕ) → n + 1 < k → n < 4 → getD values n 0 ≡ value (getD fs n [])
 
 -- k and the number of fields, if all are numbers; else 0
 unfoldable pub counted : ℕ → Fields → ℕ

@@ -4,11 +4,11 @@ pub mod letters;
 ghost use mathlib.Core.Path.{_≡_};
 ghost use mathlib.Core.Bool.{false, _||_};
 ghost use Prim.Native.Nat.{_+_, _-_, _≤_, _<_};
-ghost use lib.ListN.{length};
+ghost use lib.ListN.{length, drop};
 ghost use lib.Seq.{slice};
 ghost use Rattle.model.specs.Grammar.{same, parts, fields, within, at as fieldAt};
 ghost use Rattle.model.specs.Report.{digits};
-ghost use Rattle.text.specs.Field.{FirstAt, Without, NineDigits, DigitsRead, NumberEnd, NumberRead, FieldRead, counted, formOf, Numbered};
+ghost use Rattle.text.specs.Field.{FirstAt, Without, NineDigits, DigitsRead, NumberEnd, NumberRead, FieldRead, Keeps, Kept, counted, formOf, Numbered};
 ghost use Rattle.text.specs.Output.{written, lastThree, signOf};
 
 // A number, and where its field ends.
@@ -171,18 +171,32 @@ pub fn word(s: &[u8], at: usize, end: usize, w: &[u8]) -> bool
     true
 }
 
-// One more than the number of fields from `at` to `end`, if each is a number; else 0.
-pub fn count(s: &[u8], at: usize, end: usize) -> usize
-    requires { ⌜ (1 ≤ at) × (at ≤ end) × (end ≤ length (now s)) ⌝ }
-    ensures { λ r. ⌜ r ≡ counted 1 (parts 44 (slice at end (now (s .entry)))) ⌝ }
+// Keeps the k-th number of a line, the first being 1, where it is one of the first four.
+fn keep(values: &mut [u32; 4], k: usize, v: u32)
+    requires { ⌜ (1 ≤ k) × (length (now values) ≡ 4) ⌝ }
+    ensures { λ _. ⌜ Keeps k v (now (values .entry)) (now (values .exit)) ⌝ }
+{
+    if 4 < k {
+        return;
+    }
+    values[k - 1] = v;
+}
+
+// One more than the number of fields from `at` to `end`, if each is a number, with the first four of them as values; else 0. Each field is
+// tested and read at once.
+fn read_numbers(s: &[u8], at: usize, end: usize, values: &mut [u32; 4]) -> usize
+    requires { ⌜ (1 ≤ at) × (at ≤ end) × (end ≤ length (now s)) × (length (now values) ≡ 4) ⌝ }
+    ensures { λ r. ⌜ (r ≡ counted 1 (parts 44 (slice at end (now (s .entry))))) × Kept (parts 44 (slice at end (now (s .entry)))) r (now (values .exit)) ⌝ }
 {
     let mut i = at;
     let mut k: usize = 1;
     loop {
-        let e = number_end(s, i, end);
+        let f = read_number(s, i, end);
+        let e = f.end;
         if e == i {
             return 0;
         }
+        keep(values, k, f.value);
         k += 1;
         if e == end {
             return k;
@@ -191,10 +205,19 @@ pub fn count(s: &[u8], at: usize, end: usize) -> usize
     }
 }
 
-// A line's form: how many fields it has, if it begins with `w` and goes on with numbers; else 0.
-pub fn form(s: &[u8], at: usize, end: usize, w: &[u8]) -> usize
-    requires { ⌜ (at ≤ end) × (end ≤ length (now s)) ⌝ }
-    ensures { λ r. ⌜ r ≡ formOf (now (w .entry)) (fields (slice at end (now (s .entry)))) ⌝ }
+// One more than the number of fields from `at` to `end`, if each is a number; else 0.
+pub fn count(s: &[u8], at: usize, end: usize) -> usize
+    requires { ⌜ (1 ≤ at) × (at ≤ end) × (end ≤ length (now s)) ⌝ }
+    ensures { λ r. ⌜ r ≡ counted 1 (parts 44 (slice at end (now (s .entry)))) ⌝ }
+{
+    let mut values = [0u32; 4];
+    read_numbers(s, at, end, &mut values)
+}
+
+// A line's form: how many fields it has, if it begins with `w` and goes on with numbers, with the first four of them as values; else 0.
+pub fn read_line(s: &[u8], at: usize, end: usize, w: &[u8], values: &mut [u32; 4]) -> usize
+    requires { ⌜ (at ≤ end) × (end ≤ length (now s)) × (length (now values) ≡ 4) ⌝ }
+    ensures { λ r. ⌜ (r ≡ formOf (now (w .entry)) (fields (slice at end (now (s .entry))))) × Kept (drop 1 (fields (slice at end (now (s .entry))))) r (now (values .exit)) ⌝ }
 {
     let a = find(s, at, end, b',');
     if !word(s, at, a, w) {
@@ -203,7 +226,16 @@ pub fn form(s: &[u8], at: usize, end: usize, w: &[u8]) -> usize
     if a == end {
         return 1;
     }
-    count(s, a + 1, end)
+    read_numbers(s, a + 1, end, values)
+}
+
+// A line's form: how many fields it has, if it begins with `w` and goes on with numbers; else 0.
+pub fn form(s: &[u8], at: usize, end: usize, w: &[u8]) -> usize
+    requires { ⌜ (at ≤ end) × (end ≤ length (now s)) ⌝ }
+    ensures { λ r. ⌜ r ≡ formOf (now (w .entry)) (fields (slice at end (now (s .entry)))) ⌝ }
+{
+    let mut values = [0u32; 4];
+    read_line(s, at, end, w, &mut values)
 }
 
 // The number in the i-th field.
