@@ -1,6 +1,6 @@
 -- The candidates of a search as three rows of bits: row 0 has the vertices that may be chosen, row 1 those that have moved and those that
--- are fixed, which count here as moved, row 2 the nets whose pins have been marked. What marking does to them. Vertices and nets count from 0. Rests on incidence's rows of bits and
--- connectivity's pin stretches. Assumes nothing.
+-- are fixed, which count here as moved, row 2 the nets whose pins have been marked. What marking does to them. Vertices and nets count from 0.
+-- Rests on incidence's rows of bits and connectivity's pin stretches. Assumes nothing.
 use Prim.Native.Nat.{ℕ, zero, suc, _+_, _*_, _-_, _/_, _%_, _<_, _≤_}
 use native.Mathlib.Decide.{ℕ-discrete, decLt}
 use native.Mathlib.Numerals.{add-one}

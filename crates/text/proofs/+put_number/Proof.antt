@@ -93,7 +93,9 @@ put-number-same-length-2 : (t : ℕ) → put-number-lts.Need-same-length-2 (
   put-three-reads.Asked,
   put-three-reads.Learnt,
 ) (put-number-at t) put-number.Post
-put-number-same-length-2 t c = c .before .before .put-three .kept .0 ∙ c .before .before .before .before .before .before .put-number .kept .0
+put-number-same-length-2 t c =
+    let higher = c .before .before .before .before .before .before .put-number in
+    c .before .before .put-three .kept .0 ∙ higher .kept .0
 
 put-number-returns-2 : (t : ℕ) → put-number-lts.Need-returns-2 (
   put-short-reads.Asked,
