@@ -27,9 +27,9 @@ pub record Lists : Type 0 where
 abbrev pub lists : List ℕ → List ℕ → List ℕ → List ℕ → List ℕ → List ℕ → List ℕ → List ℕ → List ℕ → Lists
 lists w d a x lp pp f c pc = record { weights = w; blocks = d; aboves = a; fixed = x; loadedPins = lp; presentPins = pp; firsts = f; loadedSizes = c; presentSizes = pc }
 
--- the lent tables: the lists that loading writes, and counts, gains and connectivity sets
-abbrev pub lent : Lists → List ℕ → List ℤ → List ℕ → Tables
-lent t counts gains visited = record {
+-- the lent tables: the lists that loading writes, and counts, gains, the index and connectivity sets
+abbrev pub lent : Lists → List ℕ → List ℤ → List ℕ → List ℕ → Tables
+lent t counts gains index visited = record {
   weights = t .weights;
   blocks = t .blocks;
   aboves = t .aboves;
@@ -41,6 +41,7 @@ lent t counts gains visited = record {
   presentSizes = t .presentSizes;
   counts = counts;
   gains = gains;
+  index = index;
   visited = visited;
 }
 
@@ -50,8 +51,8 @@ memory out t = record { output = out; tables = t }
 
 -- ---- lots as records; the nets' tables by themselves
 -- the tables that no lot's record holds
-abbrev pub others : List ℕ → List ℕ → List ℕ → List ℕ → List ℕ → List ℕ → List ℤ → List ℕ → Tables
-others loadedPins presentPins firsts loadedSizes presentSizes counts gains visited = record {
+abbrev pub others : List ℕ → List ℕ → List ℕ → List ℕ → List ℕ → List ℕ → List ℤ → List ℕ → List ℕ → Tables
+others loadedPins presentPins firsts loadedSizes presentSizes counts gains index visited = record {
   weights = [];
   blocks = [];
   aboves = [];
@@ -63,12 +64,13 @@ others loadedPins presentPins firsts loadedSizes presentSizes counts gains visit
   presentSizes = presentSizes;
   counts = counts;
   gains = gains;
+  index = index;
   visited = visited;
 }
 
 -- the tables of nets and pins; no other takes part in handing out
 abbrev pub netTables : List ℕ → List ℕ → List ℕ → List ℕ → List ℕ → Tables
-netTables loadedPins presentPins firsts loadedSizes presentSizes = others loadedPins presentPins firsts loadedSizes presentSizes [] [] []
+netTables loadedPins presentPins firsts loadedSizes presentSizes = others loadedPins presentPins firsts loadedSizes presentSizes [] [] [] []
 
 -- lent memory whose lots are four tables, and whose other tables are t's
 abbrev pub inTables : List ℕ → List ℕ → List ℕ → List ℕ → List ℕ → Tables → Memory
@@ -86,6 +88,7 @@ inTables output weights blocks aboves fixed t = record {
     presentSizes = t .presentSizes;
     counts = t .counts;
     gains = t .gains;
+    index = t .index;
     visited = t .visited;
   };
 }

@@ -6,8 +6,10 @@
 -- Grammar    the sale file: lines, fields, numbers, refusals 1 to 7 and 21
 -- Report     answers and the closing report as bytes
 -- Engine     a list of calls; the file to a code and a report
+-- Index      request M-107: the order of choice over pairs, and a lot's row of the index
 -- Memory     lent memory: what each table holds, what is free, what keeps; what the engine leaves
 -- Clump      request M-108: what a clump's gain means in the unjoined catalogue
+-- Ready      request M-107: that the index holds each pair once, and that its first open pair is the full search's
 -- Lent       how lent slices, returned arrays and lists of numbers read as lent memory, stack, record of moves and calls
 -- Demand     demand 3, one statement about a catalogue and a list of calls
 -- Estimate   request M-109: what holds of every count of bales within the ranges
@@ -30,8 +32,10 @@ pub mod Search
 pub mod Grammar
 pub mod Report
 pub mod Engine
+pub mod Index
 pub mod Memory
 pub mod Clump
+pub mod Ready
 pub mod Lent
 pub mod Demand
 pub mod Estimate

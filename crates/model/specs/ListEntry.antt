@@ -1,5 +1,5 @@
 -- The entry that takes a catalogue's bytes and a list of calls apart from each other: when the list is refused, and what the entry returns
--- and leaves in lent memory. Rests on Lent, Demand, Clump and Estimate. Assumes nothing.
+-- and leaves in lent memory. Rests on Lent, Demand, Clump, Ready and Estimate. Assumes nothing.
 use Prim.Native.Nat.{ℕ, zero, suc, _*_, _/_, _%_}
 use mathlib.Core.Path.{_≡_}
 use mathlib.Core.Bool.{Bool, true, false, cond, _&&_, _||_}
@@ -12,6 +12,7 @@ use Rattle.model.specs.Grammar.{Reading, unread, reading, stopped, parse
 use Rattle.model.specs.Engine.{after}
 use Rattle.model.specs.Memory.{Memory, longMemory, Written, Worked, Untouched}
 use Rattle.model.specs.Clump.{ClumpGains}
+use Rattle.model.specs.Ready.{EachPairOnce, FirstIsBest}
 use Rattle.model.specs.Lent.{callsOf, Two, stackOf, journalOf, ZeroPast}
 use Rattle.model.specs.Demand.{standing, Demand3}
 use Rattle.model.specs.Estimate.{EveryCount}
@@ -47,8 +48,8 @@ abbrev pub returned : ℕ → ℕ → ℕ → Two → Two → Returned
 returned code bytes total stack journal = record { code = code; bytes = bytes; total = total; stack = stack; journal = journal }
 
 -- ---- what it promises
--- the calls ran: demand 3, what the gain table says of clumps (M-108), what holds of every count of bales within the ranges (M-109), and the
--- answers' lines in the output
+-- the calls ran: demand 3, what the gain table says of clumps (M-108), what the index holds and which pair of it is the first (M-107), what holds of
+-- every count of bales within the ranges (M-109), and the answers' lines in the output
 pub record Listed (limits : Limits) (h : Hypergraph) (calls : List Call) (old new : Memory) (r : Returned) : Type 0 where
   pub code-is : r .code ≡ 0
   pub lines : List ℕ
@@ -56,6 +57,8 @@ pub record Listed (limits : Limits) (h : Hypergraph) (calls : List Call) (old ne
       (standing (new .tables) (stackOf (r .stack .xs) (r .stack .ys) (r .stack .len)) (journalOf (r .journal .xs) (r .journal .ys) (r .journal .len)))
       lines (r .total)
   pub clump-gains : ClumpGains h (after h (fresh h) calls) (new .tables)
+  pub each-pair-once : EachPairOnce h (after h (fresh h) calls) (new .tables)
+  pub first-is-best : FirstIsBest h (after h (fresh h) calls) (new .tables)
   pub every-count : EveryCount h (after h (fresh h) calls)
   pub output : Written lines (old .output) (new .output) (r .bytes)
   pub stack-whole : ZeroPast (r .stack)

@@ -1,5 +1,5 @@
 -- Document 01, "Lent memory": what each table holds for a state of the machine, what is free and what keeps what it held; the
--- stretch that hands out a buyer's marks; what the engine leaves. Rests on Engine and on laws' occurrences. Assumes nothing.
+-- stretch that hands out a buyer's marks; what the engine leaves. Rests on Engine, Index and laws' occurrences. Assumes nothing.
 use Prim.Native.Nat.{ℕ, suc, _+_, _-_, _*_, _/_, _%_, _^_, _≤_, _<_}
 use mathlib.Core.Path.{_≡_}
 use mathlib.Core.Bool.{Bool, true, false, cond, _&&_}
@@ -13,11 +13,12 @@ use Rattle.laws.specs.Occurrence.{occ}
 use Rattle.model.specs.Catalogue.{Limits, Net, Hypergraph, vertices, fixedEntry}
 use Rattle.model.specs.Measure.{Contraction, above, onBoard, pin, size, weight, pinCount, gain}
 use Rattle.model.specs.Machine.{State, fresh}
+use Rattle.model.specs.Index.{ranked}
 use Rattle.model.specs.Grammar.{Reading, unread, reading, stopped, parse}
 use Rattle.model.specs.Engine.{after, outcome}
 
 -- the lent tables, each as the list of its entries. Lots: bales, session, the lot above and whether it is kept. Marks: as loaded, and as they stand.
--- Buyers: first place (from 0), loaded marks and present marks
+-- Buyers: first place (from 0), loaded marks and present marks. The index: each lot's other sessions, by gain
 pub record Tables : Type 0 where
   pub weights : List ℕ
   pub blocks : List ℕ
@@ -30,6 +31,7 @@ pub record Tables : Type 0 where
   pub presentSizes : List ℕ
   pub counts : List ℕ
   pub gains : List ℤ
+  pub index : List ℕ
   pub visited : List ℕ
 
 -- lent memory: the output's bytes, and the tables
@@ -44,13 +46,14 @@ longLists t =
     leb 8192 (length (t .loadedPins)) && leb 8192 (length (t .presentPins))
     && leb 1024 (length (t .firsts)) && leb 1024 (length (t .loadedSizes)) && leb 1024 (length (t .presentSizes))
 
--- no table is short (8): lots and gains go by the entry's limit of lots, the others are kept by buyer
+-- no table is short (8): lots, gains and the index go by the entry's limit of lots, the others are kept by buyer
 unfoldable pub longTables : Limits → Tables → Bool
 longTables limits t =
     leb (limits .vertexLimit) (length (t .weights)) && leb (limits .vertexLimit) (length (t .blocks)) && leb (limits .vertexLimit) (length (t .aboves))
     && leb (limits .vertexLimit) (length (t .fixed))
     && longLists t
-    && leb 16384 (length (t .counts)) && leb (16 * limits .vertexLimit) (length (t .gains)) && leb 1024 (length (t .visited))
+    && leb 16384 (length (t .counts)) && leb (16 * limits .vertexLimit) (length (t .gains))
+    && leb (16 * limits .vertexLimit) (length (t .index)) && leb 1024 (length (t .visited))
 
 -- nor is the output
 unfoldable pub longMemory : Limits → Memory → Bool
@@ -91,6 +94,10 @@ module _ (h : Hypergraph) (cs : List Contraction) (block : ℕ → ℕ) where
   unfoldable pub gainEntry : ℕ → ℕ → ℤ
   gainEntry v b = cond (onBoard cs v) (gain h cs block v b) (pos 0)
 
+  -- the index: place j of a lot's row has its j-th session in the order of choice, and 0 past the last; off the board the row has zeros
+  unfoldable pub indexEntry : ℕ → ℕ → ℕ
+  indexEntry v j = cond (onBoard cs v) (getD (ranked (gain h cs block) v (block v) (h .blocks)) (j - 1) 0) 0
+
   -- connectivity set: the visited sessions, one bit each; session b is bit b − 1 counted from the lowest
   unfoldable pub mask : Net → ℕ
   mask e = sumTo (h .blocks) (λ b. cond (ltb 0 (pinCount h cs block e b)) (2 ^ (b - 1)) 0)
@@ -128,6 +135,7 @@ pub record Holds (h : Hypergraph) (s : State) (old new : Tables) : Type 0 where
   pub presentSizes : Column (length (h .nets)) (λ e. size h (s .stack) (net h e)) (old .presentSizes) (new .presentSizes)
   pub counts : Grid 0 (length (h .nets)) (h .blocks) (λ e b. pinCount h (s .stack) (s .block) (net h e) b) (old .counts) (new .counts)
   pub gains : Grid (pos 0) (vertices h) (h .blocks) (gainEntry h (s .stack) (s .block)) (old .gains) (new .gains)
+  pub index : Grid 0 (vertices h) (h .blocks) (indexEntry h (s .stack) (s .block)) (old .index) (new .index)
   pub visited : Column (length (h .nets)) (λ e. mask h (s .stack) (s .block) (net h e)) (old .visited) (new .visited)
 
 -- ---- a buyer's marks, handed out

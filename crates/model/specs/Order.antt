@@ -40,6 +40,7 @@ pub record SameTables (h : Hypergraph) (t t′ : Tables) : Type 0 where
   pub presentSizes : t′ .presentSizes ≡ t .presentSizes
   pub counts : t′ .counts ≡ t .counts
   pub gains : t′ .gains ≡ t .gains
+  pub index : t′ .index ≡ t .index
   pub visited : t′ .visited ≡ t .visited
 
 -- ---- lists of moves

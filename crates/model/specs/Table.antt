@@ -9,6 +9,8 @@ use Rattle.laws.specs.Fold.{sumOver, any}
 use Rattle.laws.specs.Place.{place}
 use Rattle.model.specs.Catalogue.{Hypergraph, averageWeight, nearest, capacity, drafted}
 use Rattle.model.specs.Measure.{Contraction, above, climb, representative, pin, size, pinCount, weight, isFixed, mayMove, blockWeight, connectivity, metric, freed, drawn, gain, hasRoom}
+use Rattle.model.specs.Index.{ahead, insert, ranked}
+use Rattle.model.specs.Memory.{indexEntry}
 use Rattle.model.specs.Machine.{callM, fresh, settle, refusesM, doesM}
 use Rattle.model.specs.Search.{rating, callUnder, call}
 use Rattle.model.specs.Report.{refusal}
@@ -79,6 +81,33 @@ pub halves-table :
     × (drawn five joined (place (drafted five) 5 0) 2 2 ≡ 2)
 unfolding sum sumTo sumOver any above climb representative pin pinCount freed drawn place
 halves-table = (refl, refl, refl, refl, refl, refl, refl, refl)
+
+-- ---- M-107: rows of the index. Lot 1 gains 5 in sessions 2 and 3 and nothing in 4, so its row is 2, 3, 4 and 0; with weight 6 for its second buyer it
+-- gains 6 in session 3, which then goes first; lot 4, joined into 1, has zeros
+abbrev fourSessions : ℕ → Hypergraph
+fourSessions weight = record {
+  blocks = 4;
+  imbalance = 1000;
+  totalWeight = 4;
+  lows = 1 ∷ 1 ∷ 1 ∷ 1 ∷ [];
+  weights = 1 ∷ 1 ∷ 1 ∷ 1 ∷ [];
+  draft = 1 ∷ 2 ∷ 3 ∷ 1 ∷ [];
+  fixed = 0 ∷ 0 ∷ 0 ∷ 0 ∷ [];
+  nets = record { weight = 5; pins = 1 ∷ 2 ∷ [] } ∷ record { weight = weight; pins = 1 ∷ 3 ∷ [] } ∷ [];
+}
+
+abbrev fourJoined : List Contraction
+fourJoined = record { into = 1; gone = 4 } ∷ []
+
+pub index-table :
+    (ranked (gain (fourSessions 5) [] (drafted (fourSessions 5))) 1 1 4 ≡ 2 ∷ 3 ∷ 4 ∷ [])
+    × (ranked (gain (fourSessions 6) [] (drafted (fourSessions 6))) 1 1 4 ≡ 3 ∷ 2 ∷ 4 ∷ [])
+    × (ranked (gain (fourSessions 5) [] (drafted (fourSessions 5))) 2 2 4 ≡ 1 ∷ 3 ∷ 4 ∷ [])
+    × (indexEntry (fourSessions 5) [] (drafted (fourSessions 5)) 1 4 ≡ 0)
+    × (indexEntry (fourSessions 5) fourJoined (place (drafted (fourSessions 5)) 4 0) 1 1 ≡ 2)
+    × (indexEntry (fourSessions 5) fourJoined (place (drafted (fourSessions 5)) 4 0) 4 1 ≡ 0)
+unfolding sum sumTo sumOver any above climb representative pin pinCount freed drawn gain place ahead insert ranked indexEntry
+index-table = (refl, refl, refl, refl, refl, refl)
 
 -- ---- M-106: the cap to the nearest bale: 28.6 is 29, 28.4 is 28, 32.5 is 32, 33.5 is 34; and slack 1,000 is twice ⌈W/k⌉
 pub caps :
