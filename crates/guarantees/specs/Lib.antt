@@ -22,6 +22,8 @@
 --    Stretches (size-le, size-fresh, stretch-le, marks-le). The report fits into the lent output: ReportFits (report-fits), whatever the file:
 --    Refusals (engine-fits).
 -- 8. Demand 3's machine half, one theorem about the whole list: MachineHalf (machine-half).
+-- 9. The index holds each pair of a board lot and another session once and no other: Ready (each-pair-once); its first open pair in the order of
+--    choice is the full search's: Ready (first-is-best). Beneath it Ranked, Inserts, Ranks.
 -- Beneath them: Reversals, Climbs, Tops, Ends, Kept, Calls, Clumps, Caps, Reading, Loads, Numbers, Bounds, WeightBounds, StateBounds.
 pub mod Moves
 pub mod Commutes
@@ -62,4 +64,8 @@ pub mod ReportFits
 pub mod Refusals
 pub mod Reversals
 pub mod MachineHalf
+pub mod Ranked
+pub mod Inserts
+pub mod Ranks
+pub mod Ready
 pub mod Order

@@ -138,6 +138,7 @@ holds-as {h} {s} {s′} {old} {t} e f x =
       presentSizes = y .presentSizes;
       counts = y .counts;
       gains = y .gains;
+      index = y .index;
       visited = y .visited;
     }
 
@@ -152,10 +153,12 @@ net-lengths limits t q =
     && leb (limits .vertexLimit) (length (t .fixed)) in
     let counts : Bool = leb 16384 (length (t .counts)) in
     let gains : Bool = leb (16 * limits .vertexLimit) (length (t .gains)) in
+    let index : Bool = leb (16 * limits .vertexLimit) (length (t .index)) in
     let pins : Bool = leb 8192 (length (t .loadedPins)) && leb 8192 (length (t .presentPins)) in
     let firsts : Bool = leb 1024 (length (t .firsts)) in
     let loaded : Bool = leb 1024 (length (t .loadedSizes)) in
-    let lists : longLists t ≡ true = and-right lots (longLists t) (and-left (lots && longLists t) counts (and-left (lots && longLists t && counts) gains (and-left (lots && longLists t && counts && gains) (leb 1024 (length (t .visited))) q))) in (
+    let lists : longLists t ≡ true = and-right lots (longLists t) (and-left (lots && longLists t) counts (and-left (lots && longLists t && counts) gains
+    (and-left (lots && longLists t && counts && gains) index (and-left (lots && longLists t && counts && gains && index) (leb 1024 (length (t .visited))) q)))) in (
       leb-true 1024 (length (t .firsts)) (and-right pins firsts (and-left (pins && firsts) loaded (and-left (pins && firsts && loaded) (leb 1024 (length (t .presentSizes))) lists))),
       leb-true 1024 (length (t .presentSizes)) (and-right (pins && firsts && loaded) (leb 1024 (length (t .presentSizes))) lists),
     )
@@ -177,6 +180,7 @@ same-tables limits h s old t t′ long few x y = record {
   presentSizes = filled-same (x .presentSizes) (y .presentSizes);
   counts = filled-same (x .counts) (y .counts);
   gains = filled-same (x .gains) (y .gains);
+  index = filled-same (x .index) (y .index);
   visited = filled-same (x .visited) (y .visited);
 }
   where
