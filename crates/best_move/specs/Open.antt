@@ -5,7 +5,7 @@ use mathlib.Core.List.{List}
 use mathlib.Core.Bool.{Bool, true, not, _&&_, cond}
 use Prim.Native.Nat.{ℕ, zero, suc, _+_, _-_, _*_, _/_, _%_, _^_, _≤_, _<_}
 use lib.Dec.{leb, eqb}
-use lib.ListN.{getD}
+use lib.ListN.{length, getD}
 use lib.IntN.{ℤ, pos}
 use lib.Signed.{mag, ltZ}
 use Rattle.incidence.specs.On.{on}
@@ -92,10 +92,12 @@ pub record RowOk (gains i k : ℕ) : Type 0 where
   pub k-to : k ≤ 16
   pub in-gains : 16 * (i + 1) ≤ gains
 
-pub record VertexOk (gains blocks weights i k : ℕ) : Type 0 where
+pub record VertexOk (gains index : ℕ) (blocks : List ℕ) (weights i k : ℕ) : Type 0 where
   pub row : RowOk gains i k
-  pub in-blocks : i < blocks
+  pub in-index : 16 * (i + 1) ≤ index
+  pub in-blocks : i < length blocks
   pub in-weights : i < weights
+  pub own : (1 ≤ getD blocks i 0) × (getD blocks i 0 ≤ k)
 
 pub record SearchOk (gains blocks weights candidates n k : ℕ) : Type 0 where
   pub n-to : n ≤ 1024
@@ -104,3 +106,8 @@ pub record SearchOk (gains blocks weights candidates n k : ℕ) : Type 0 where
   pub in-blocks : n ≤ blocks
   pub in-weights : n ≤ weights
   pub in-candidates : 16 ≤ candidates
+
+-- and of the index: its length, and that candidates are on the board, so that their rows are ranked
+pub record IndexOk (index : ℕ) (candidates blocks : List ℕ) (n k : ℕ) : Type 0 where
+  pub in-index : 16 * n ≤ index
+  pub on-board : (x : ℕ) → x < n → on candidates 0 x ≡ 1 → (1 ≤ getD blocks x 0) × (getD blocks x 0 ≤ k)

@@ -57,7 +57,7 @@ rises zero (suc x) top gain l t = refl
 rises (suc y) (suc x) top gain l t = rw t
 
 -- it is not the first, and not worth more
-stays : (at v b : ℕ) (top gain : ℤ) → (at ≡ 0 → ltZ top gain ≡ true) → ltZ top gain ≡ false → leadOf at top ≡ better (leadOf at top) v b gain
+pub stays : (at v b : ℕ) (top gain : ℤ) → (at ≡ 0 → ltZ top gain ≡ true) → ltZ top gain ≡ false → leadOf at top ≡ better (leadOf at top) v b gain
 unfolding better
 stays zero v b top gain low t = absurd (true≢false (sym (low refl) ∙ t))
 stays (suc y) v b top gain low t = rw t

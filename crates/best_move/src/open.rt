@@ -5,15 +5,18 @@ use crate::numbers::least;
 use crate::rising::least_better;
 use crate::rising::measure;
 use crate::rising::next_rising;
-use incidence::numbers::index;
 use incidence::numbers::long;
+use index::numbers::block_at;
+use index::rows::put_right;
 ghost use mathlib.Core.Path.{_≡_};
 ghost use mathlib.Core.Bool.{cond};
 ghost use Prim.Native.Nat.{_+_, _-_, _*_, _≤_, _<_};
 ghost use lib.ListN.{length, getD};
 ghost use lib.Signed.{ltZ};
 ghost use Rattle.model.specs.Search.{Best, bestPair};
-ghost use Rattle.best_move.specs.Open.{gainIn, roomFor, mayGo, openIn, considered, bestInRow, bestTo, vertexAt, blockAt, pairAt, Leads, Chosen, RowOk, VertexOk, SearchOk};
+ghost use Rattle.index.specs.Indexed.{Kept};
+ghost use Rattle.best_move.specs.Open.{gainIn, roomFor, mayGo, openIn, considered, bestInRow, bestTo, vertexAt, blockAt, pairAt, Leads, Chosen, VertexOk, SearchOk, IndexOk};
+ghost use Rattle.best_move.specs.First.{FirstOk};
 ghost use Rattle.best_move.specs.Peak.{lesser, Peaked};
 ghost use Rattle.best_move.specs.Rising.{Rooms};
 
@@ -82,41 +85,50 @@ fn has_space(load: u64, weight: u64, ceiling: u64) -> bool
     load <= ceiling - weight
 }
 
-// Whether a vertex of block `own` may go to block `b`, of weight `load`, which may hold `ceiling`.
-fn may_go(load: u64, own: usize, weight: u64, ceiling: u64, b: usize) -> bool
-    ensures { λ r. ⌜ r ≡ mayGo load own weight ceiling b ⌝ }
+// Whether a gain is above that of the best pair so far.
+fn is_above(gain: i32, top: i64) -> bool
+    ensures { λ r. ⌜ r ≡ ltZ top gain ⌝ }
 {
-    both(own != b, has_space(load, weight, ceiling))
+    top < gain as i64
 }
 
-// The best of `before` and the pairs of the vertex at place `i`, of block `own`, that may be taken.
-fn best_in_row(
+// The best of `before` and the pairs of the vertex at place `x`, of block `own`, that may be taken: its row of the index is ranked, so the first
+// block with room decides. The search ends at the first block that gains no more than `before`. Only the contract names `own`: it does not stand
+// in the row.
+fn first_open(
+    index: &[u16],
     gains: &[i32],
     loads: &[u64; 16],
     ceilings: &[u64; 16],
     own: usize,
     weight: u64,
-    i: usize,
+    x: usize,
     k: usize,
     before: Lead,
 ) -> Lead
-    requires { ⌜ RowOk (length (now gains)) i k ⌝ }
-    ensures { λ r. ⌜ ((c : Best) → Leads before c → Leads r (bestInRow (gainIn (now (gains .entry))) (λ b. mayGo (getD (now (loads .entry)) (b - 1) 0) own weight (getD (now (ceilings .entry)) (b - 1) 0) b) (i + 1) k c)) ⌝ }
+    requires { ⌜ FirstOk (now index) (now gains) own x k ⌝ }
+    ensures { λ r. ⌜ ((c : Best) → Leads before c → Leads r (bestInRow (gainIn (now (gains .entry))) (λ b. mayGo (getD (now (loads .entry)) (b - 1) 0) own weight (getD (now (ceilings .entry)) (b - 1) 0) b) (x + 1) k c)) ⌝ }
 {
-    let row = 16 * i;
-    let mut lead = before;
+    let row = 16 * x;
+    let top = before.top;
     let mut j: usize = 0;
-    while j < k {
-        let may = may_go(loads[j], own, weight, ceilings[j], j + 1);
-        lead = weigh(gains[row + j], may, row + j + 1, lead);
+    while j + 1 < k {
+        let b = block_at(index, x, j);
+        if !is_above(gains[row + (b - 1)], top) {
+            return before;
+        }
+        if has_space(loads[b - 1], weight, ceilings[b - 1]) {
+            return weigh(gains[row + (b - 1)], true, row + (b - 1) + 1, before);
+        }
         j += 1;
     }
-    lead
+    before
 }
 
-// The best of `before` and the open pairs of the candidate at place `i`.
+// The best of `before` and the open pairs of the candidate at place `i`, whose row of the index is made right first.
 fn best_with(
     gains: &[i32],
+    index: &mut [u16],
     blocks: &[u16],
     weights: &[u32],
     loads: &[u64; 16],
@@ -125,14 +137,17 @@ fn best_with(
     k: usize,
     before: Lead,
 ) -> Lead
-    requires { ⌜ VertexOk (length (now gains)) (length (now blocks)) (length (now weights)) i k ⌝ }
+    requires { ⌜ VertexOk (length (now gains)) (length (now index)) (now blocks) (length (now weights)) i k ⌝ }
     ensures { λ r. ⌜ ((c : Best) → Leads before c → Leads r (bestInRow (gainIn (now (gains .entry))) (λ b. mayGo (getD (now (loads .entry)) (b - 1) 0) (getD (now (blocks .entry)) i 0) (getD (now (weights .entry)) i 0) (getD (now (ceilings .entry)) (b - 1) 0) b) (i + 1) k c)) ⌝ }
+    ensures { λ _. ⌜ Kept (i + 1) k (now (index .entry)) (now (index .exit)) ⌝ }
 {
-    best_in_row(
+    put_right(index, gains, blocks, i, k);
+    first_open(
+        index,
         gains,
         loads,
         ceilings,
-        index(blocks[i]),
+        incidence::numbers::index(blocks[i]),
         long(weights[i]),
         i,
         k,
@@ -159,6 +174,7 @@ fn pair_at(at: usize) -> Pick
 // pair are weighed. `rooms` is what the blocks have left under their ceilings.
 fn best_among(
     gains: &[i32],
+    index: &mut [u16],
     blocks: &[u16],
     weights: &[u32],
     loads: &[u64; 16],
@@ -172,7 +188,9 @@ fn best_among(
 ) -> Lead
     requires { ⌜ SearchOk (length (now gains)) (length (now blocks)) (length (now weights)) (length (now candidates)) (64 * c + size) k × (size ≤ 64) × (c < 16) ⌝ }
     requires { ⌜ Rooms (now loads) (now ceilings) k (now rooms) ⌝ }
+    requires { ⌜ IndexOk (length (now index)) (now candidates) (now blocks) (64 * c + size) k ⌝ }
     ensures { λ r. ⌜ (Leads before (bestTo (openIn (now (candidates .entry)) (now (blocks .entry)) (now (weights .entry)) (now (loads .entry)) (now (ceilings .entry))) (gainIn (now (gains .entry))) k (64 * c)) → Leads r (bestTo (openIn (now (candidates .entry)) (now (blocks .entry)) (now (weights .entry)) (now (loads .entry)) (now (ceilings .entry))) (gainIn (now (gains .entry))) k (64 * c + size))) ⌝ }
+    ensures { λ _. ⌜ Kept (64 * c + size) k (now (index .entry)) (now (index .exit)) ⌝ }
 {
     let first = 64 * c;
     let word = candidates[c];
@@ -190,7 +208,17 @@ fn best_among(
         least_better(best.top),
     );
     while j < size {
-        best = best_with(gains, blocks, weights, loads, ceilings, first + j, k, best);
+        best = best_with(
+            gains,
+            index,
+            blocks,
+            weights,
+            loads,
+            ceilings,
+            first + j,
+            k,
+            best,
+        );
         j = next_rising(
             gains,
             blocks,
@@ -211,6 +239,7 @@ fn best_among(
 // and none is looked at.
 fn best_in_part(
     gains: &[i32],
+    index: &mut [u16],
     blocks: &[u16],
     weights: &[u32],
     loads: &[u64; 16],
@@ -226,13 +255,16 @@ fn best_in_part(
     requires { ⌜ SearchOk (length (now gains)) (length (now blocks)) (length (now weights)) (length (now candidates)) n k ⌝ }
     requires { ⌜ Peaked (now gains) (now peaks) n k × (64 * c < n) ⌝ }
     requires { ⌜ Rooms (now loads) (now ceilings) k (now rooms) ⌝ }
+    requires { ⌜ IndexOk (length (now index)) (now candidates) (now blocks) n k ⌝ }
     ensures { λ r. ⌜ (Leads before (bestTo (openIn (now (candidates .entry)) (now (blocks .entry)) (now (weights .entry)) (now (loads .entry)) (now (ceilings .entry))) (gainIn (now (gains .entry))) k (64 * c)) → Leads r (bestTo (openIn (now (candidates .entry)) (now (blocks .entry)) (now (weights .entry)) (now (loads .entry)) (now (ceilings .entry))) (gainIn (now (gains .entry))) k (lesser (64 * c + 64) n))) ⌝ }
+    ensures { λ _. ⌜ Kept n k (now (index .entry)) (now (index .exit)) ⌝ }
 {
     let peak = peaks[c] as i64;
     let top = before.top;
     if less(top, peak) {
         return best_among(
             gains,
+            index,
             blocks,
             weights,
             loads,
@@ -250,8 +282,10 @@ fn best_in_part(
 
 // The open pair of highest gain, then lowest vertex, then lowest block: vertices and blocks count from 1. `loads` are the blocks' weights,
 // `ceilings` the most that they may hold, `candidates` a row of bits in which vertex v is bit v - 1, `peaks` bounds on the gains of each part of 64 vertices.
+// The pairs come from the index, whose rows are made right as they are looked at.
 pub fn best_open(
     gains: &[i32],
+    index: &mut [u16],
     blocks: &[u16],
     weights: &[u32],
     loads: &[u64; 16],
@@ -263,7 +297,9 @@ pub fn best_open(
 ) -> Pick
     requires { ⌜ SearchOk (length (now gains)) (length (now blocks)) (length (now weights)) (length (now candidates)) n k ⌝ }
     requires { ⌜ Peaked (now gains) (now peaks) n k ⌝ }
+    requires { ⌜ IndexOk (length (now index)) (now candidates) (now blocks) n k ⌝ }
     ensures { λ r. ⌜ Chosen (gainIn (now (gains .entry))) n k r (bestPair n k (openIn (now (candidates .entry)) (now (blocks .entry)) (now (weights .entry)) (now (loads .entry)) (now (ceilings .entry))) (gainIn (now (gains .entry)))) ⌝ }
+    ensures { λ _. ⌜ Kept n k (now (index .entry)) (now (index .exit)) ⌝ }
 {
     let mut best = Lead {
         at: NO_PLACE,
@@ -275,6 +311,7 @@ pub fn best_open(
     while 64 * c < n {
         best = best_in_part(
             gains,
+            index,
             blocks,
             weights,
             loads,
