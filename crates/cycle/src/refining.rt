@@ -1,6 +1,8 @@
 // A's way back: contractions are undone, the last one first, each with a walk from the parted pair.
-ghost use Prim.Native.Nat.{_+_, _-_, _<_, _≤_};
+ghost use Prim.Native.Nat.{_+_, _-_, _*_, _<_, _≤_};
+ghost use lib.ListN.{length};
 ghost use mathlib.Core.Path.{_≡_};
+ghost use Rattle.index.specs.Indexed.{Kept};
 ghost use Rattle.operations.specs.Tables.{tables};
 ghost use Rattle.cycle.specs.Refine.{PartOk, Parts, RefineOk, Refines};
 use crate::numbers::counted;
@@ -34,6 +36,7 @@ fn refine_once(
     counts: &mut [u16],
     visited: &mut [u16],
     gains: &mut [i32],
+    index: &mut [u16],
     presentpins: &mut [u16],
     presentsizes: &mut [u16],
     bits: &mut [u64],
@@ -56,11 +59,13 @@ fn refine_once(
     requires { ⌜ PartOk
         (tables (now counts) (now visited) (now gains) (now presentpins) (now presentsizes) (now bits) (now blocks) (now weights) (now aboves) (now loads) (now netweights) (now firsts) (now loadedsizes) n m k total)
         fixedmarks u v ⌝ }
+    requires { ⌜ 16 * n ≤ length (now index) ⌝ }
     ensures { λ r. ⌜ Parts
         (tables (now (counts .entry)) (now (visited .entry)) (now (gains .entry)) (now (presentpins .entry)) (now (presentsizes .entry)) (now (bits .entry)) (now (blocks .entry)) (now (weights .entry)) (now (aboves .entry)) (now (loads .entry)) (now (netweights .entry)) (now (firsts .entry)) (now (loadedsizes .entry)) n m k total)
         (now (ceilings .entry)) fixedmarks u v
         (tables (now (counts .exit)) (now (visited .exit)) (now (gains .exit)) (now (presentpins .exit)) (now (presentsizes .exit)) (now (bits .exit)) (now (blocks .exit)) (now (weights .exit)) (now (aboves .exit)) (now (loads .exit)) (now (netweights .exit)) (now (firsts .exit)) (now (loadedsizes .exit)) n m k (r .total))
         (r .tried) (r .kept) ⌝ }
+    ensures { λ _. ⌜ Kept n k (now (index .entry)) (now (index .exit)) ⌝ }
 {
     split(
         counts,
@@ -86,6 +91,7 @@ fn refine_once(
         counts,
         visited,
         gains,
+        index,
         blocks,
         loads,
         presentpins,
@@ -110,6 +116,7 @@ pub fn refine(
     counts: &mut [u16],
     visited: &mut [u16],
     gains: &mut [i32],
+    index: &mut [u16],
     presentpins: &mut [u16],
     presentsizes: &mut [u16],
     bits: &mut [u64],
@@ -131,11 +138,13 @@ pub fn refine(
     requires { ⌜ RefineOk
         (tables (now counts) (now visited) (now gains) (now presentpins) (now presentsizes) (now bits) (now blocks) (now weights) (now aboves) (now loads) (now netweights) (now firsts) (now loadedsizes) n m k total)
         fixedmarks (stack .into) (stack .gone) (stack .len) ⌝ }
+    requires { ⌜ 16 * n ≤ length (now index) ⌝ }
     ensures { λ r. ⌜ Refines
         (tables (now (counts .entry)) (now (visited .entry)) (now (gains .entry)) (now (presentpins .entry)) (now (presentsizes .entry)) (now (bits .entry)) (now (blocks .entry)) (now (weights .entry)) (now (aboves .entry)) (now (loads .entry)) (now (netweights .entry)) (now (firsts .entry)) (now (loadedsizes .entry)) n m k total)
         (now (ceilings .entry)) fixedmarks (stack .into) (stack .gone) (stack .len)
         (tables (now (counts .exit)) (now (visited .exit)) (now (gains .exit)) (now (presentpins .exit)) (now (presentsizes .exit)) (now (bits .exit)) (now (blocks .exit)) (now (weights .exit)) (now (aboves .exit)) (now (loads .exit)) (now (netweights .exit)) (now (firsts .exit)) (now (loadedsizes .exit)) n m k (r .total))
         (r .tried) (r .kept) ⌝ }
+    ensures { λ _. ⌜ Kept n k (now (index .entry)) (now (index .exit)) ⌝ }
 {
     let mut f = Fine {
         tried: 0,
@@ -151,6 +160,7 @@ pub fn refine(
             counts,
             visited,
             gains,
+            index,
             presentpins,
             presentsizes,
             bits,

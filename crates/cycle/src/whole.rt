@@ -1,4 +1,7 @@
 // A as a whole: contractions, the way back, then P.
+ghost use Prim.Native.Nat.{_*_, _≤_};
+ghost use lib.ListN.{length};
+ghost use Rattle.index.specs.Indexed.{Kept};
 ghost use Rattle.operations.specs.Tables.{tables};
 ghost use Rattle.cycle.specs.Whole.{CycleOk, Levels, Does};
 use crate::numbers::counted;
@@ -30,6 +33,7 @@ fn descend(
     counts: &mut [u16],
     visited: &mut [u16],
     gains: &mut [i32],
+    index: &mut [u16],
     presentpins: &mut [u16],
     presentsizes: &mut [u16],
     bits: &mut [u64],
@@ -48,11 +52,13 @@ fn descend(
     requires { ⌜ CycleOk
         (tables (now counts) (now visited) (now gains) (now presentpins) (now presentsizes) (now bits) (now blocks) (now weights) (now aboves) (now loads) (now netweights) (now firsts) (now loadedsizes) (size .n) (size .m) (size .k) total)
         (size .average) fixedmarks ⌝ }
+    requires { ⌜ 16 * size .n ≤ length (now index) ⌝ }
     ensures { λ r. ⌜ Levels
         (tables (now (counts .entry)) (now (visited .entry)) (now (gains .entry)) (now (presentpins .entry)) (now (presentsizes .entry)) (now (bits .entry)) (now (blocks .entry)) (now (weights .entry)) (now (aboves .entry)) (now (loads .entry)) (now (netweights .entry)) (now (firsts .entry)) (now (loadedsizes .entry)) (size .n) (size .m) (size .k) total)
         (size .average) (now (ceilings .entry)) fixedmarks
         (tables (now (counts .exit)) (now (visited .exit)) (now (gains .exit)) (now (presentpins .exit)) (now (presentsizes .exit)) (now (bits .exit)) (now (blocks .exit)) (now (weights .exit)) (now (aboves .exit)) (now (loads .exit)) (now (netweights .exit)) (now (firsts .exit)) (now (loadedsizes .exit)) (size .n) (size .m) (size .k) (r .total))
         (r .joins) (r .tried) (r .kept) ⌝ }
+    ensures { λ _. ⌜ Kept (size .n) (size .k) (now (index .entry)) (now (index .exit)) ⌝ }
 {
     let stack = coarsen(
         counts,
@@ -75,6 +81,7 @@ fn descend(
         counts,
         visited,
         gains,
+        index,
         presentpins,
         presentsizes,
         bits,
@@ -106,6 +113,7 @@ pub fn run(
     counts: &mut [u16],
     visited: &mut [u16],
     gains: &mut [i32],
+    index: &mut [u16],
     presentpins: &mut [u16],
     presentsizes: &mut [u16],
     bits: &mut [u64],
@@ -124,16 +132,19 @@ pub fn run(
     requires { ⌜ CycleOk
         (tables (now counts) (now visited) (now gains) (now presentpins) (now presentsizes) (now bits) (now blocks) (now weights) (now aboves) (now loads) (now netweights) (now firsts) (now loadedsizes) (size .n) (size .m) (size .k) total)
         (size .average) fixedmarks ⌝ }
+    requires { ⌜ 16 * size .n ≤ length (now index) ⌝ }
     ensures { λ r. ⌜ Does
         (tables (now (counts .entry)) (now (visited .entry)) (now (gains .entry)) (now (presentpins .entry)) (now (presentsizes .entry)) (now (bits .entry)) (now (blocks .entry)) (now (weights .entry)) (now (aboves .entry)) (now (loads .entry)) (now (netweights .entry)) (now (firsts .entry)) (now (loadedsizes .entry)) (size .n) (size .m) (size .k) total)
         (size .average) (now (ceilings .entry)) fixedmarks
         (tables (now (counts .exit)) (now (visited .exit)) (now (gains .exit)) (now (presentpins .exit)) (now (presentsizes .exit)) (now (bits .exit)) (now (blocks .exit)) (now (weights .exit)) (now (aboves .exit)) (now (loads .exit)) (now (netweights .exit)) (now (firsts .exit)) (now (loadedsizes .exit)) (size .n) (size .m) (size .k) (r .total))
         (r .joins) (r .tried) (r .kept) (r .moves) ⌝ }
+    ensures { λ _. ⌜ Kept (size .n) (size .k) (now (index .entry)) (now (index .exit)) ⌝ }
 {
     let d = descend(
         counts,
         visited,
         gains,
+        index,
         presentpins,
         presentsizes,
         bits,
@@ -153,6 +164,7 @@ pub fn run(
         counts,
         visited,
         gains,
+        index,
         blocks,
         loads,
         presentpins,

@@ -36,6 +36,10 @@ pub record PolishAt (h : Hypergraph) (cs : List Contraction) (q : Polish) (T : T
   pub board : (x : ℕ) → x < T .n → candidateBit marks x ≡ mayMove h cs (x + 1)
   pub marks-fit : length marks ≡ 48
 
+-- a candidate is on the board
+pub candidate-on : {h : Hypergraph} {cs : List Contraction} {q : Polish} {T : Tables} {marks : List ℕ} {moves : ℕ} → PolishAt h cs q T marks moves → (x : ℕ) → x < T .n → candidateBit marks x ≡ true → above cs (x + 1) ≡ 0
+candidate-on {h} {cs} at x l q = may-on h cs (x + 1) (sym (at .board x l) ∙ q)
+
 -- what one pass asks: a polish on its way, with `left` passes left at most. It has no use for the vertices above and for the loaded sizes
 pub record PassOk (T : List ℕ → List ℕ → Tables) (marks : List ℕ) (left moves : ℕ) : Type 0 where
   pub aboves : List ℕ
@@ -135,7 +139,7 @@ module _ {T : List ℕ → List ℕ → Tables} {marks : List ℕ} {left moves :
   pub pass-open : Open (T (ok .aboves) (ok .loaded) .blocks) (T (ok .aboves) (ok .loaded) .n) (T (ok .aboves) (ok .loaded) .k) (v - 1) b
   pass-open =
       let S = T (ok .aboves) (ok .loaded) in
-      pair-open (ok .at .sound) marks ceilings v b (λ x l q. may-on (ok .h) (ok .cs) (x + 1) (sym (ok .at .board x l) ∙ q)) pass-in
+      pair-open (ok .at .sound) marks ceilings v b (candidate-on (ok .at)) pass-in
       (rise-open (openIn marks (S .blocks) (S .weights) (S .loads) ceilings) (gainIn (S .gains)) v b c e)
 
   pub pass-goes : (x : ℕ) → x ≡ v - 1 → CanGo T x b

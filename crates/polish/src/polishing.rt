@@ -11,7 +11,8 @@ ghost use Prim.Native.Nat.{ℕ, _+_, _-_, _*_, _<_, _≤_};
 ghost use lib.IntN.{pos};
 ghost use lib.ListN.{length};
 ghost use lib.Signed.{ltZ};
-ghost use Rattle.best_move.specs.Open.{SearchOk, Chosen, gainIn};
+ghost use Rattle.index.specs.Indexed.{Kept};
+ghost use Rattle.best_move.specs.Open.{SearchOk, IndexOk, Chosen, gainIn};
 ghost use Rattle.best_move.specs.Peak.{Peaked};
 ghost use Rattle.search_moves.specs.Marks.{Marked};
 ghost use Rattle.search_moves.specs.Lent.{lent};
@@ -72,6 +73,7 @@ fn rises(gains: &[i32], v: u16, b: u16) -> bool
 // The next move: the best open pair, if its gain is at least 1.
 fn next_rise(
     gains: &[i32],
+    index: &mut [u16],
     blocks: &[u16],
     weights: &[u32],
     loads: &[u64; 16],
@@ -83,9 +85,22 @@ fn next_rise(
 ) -> Pick
     requires { ⌜ SearchOk (length (now gains)) (length (now blocks)) (length (now weights)) (length (now marks)) n k ⌝ }
     requires { ⌜ Peaked (now gains) (now peaks) n k ⌝ }
+    requires { ⌜ IndexOk (length (now index)) (now marks) (now blocks) n k ⌝ }
     ensures { λ r. ⌜ Chosen (gainIn (now (gains .entry))) n k r (riseOf (now (gains .entry)) (now (blocks .entry)) (now (weights .entry)) (now (loads .entry)) (now (ceilings .entry)) (now (marks .entry)) n k) ⌝ }
+    ensures { λ _. ⌜ Kept n k (now (index .entry)) (now (index .exit)) ⌝ }
 {
-    match best_open(gains, blocks, weights, loads, ceilings, marks, peaks, n, k) {
+    match best_open(
+        gains,
+        index,
+        blocks,
+        weights,
+        loads,
+        ceilings,
+        marks,
+        peaks,
+        n,
+        k,
+    ) {
         Pick::Nothing => Pick::Nothing,
         Pick::Move { vertex, block } => {
             if rises(gains, vertex, block) {
@@ -104,6 +119,7 @@ fn pass(
     counts: &mut [u16],
     visited: &mut [u16],
     gains: &mut [i32],
+    index: &mut [u16],
     blocks: &mut [u16],
     loads: &mut [u64; 16],
     marks: &[u64; 48],
@@ -124,21 +140,34 @@ fn pass(
         (lent (now counts) (now visited) (now gains) (now blocks) (now loads) (now presentpins) (now presentsizes) (now bits) (now weights) (now netweights) (now firsts) n m k (p .total))
         (now marks) (p .left) (p .moves) ⌝ }
     requires { ⌜ Peaked (now gains) (now peaks) n k ⌝ }
+    requires { ⌜ 16 * n ≤ length (now index) ⌝ }
     ensures { λ r. ⌜ ((aboves loadedsizes : List ℕ) → Passed
         (lent (now (counts .entry)) (now (visited .entry)) (now (gains .entry)) (now (blocks .entry)) (now (loads .entry)) (now (presentpins .entry)) (now (presentsizes .entry)) (now (bits .entry)) (now (weights .entry)) (now (netweights .entry)) (now (firsts .entry)) n m k (p .total) aboves loadedsizes)
         (now (marks .entry)) (now (ceilings .entry)) (p .left) (p .moves)
         (lent (now (counts .exit)) (now (visited .exit)) (now (gains .exit)) (now (blocks .exit)) (now (loads .exit)) (now (presentpins .exit)) (now (presentsizes .exit)) (now (bits .exit)) (now (weights .exit)) (now (netweights .exit)) (now (firsts .exit)) n m k (r .total) aboves loadedsizes)
         (r .left) (r .moves)) ⌝ }
     ensures { λ _. ⌜ Peaked (now (gains .exit)) (now (peaks .exit)) n k ⌝ }
+    ensures { λ _. ⌜ Kept n k (now (index .entry)) (now (index .exit)) ⌝ }
 {
-    match next_rise(gains, blocks, weights, loads, ceilings, marks, peaks, n, k) {
+    match next_rise(
+        gains,
+        index,
+        blocks,
+        weights,
+        loads,
+        ceilings,
+        marks,
+        peaks,
+        n,
+        k,
+    ) {
         Pick::Nothing => Passes {
             left: 0,
             moves: p.moves,
             total: p.total,
         },
         Pick::Move { vertex, block } => {
-            let x = index(vertex) - 1;
+            let x = incidence::numbers::index(vertex) - 1;
             let total = shift(
                 counts,
                 visited,
@@ -173,6 +202,7 @@ pub fn polish(
     counts: &mut [u16],
     visited: &mut [u16],
     gains: &mut [i32],
+    index: &mut [u16],
     blocks: &mut [u16],
     loads: &mut [u64; 16],
     presentpins: &[u16],
@@ -191,11 +221,13 @@ pub fn polish(
     requires { ⌜ PolishOk
         (lent (now counts) (now visited) (now gains) (now blocks) (now loads) (now presentpins) (now presentsizes) (now bits) (now weights) (now netweights) (now firsts) n m k total)
         fixedmarks ⌝ }
+    requires { ⌜ 16 * n ≤ length (now index) ⌝ }
     ensures { λ r. ⌜ ((aboves loadedsizes : List ℕ) → Polishes
         (lent (now (counts .entry)) (now (visited .entry)) (now (gains .entry)) (now (blocks .entry)) (now (loads .entry)) (now (presentpins .entry)) (now (presentsizes .entry)) (now (bits .entry)) (now (weights .entry)) (now (netweights .entry)) (now (firsts .entry)) n m k total aboves loadedsizes)
         (now (ceilings .entry)) fixedmarks
         (lent (now (counts .exit)) (now (visited .exit)) (now (gains .exit)) (now (blocks .exit)) (now (loads .exit)) (now (presentpins .exit)) (now (presentsizes .exit)) (now (bits .exit)) (now (weights .exit)) (now (netweights .exit)) (now (firsts .exit)) n m k (r .total) aboves loadedsizes)
         (r .moves)) ⌝ }
+    ensures { λ _. ⌜ Kept n k (now (index .entry)) (now (index .exit)) ⌝ }
 {
     let mut marks = fixedmarks;
     mark_board(&mut marks, blocks, n);
@@ -211,6 +243,7 @@ pub fn polish(
             counts,
             visited,
             gains,
+            index,
             blocks,
             loads,
             &marks,

@@ -89,7 +89,7 @@ rowCount-has n r x b l q = omega (arith, term-le n x (λ y. one (eqb (r y) b)) l
 
 -- the row r of a net becomes r′, with u in t and no longer in s
 module _ (n u s t : ℕ) (r r′ : ℕ → ℕ) (u-in : u < n) (away : s ≡ t → ⊥) (from : r u ≡ s) (moved : (y : ℕ) → y < n → r′ y ≡ place r u t y) where
-  moved-count : (b : ℕ) → rowCount n r′ b + one (eqb s b) ≡ rowCount n r b + one (eqb t b)
+  pub moved-count : (b : ℕ) → rowCount n r′ b + one (eqb s b) ≡ rowCount n r b + one (eqb t b)
   moved-count b =
       ap (λ (z : ℕ). z + one (eqb s b)) (rowCount-ext n r′ (place r u t) b moved)
       ∙ ap (λ (z : ℕ). rowCount n (place r u t) b + one (eqb z b)) (sym from)
@@ -156,7 +156,7 @@ module _ {weights counts counts′ visited visited′ pins blocks blocks′ firs
   abbrev after : ℕ → ℕ → ℕ
   after = mat pins blocks′ firsts sizes
 
-  count-is : (e b : ℕ) → e < m → (1 ≤ b) × (b ≤ k) → getD counts′ (16 * e + (b - 1)) 0 ≡ rowCount n (after e) b
+  pub count-is : (e b : ℕ) → e < m → (1 ≤ b) × (b ≤ k) → getD counts′ (16 * e + (b - 1)) 0 ≡ rowCount n (after e) b
   count-is e b l r = w′ .stands .tally .counted e (b - 1) l (omega (arith, r)) ∙ ap (rowCount n (after e)) (let q : b - 1 + 1 ≡ b = omega (arith, r) in q)
 
   row-off : (e y : ℕ) → y < n → (y ≡ u → ⊥) → after e y ≡ before e y
@@ -164,7 +164,7 @@ module _ {weights counts counts′ visited visited′ pins blocks blocks′ firs
   row-off e y l ne = ap (λ (z : ℕ). cond (among e y) z 0) (others y l ne)
 
   -- a net of u
-  row-moved : (e : ℕ) → among e u ≡ true → (y : ℕ) → y < n → after e y ≡ place (before e) u t y
+  pub row-moved : (e : ℕ) → among e u ≡ true → (y : ℕ) → y < n → after e y ≡ place (before e) u t y
   row-moved e has-u y l = go (ℕ-discrete y u)
     where
       go : Dec (y ≡ u) → after e y ≡ place (before e) u t y

@@ -74,16 +74,16 @@ module _ {h : Hypergraph} {cs : List Contraction} {block : ℕ → ℕ} {T : Tab
   up-on : above cs (u + 1) ≡ 0
   up-on = on-board s u (o .u-in) (o .on)
 
-  pin-marked : (e : ℕ) → e < T .m → has (T .pins) (getD (T .firsts) e 0) (getD (T .sizes) e 0) u ≡ true → on (T .bits) u e ≡ 1
+  pub pin-marked : (e : ℕ) → e < T .m → has (T .pins) (getD (T .firsts) e 0) (getD (T .sizes) e 0) u ≡ true → on (T .bits) u e ≡ 1
   pin-marked e le q = eqb-true (on (T .bits) u e) 1 (bit-is s u e (o .u-in) le up-on ∙ sym (has-pin (s .follows .says) e le u) ∙ q)
 
-  own-in : (1 ≤ getD (T .blocks) u 0) × (getD (T .blocks) u 0 ≤ T .k)
+  pub own-in : (1 ≤ getD (T .blocks) u 0) × (getD (T .blocks) u 0 ≤ T .k)
   own-in = (o .on, omega (arith, own-block s u (o .u-in), in-range s u (o .u-in) up-on .1))
 
-  own-after : getD blocks u 0 ≡ t
+  pub own-after : getD blocks u 0 ≡ t
   own-after = own-block s′ u (o .u-in) ∙ place-at block (u + 1) t
 
-  block-kept : (y : ℕ) → y < T .n → (y ≡ u → ⊥) → getD blocks y 0 ≡ getD (T .blocks) y 0
+  pub block-kept : (y : ℕ) → y < T .n → (y ≡ u → ⊥) → getD blocks y 0 ≡ getD (T .blocks) y 0
   block-kept y l ne = own-block s′ y l ∙ place-off block (u + 1) t (y + 1) (λ q. ne (omega arith)) ∙ sym (own-block s y l)
 
   pub peaked-move : {peaks peaks′ : List ℤ} → Peaked (T .gains) peaks (T .n) (T .k)

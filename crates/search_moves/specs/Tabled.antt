@@ -1,12 +1,12 @@
 -- What sound tables tell a search: who shares a net with a vertex, that the best open pair is the one that model's search takes, and what the
 -- functions of a search ask of lengths. Rests on operations's Sound and best_move's OpenLink. Assumes nothing.
-use Prim.Native.Nat.{ℕ, _+_, _-_, _<_, _≤_}
+use Prim.Native.Nat.{ℕ, _*_, _+_, _-_, _<_, _≤_}
 use native.Mathlib.Decide.{ℕ-discrete}
 use native.Mathlib.Omega.{arith}
 use mathlib.Core.Path.{_≡_, refl, sym, ap, ap₂, _∙_}
 use mathlib.Core.Bool.{Bool, true, false, not, _&&_}
 use mathlib.Core.List.{List}
-use borrow.Author.Tests.{eqb-true, eqb-false, not-true}
+use borrow.Author.Tests.{eqb-true, eqb-false, eq-eqb, not-true}
 use lib.Dec.{eqb}
 use lib.ListN.{length, getD}
 use Rattle.laws.specs.Choice.{one, one-eqb, and-left, and-right}
@@ -23,7 +23,8 @@ use Rattle.guarantees.specs.Caps.{CeilingIs}
 use Rattle.guarantees.specs.Ends.{may-on}
 use Rattle.operations.specs.Tables.{Tables, Sound}
 use Rattle.operations.specs.Move.{back, Open, own-block, own-weight, in-range}
-use Rattle.best_move.specs.Open.{SearchOk, mayGo, roomFor, isCandidate, openIn}
+use Rattle.index.specs.Indexed.{TablesOk}
+use Rattle.best_move.specs.Open.{SearchOk, IndexOk, mayGo, roomFor, isCandidate, openIn}
 use Rattle.best_move.specs.OpenLink.{Holds}
 use Rattle.search_moves.specs.Marks.{candidateBit, NetsOk, near, near-yes, near-no}
 
@@ -84,6 +85,30 @@ module _ {h : Hypergraph} {cs : List Contraction} {block : ℕ → ℕ} {T : Tab
     in-weights = s .weights-fit;
     in-candidates = l;
   }
+
+  pub index-ok : (index : ℕ) (marks : List ℕ) → 16 * T .n ≤ index → ((x : ℕ) → x < T .n → candidateBit marks x ≡ true → above cs (x + 1) ≡ 0) → IndexOk index marks (T .blocks) (T .n) (T .k)
+  index-ok index marks long bd = record {
+    in-index = long;
+    on-board = λ x l q.
+        let own = own-block s x l in
+        let r = in-range s x l (bd x l (eq-eqb (on marks 0 x) 1 q)) in
+        (omega (arith, own, r .0), omega (arith, own, r .1));
+  }
+
+  -- the rows of sound tables can be made right: a block's number on the board, and 0 off it
+  pub rows-ok : {places : ℕ} → 16 * T .n ≤ places → TablesOk places (length (T .gains)) (T .blocks) (T .n) (T .k)
+  rows-ok l = record {
+    n-to = s .follows .world .frame .few-vertices;
+    k-to = s .follows .world .frame .few;
+    in-index = l;
+    in-gains = s .follows .world .frame .gains-fit;
+    in-blocks = s .follows .world .lists .blocks-fit;
+    blocks-to = λ x u. go x u (ℕ-discrete (above cs (x + 1)) 0);
+  }
+    where
+      go : (x : ℕ) → x < T .n → Dec (above cs (x + 1) ≡ 0) → getD (T .blocks) x 0 ≤ T .k
+      go x u (yes q) = omega (arith, own-block s x u, in-range s x u q .1)
+      go x u (no q) = omega (arith, own-block s x u, s .placed (x + 1) (omega arith) (omega (arith, s .follows .says .all-vertices)) .off q)
 
   pub holds : (ceiling : ℕ → ℕ) (ceilings : List ℕ) → CeilingIs ceilings h ceiling → Holds h ceiling cs block (T .gains) (T .blocks) (T .weights) (T .loads) ceilings (T .n) (T .k)
   holds ceiling ceilings q = record {

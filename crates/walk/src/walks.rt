@@ -11,9 +11,10 @@ use search_moves::marks::mark_vertex;
 use search_moves::marks::spread;
 use search_moves::peaks::shift;
 ghost use mathlib.Core.List.{List};
-ghost use Prim.Native.Nat.{ℕ, _+_, _-_, _<_, _≤_};
+ghost use Prim.Native.Nat.{ℕ, _+_, _-_, _*_, _<_, _≤_};
 ghost use lib.ListN.{length};
-ghost use Rattle.best_move.specs.Open.{SearchOk, Chosen, gainIn};
+ghost use Rattle.index.specs.Indexed.{Kept};
+ghost use Rattle.best_move.specs.Open.{SearchOk, IndexOk, Chosen, gainIn};
 ghost use Rattle.best_move.specs.Peak.{Peaked};
 ghost use Rattle.walk.specs.Back.{RewindOk, Rewinds};
 ghost use Rattle.search_moves.specs.Lent.{lent};
@@ -40,6 +41,7 @@ struct Steps {
 // The next move: none once 25 have been made since the kept prefix.
 fn next_move(
     gains: &[i32],
+    index: &mut [u16],
     blocks: &[u16],
     weights: &[u32],
     loads: &[u64; 16],
@@ -53,12 +55,25 @@ fn next_move(
 ) -> Pick
     requires { ⌜ (kept ≤ tried) × (tried ≤ 1024) × SearchOk (length (now gains)) (length (now blocks)) (length (now weights)) (length (now marks)) n k ⌝ }
     requires { ⌜ Peaked (now gains) (now peaks) n k ⌝ }
+    requires { ⌜ IndexOk (length (now index)) (now marks) (now blocks) n k ⌝ }
     ensures { λ r. ⌜ Chosen (gainIn (now (gains .entry))) n k r (nextOf (now (gains .entry)) (now (blocks .entry)) (now (weights .entry)) (now (loads .entry)) (now (ceilings .entry)) (now (marks .entry)) n k tried kept) ⌝ }
+    ensures { λ _. ⌜ Kept n k (now (index .entry)) (now (index .exit)) ⌝ }
 {
     if kept + 25 <= tried {
         return Pick::Nothing;
     }
-    best_open(gains, blocks, weights, loads, ceilings, marks, peaks, n, k)
+    best_open(
+        gains,
+        index,
+        blocks,
+        weights,
+        loads,
+        ceilings,
+        marks,
+        peaks,
+        n,
+        k,
+    )
 }
 
 // One more move, put on the journal: `movers[i]` left the block `origins[i]`. The journal is lent, since to copy it with each move takes time.
@@ -139,6 +154,7 @@ fn advance(
     counts: &mut [u16],
     visited: &mut [u16],
     gains: &mut [i32],
+    index: &mut [u16],
     blocks: &mut [u16],
     loads: &mut [u64; 16],
     marks: &mut [u64; 48],
@@ -161,15 +177,18 @@ fn advance(
         (lent (now counts) (now visited) (now gains) (now blocks) (now loads) (now presentpins) (now presentsizes) (now bits) (now weights) (now netweights) (now firsts) n m k (s .total))
         (locals (now marks) (now movers) (now origins) (s .tried) (s .kept) (s .low) (s .heaviest)) (s .spent) ⌝ }
     requires { ⌜ Peaked (now gains) (now peaks) n k ⌝ }
+    requires { ⌜ 16 * n ≤ length (now index) ⌝ }
     ensures { λ r. ⌜ ((aboves loadedsizes : List ℕ) → Turned
         (lent (now (counts .entry)) (now (visited .entry)) (now (gains .entry)) (now (blocks .entry)) (now (loads .entry)) (now (presentpins .entry)) (now (presentsizes .entry)) (now (bits .entry)) (now (weights .entry)) (now (netweights .entry)) (now (firsts .entry)) n m k (s .total) aboves loadedsizes)
         (locals (now (marks .entry)) (now (movers .entry)) (now (origins .entry)) (s .tried) (s .kept) (s .low) (s .heaviest)) (now (ceilings .entry)) (s .spent)
         (lent (now (counts .exit)) (now (visited .exit)) (now (gains .exit)) (now (blocks .exit)) (now (loads .exit)) (now (presentpins .exit)) (now (presentsizes .exit)) (now (bits .exit)) (now (weights .exit)) (now (netweights .exit)) (now (firsts .exit)) n m k (r .total) aboves loadedsizes)
         (locals (now (marks .exit)) (now (movers .exit)) (now (origins .exit)) (r .tried) (r .kept) (r .low) (r .heaviest)) (r .spent)) ⌝ }
     ensures { λ _. ⌜ Peaked (now (gains .exit)) (now (peaks .exit)) n k ⌝ }
+    ensures { λ _. ⌜ Kept n k (now (index .entry)) (now (index .exit)) ⌝ }
 {
     match next_move(
         gains,
+        index,
         blocks,
         weights,
         loads,
@@ -278,6 +297,7 @@ pub fn walk(
     counts: &mut [u16],
     visited: &mut [u16],
     gains: &mut [i32],
+    index: &mut [u16],
     blocks: &mut [u16],
     loads: &mut [u64; 16],
     presentpins: &[u16],
@@ -298,11 +318,13 @@ pub fn walk(
     requires { ⌜ WalkOk
         (lent (now counts) (now visited) (now gains) (now blocks) (now loads) (now presentpins) (now presentsizes) (now bits) (now weights) (now netweights) (now firsts) n m k total)
         fixedmarks u v ⌝ }
+    requires { ⌜ 16 * n ≤ length (now index) ⌝ }
     ensures { λ r. ⌜ ((aboves loadedsizes : List ℕ) → Walks
         (lent (now (counts .entry)) (now (visited .entry)) (now (gains .entry)) (now (blocks .entry)) (now (loads .entry)) (now (presentpins .entry)) (now (presentsizes .entry)) (now (bits .entry)) (now (weights .entry)) (now (netweights .entry)) (now (firsts .entry)) n m k total aboves loadedsizes)
         (now (ceilings .entry)) fixedmarks u v
         (lent (now (counts .exit)) (now (visited .exit)) (now (gains .exit)) (now (blocks .exit)) (now (loads .exit)) (now (presentpins .exit)) (now (presentsizes .exit)) (now (bits .exit)) (now (weights .exit)) (now (netweights .exit)) (now (firsts .exit)) n m k (r .total) aboves loadedsizes)
         (r .tried) (r .kept)) ⌝ }
+    ensures { λ _. ⌜ Kept n k (now (index .entry)) (now (index .exit)) ⌝ }
 {
     let mut marks = fixedmarks;
     mark_vertex(&mut marks, u);
@@ -324,6 +346,7 @@ pub fn walk(
             counts,
             visited,
             gains,
+            index,
             blocks,
             loads,
             &mut marks,

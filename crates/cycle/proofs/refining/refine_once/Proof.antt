@@ -1,57 +1,86 @@
 -- `refine_once`: the undo, then the walk from the parted pair, which is on the board.
 use native.Mathlib.Omega.{arith}
 use mathlib.Core.Path.{refl}
-use borrow.Author.Needs.{needs}
 use Rattle.cycle.specs.Refine.{walk-asks, parts}
 use Rattle.cycle.proofs.refining.refine_once.Statement.{statement}
 use Rattle.cycle.proofs.refining.refine_once.Tie as tie
 
 split-requires : tie.Need-split-requires
 split-requires c κs =
-    let start = c .before .before .before .before .before .before .before .before .before .before .before .before .before .before .before .before .before .before .before .before in
-    let p = start .pre in record { loads = start .args .loads .now; splits = record { h = p .h; cs = p .cs; block = p .block; sound = p .sound } }
+    let start = c .before .before .before .before .before .before .before .before .before .before .before .before .before .before .before .before .before .before .before .before .before in
+    let p = start .pre .0 in record { loads = start .args .loads .now; splits = record { h = p .h; cs = p .cs; block = p .block; sound = p .sound } }
 
 walk-requires : tie.Need-walk-requires
 walk-requires c κs =
-    let at-split = c .before .before .before .before .before .before .before .before .before .before .before .before .before .before .before .before .before .before .before .before .before .before .before .before .before .before in
-    let start = at-split .before .before .before .before .before .before .before .before .before .before .before .before .before .before .before .before .before .before .before .before .before in
-    walk-asks _ _ _ (start .pre) (at-split .split .ensures _)
+    let at-split = c .before .before .before .before .before .before .before .before .before .before .before .before .before .before .before .before .before .before .before .before .before .before .before .before .before .before .before in
+    let start = at-split .before .before .before .before .before .before .before .before .before .before .before .before .before .before .before .before .before .before .before .before .before .before in
+    (walk-asks _ _ _ (start .pre .0) (at-split .split .ensures _), start .pre .1)
 
 same-length : tie.Need-same-length
 same-length c =
-    let at-walk = c .before .before .before .before .before .before .before in
-    let at-split = at-walk .before .before .before .before .before .before .before .before .before .before .before .before .before .before .before .before .before .before .before .before .before .before .before .before .before .before .before in
+    let at-walk = c .before .before .before .before .before .before .before .before .before in
+    let at-split = at-walk .before .before .before .before .before .before .before .before .before .before .before .before .before .before .before .before .before .before .before .before .before .before .before .before .before .before .before .before in
     omega (arith, at-split .split .kept, at-walk .walk .kept)
 
 same-length-2 : tie.Need-same-length-2
-same-length-2 c = search needs
+same-length-2 c =
+    let at-split = c .before .before .before .before .before .before .before .before .before .before .before .before .before .before .before .before .before .before .before .before .before .before .before .before .before .before .before .before .before .before .before .before .before .before .before .before .before in
+    let at-walk = c .before .before .before .before .before .before .before .before .before in
+    omega (arith, at-split .split .kept, at-walk .walk .kept)
 
 same-length-3 : tie.Need-same-length-3
-same-length-3 c = search needs
+same-length-3 c =
+    let at-split = c .before .before .before .before .before .before .before .before .before .before .before .before .before .before .before .before .before .before .before .before .before .before .before .before .before .before .before .before .before .before .before .before .before .before .before .before .before in
+    let at-walk = c .before .before .before .before .before .before .before .before .before in
+    omega (arith, at-split .split .kept, at-walk .walk .kept)
 
 same-length-4 : tie.Need-same-length-4
-same-length-4 c = search needs
+same-length-4 c =
+    let at-split = c .before .before .before .before .before .before .before .before .before .before .before .before .before .before .before .before .before .before .before .before .before .before .before .before .before .before .before .before .before .before .before .before .before .before .before .before .before in
+    let at-walk = c .before .before .before .before .before .before .before .before .before in
+    omega (arith, at-split .split .kept, at-walk .walk .kept)
 
 same-length-5 : tie.Need-same-length-5
-same-length-5 c = search needs
+same-length-5 c =
+    let at-split = c .before .before .before .before .before .before .before .before .before .before .before .before .before .before .before .before .before .before .before .before .before .before .before .before .before .before .before .before .before .before .before .before .before .before .before .before .before in
+    let at-walk = c .before .before .before .before .before .before .before .before .before in
+    omega (arith, at-split .split .kept, at-walk .walk .kept)
 
 same-length-6 : tie.Need-same-length-6
-same-length-6 c = search needs
+same-length-6 c =
+    let at-split = c .before .before .before .before .before .before .before .before .before .before .before .before .before .before .before .before .before .before .before .before .before .before .before .before .before .before .before .before .before .before .before .before .before .before .before .before .before in
+    let at-walk = c .before .before .before .before .before .before .before .before .before in
+    omega (arith, at-split .split .kept, at-walk .walk .kept)
 
 same-length-7 : tie.Need-same-length-7
-same-length-7 c = search needs
+same-length-7 c =
+    let at-split = c .before .before .before .before .before .before .before .before .before .before .before .before .before .before .before .before .before .before .before .before .before .before .before .before .before .before .before .before .before .before .before .before .before .before .before .before .before in
+    let at-walk = c .before .before .before .before .before .before .before .before .before in
+    omega (arith, at-split .split .kept, at-walk .walk .kept)
 
 same-length-8 : tie.Need-same-length-8
-same-length-8 c = search needs
+same-length-8 c =
+    let at-split = c .before .before .before .before .before .before .before .before .before .before .before .before .before .before .before .before .before .before .before .before .before .before .before .before .before .before .before .before .before .before .before .before .before .before .before .before .before in
+    let at-walk = c .before .before .before .before .before .before .before .before .before in
+    omega (arith, at-split .split .kept, at-walk .walk .kept)
 
 same-length-9 : tie.Need-same-length-9
-same-length-9 c = search needs
+same-length-9 c =
+    let at-split = c .before .before .before .before .before .before .before .before .before .before .before .before .before .before .before .before .before .before .before .before .before .before .before .before .before .before .before .before .before .before .before .before .before .before .before .before .before in
+    let at-walk = c .before .before .before .before .before .before .before .before .before in
+    omega (arith, at-split .split .kept, at-walk .walk .kept)
 
 returns : tie.Need-returns
 returns c =
-    let at-walk = c .before .before .before .before .before .before .before in
-    let at-split = at-walk .before .before .before .before .before .before .before .before .before .before .before .before .before .before .before .before .before .before .before .before .before .before .before .before .before .before .before in
-    parts refl refl refl refl refl (at-split .split .ensures _) (at-walk .walk .ensures _ _)
+    let at-walk = c .before .before .before .before .before .before .before .before .before in
+    let at-split = at-walk .before .before .before .before .before .before .before .before .before .before .before .before .before .before .before .before .before .before .before .before .before .before .before .before .before .before .before .before in
+    (parts refl refl refl refl refl (at-split .split .ensures _) (at-walk .walk .ensures .0 _ _), at-walk .walk .ensures .1)
+
+same-length-10 : tie.Need-same-length-10
+same-length-10 c =
+    let at-split = c .before .before .before .before .before .before .before .before .before .before .before .before .before .before .before .before .before .before .before .before .before .before .before .before .before .before .before .before .before .before .before .before .before .before .before .before .before in
+    let at-walk = c .before .before .before .before .before .before .before .before .before in
+    omega (arith, at-split .split .kept, at-walk .walk .kept)
 
 pub refine-once-spec : {M : Type 1} → statement M
 refine-once-spec =
@@ -68,4 +97,5 @@ refine-once-spec =
     same-length-7
     same-length-8
     same-length-9
+    same-length-10
     returns)

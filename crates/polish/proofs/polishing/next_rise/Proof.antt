@@ -17,32 +17,42 @@ enum-known-vertex c = search needs
 
 rises-requires : tie.Need-rises-requires
 rises-requires c κs =
-    let at-best-open = c .before .before .before in
-    let start = at-best-open .before .before .before .before in
+    let at-best-open = c .before .before .before .before .before in
+    let start = at-best-open .before .before .before .before .before .before in
     let a = start .args in
     let ok = start .pre .0 in
-    rise-in (a .n) (a .k) _ _ _ (at-best-open .best-open .ensures .within) (c .before .vertex .given .1) (ok .n-to) (ok .k-to) (ok .in-gains)
+    rise-in (a .n) (a .k) _ _ _ (at-best-open .best-open .ensures .0 .within) (c .before .vertex .given .1) (ok .n-to) (ok .k-to) (ok .in-gains)
 
 returns : tie.Need-returns
 returns c =
     let at-vertex = c .before .before .before in
-    let at-best-open = at-vertex .before .before in
-    let start = at-best-open .before .before .before .before in
+    let at-best-open = at-vertex .before .before .before .before in
+    let start = at-best-open .before .before .before .before .before .before in
     let a = start .args in
-    rise-yes (gainIn (now (a .gains))) (a .n) (a .k) _ _ (at-best-open .best-open .ensures) (at-vertex .vertex .given .1) (sym (c .before .rises .ensures) ∙ c .if1 .taken)
+    (rise-yes (gainIn (now (a .gains))) (a .n) (a .k) _ _ (at-best-open .best-open .ensures .0) (at-vertex .vertex .given .1) (sym (c .before .rises .ensures) ∙ c .if1 .taken), at-best-open .best-open .ensures .1)
 
 returns-2 : tie.Need-returns-2
 returns-2 c =
-    let a = c .before .before .before .before .before .before .args in
-    rise-none (gainIn (now (a .gains))) (a .n) (a .k) (c .before .before .best-open .ensures) (c .enum-told .given .1)
+    let a = c .before .before .before .before .before .before .before .before .before .before .args in
+    let found = c .before .before .before .before .best-open .ensures in
+    (rise-none (gainIn (now (a .gains))) (a .n) (a .k) (found .0) (c .enum-told .given .1), found .1)
 
 returns-3 : tie.Need-returns-3
 returns-3 c =
     let at-vertex = c .before .before .before in
-    let at-best-open = at-vertex .before .before in
-    let start = at-best-open .before .before .before .before in
+    let at-best-open = at-vertex .before .before .before .before in
+    let start = at-best-open .before .before .before .before .before .before in
     let a = start .args in
-    rise-no (gainIn (now (a .gains))) (a .n) (a .k) _ _ (at-best-open .best-open .ensures) (at-vertex .vertex .given .1) (sym (c .before .rises .ensures) ∙ c .if1 .left)
+    (rise-no (gainIn (now (a .gains))) (a .n) (a .k) _ _ (at-best-open .best-open .ensures .0) (at-vertex .vertex .given .1) (sym (c .before .rises .ensures) ∙ c .if1 .left), at-best-open .best-open .ensures .1)
+
+same-length : tie.Need-same-length
+same-length c = search needs
+
+same-length-2 : tie.Need-same-length-2
+same-length-2 c = search needs
+
+same-length-3 : tie.Need-same-length-3
+same-length-3 c = search needs
 
 pub next-rise-spec : {M : Type 1} → statement M
 next-rise-spec =
@@ -52,6 +62,9 @@ next-rise-spec =
     enum-told
     enum-known-vertex
     rises-requires
+    same-length
     returns
+    same-length-2
     returns-2
+    same-length-3
     returns-3)
