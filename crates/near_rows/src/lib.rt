@@ -1,0 +1,2 @@
+// The rows of the index that a move can change, made right after it.
+pub mod near;
