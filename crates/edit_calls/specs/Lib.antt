@@ -5,9 +5,11 @@
 -- Called      what the calls' functions need and promise
 -- Contracting J and S meet it
 -- Moving      M and B meet it
+-- Rows        J and S change the rows of two vertices
 pub mod Steps
 pub mod Start
 pub mod Refusal
 pub mod Called
 pub mod Contracting
 pub mod Moving
+pub mod Rows
