@@ -1,9 +1,11 @@
 // One call of any kind: what it leaves of the stack, the journal and the metric, and its answer.
-ghost use Prim.Native.Nat.{ℕ};
+ghost use Prim.Native.Nat.{ℕ, _*_, _≤_};
 ghost use mathlib.Core.List.{List, []};
+ghost use lib.ListN.{length};
 ghost use Rattle.model.specs.Catalogue.{Hypergraph};
 ghost use Rattle.model.specs.Lent.{Two, two, stackOf};
 ghost use Rattle.guarantees.specs.Caps.{CeilingIs};
+ghost use Rattle.index.specs.Indexed.{KeepsRight};
 ghost use Rattle.fixed.specs.Starting.{FixedIs};
 ghost use Rattle.operations.specs.Tables.{tables};
 ghost use Rattle.search_moves.specs.Lent.{lent};
@@ -54,6 +56,7 @@ fn moving(
     counts: &mut [u16],
     visited: &mut [u16],
     gains: &mut [i32],
+    index: &mut [u16],
     blocks: &mut [u16],
     loads: &mut [u64; 16],
     presentpins: &[u16],
@@ -76,16 +79,19 @@ fn moving(
     requires { ⌜ ReadyW
         (lent (now counts) (now visited) (now gains) (now blocks) (now loads) (now presentpins) (now presentsizes) (now bits) (now weights) (now netweights) (now firsts) n m k total)
         (two (journal .vertices) (journal .blocks) (journal .len)) fixedmarks ⌝ }
+    requires { ⌜ 16 * n ≤ length (now index) ⌝ }
     ensures { λ r. ⌜ ((aboves loadedsizes : List ℕ) (S : Two) (h : Hypergraph) (ceiling : ℕ → ℕ) → CeilingIs (now (ceilings .entry)) h ceiling → FixedIs fixedmarks h (stackOf (S .xs) (S .ys) (S .len)) → Called h ceiling
         (lent (now (counts .entry)) (now (visited .entry)) (now (gains .entry)) (now (blocks .entry)) (now (loads .entry)) (now (presentpins .entry)) (now (presentsizes .entry)) (now (bits .entry)) (now (weights .entry)) (now (netweights .entry)) (now (firsts .entry)) n m k total aboves loadedsizes)
         (lent (now (counts .exit)) (now (visited .exit)) (now (gains .exit)) (now (blocks .exit)) (now (loads .exit)) (now (presentpins .exit)) (now (presentsizes .exit)) (now (bits .exit)) (now (weights .exit)) (now (netweights .exit)) (now (firsts .exit)) n m k (r .total) aboves loadedsizes)
         S S (two (journal .vertices) (journal .blocks) (journal .len)) (two (r .journal .vertices) (r .journal .blocks) (r .journal .len)) (movingCall letter x y) (answerOf (r .answer))) ⌝ }
+    ensures { λ _. ⌜ KeepsRight (now (gains .entry)) (now (blocks .entry)) (now (gains .exit)) (now (blocks .exit)) n k (now (index .entry)) (now (index .exit)) ⌝ }
 {
     if letter == text::letters::M {
         let t = call_move(
             counts,
             visited,
             gains,
+            index,
             blocks,
             loads,
             presentpins,
@@ -123,6 +129,7 @@ fn moving(
             counts,
             visited,
             gains,
+            index,
             blocks,
             loads,
             presentpins,
@@ -156,6 +163,7 @@ fn moving(
             counts,
             visited,
             gains,
+            index,
             blocks,
             loads,
             presentpins,
@@ -192,6 +200,7 @@ fn moving(
         counts,
         visited,
         gains,
+        index,
         blocks,
         loads,
         presentpins,
@@ -224,6 +233,7 @@ fn contracting(
     counts: &mut [u16],
     visited: &mut [u16],
     gains: &mut [i32],
+    index: &mut [u16],
     presentpins: &mut [u16],
     presentsizes: &mut [u16],
     bits: &mut [u64],
@@ -246,16 +256,19 @@ fn contracting(
     requires { ⌜ ReadyS
         (λ loads. tables (now counts) (now visited) (now gains) (now presentpins) (now presentsizes) (now bits) (now blocks) (now weights) (now aboves) loads (now netweights) (now firsts) (now loadedsizes) n m k total)
         (two (stack .into) (stack .gone) (stack .len)) (two (journal .vertices) (journal .blocks) (journal .len)) ⌝ }
+    requires { ⌜ 16 * n ≤ length (now index) ⌝ }
     ensures { λ r. ⌜ ((loads : List ℕ) (h : Hypergraph) (ceiling : ℕ → ℕ) → Called h ceiling
         (tables (now (counts .entry)) (now (visited .entry)) (now (gains .entry)) (now (presentpins .entry)) (now (presentsizes .entry)) (now (bits .entry)) (now (blocks .entry)) (now (weights .entry)) (now (aboves .entry)) loads (now (netweights .entry)) (now (firsts .entry)) (now (loadedsizes .entry)) n m k total)
         (tables (now (counts .exit)) (now (visited .exit)) (now (gains .exit)) (now (presentpins .exit)) (now (presentsizes .exit)) (now (bits .exit)) (now (blocks .exit)) (now (weights .exit)) (now (aboves .exit)) loads (now (netweights .exit)) (now (firsts .exit)) (now (loadedsizes .exit)) n m k total)
         (two (stack .into) (stack .gone) (stack .len)) (two (r .stack .into) (r .stack .gone) (r .stack .len)) (two (journal .vertices) (journal .blocks) (journal .len)) (two (r .journal .vertices) (r .journal .blocks) (r .journal .len)) (contractingCall letter x y) (answerOf (r .answer))) ⌝ }
+    ensures { λ _. ⌜ KeepsRight (now (gains .entry)) (now (blocks .entry)) (now (gains .exit)) (now (blocks .exit)) n k (now (index .entry)) (now (index .exit)) ⌝ }
 {
     if letter == text::letters::J {
         let t = call_join(
             counts,
             visited,
             gains,
+            index,
             presentpins,
             presentsizes,
             bits,
@@ -285,6 +298,7 @@ fn contracting(
         counts,
         visited,
         gains,
+        index,
         presentpins,
         presentsizes,
         bits,
@@ -321,6 +335,7 @@ pub fn perform(
     counts: &mut [u16],
     visited: &mut [u16],
     gains: &mut [i32],
+    index: &mut [u16],
     presentpins: &mut [u16],
     presentsizes: &mut [u16],
     bits: &mut [u64],
@@ -344,16 +359,19 @@ pub fn perform(
     requires { ⌜ ReadyA
         (tables (now counts) (now visited) (now gains) (now presentpins) (now presentsizes) (now bits) (now blocks) (now weights) (now aboves) (now loads) (now netweights) (now firsts) (now loadedsizes) (size .n) (size .m) (size .k) total)
         (two (stack .into) (stack .gone) (stack .len)) (two (journal .vertices) (journal .blocks) (journal .len)) (size .average) fixedmarks ⌝ }
+    requires { ⌜ 16 * size .n ≤ length (now index) ⌝ }
     ensures { λ r. ⌜ ((h : Hypergraph) (ceiling : ℕ → ℕ) → AverageIs (size .average) h → CeilingIs (now (ceilings .entry)) h ceiling → FixedIs fixedmarks h [] → Called h ceiling
         (tables (now (counts .entry)) (now (visited .entry)) (now (gains .entry)) (now (presentpins .entry)) (now (presentsizes .entry)) (now (bits .entry)) (now (blocks .entry)) (now (weights .entry)) (now (aboves .entry)) (now (loads .entry)) (now (netweights .entry)) (now (firsts .entry)) (now (loadedsizes .entry)) (size .n) (size .m) (size .k) total)
         (tables (now (counts .exit)) (now (visited .exit)) (now (gains .exit)) (now (presentpins .exit)) (now (presentsizes .exit)) (now (bits .exit)) (now (blocks .exit)) (now (weights .exit)) (now (aboves .exit)) (now (loads .exit)) (now (netweights .exit)) (now (firsts .exit)) (now (loadedsizes .exit)) (size .n) (size .m) (size .k) (r .total))
         (two (stack .into) (stack .gone) (stack .len)) (two (r .stack .into) (r .stack .gone) (r .stack .len)) (two (journal .vertices) (journal .blocks) (journal .len)) (two (r .journal .vertices) (r .journal .blocks) (r .journal .len)) (anyCall letter x y) (answerOf (r .answer))) ⌝ }
+    ensures { λ _. ⌜ KeepsRight (now (gains .entry)) (now (blocks .entry)) (now (gains .exit)) (now (blocks .exit)) (size .n) (size .k) (now (index .entry)) (now (index .exit)) ⌝ }
 {
     if is_contracting(letter) {
         let t = contracting(
             counts,
             visited,
             gains,
+            index,
             presentpins,
             presentsizes,
             bits,
@@ -391,6 +409,7 @@ pub fn perform(
             counts,
             visited,
             gains,
+            index,
             blocks,
             loads,
             presentpins,
@@ -423,6 +442,7 @@ pub fn perform(
         counts,
         visited,
         gains,
+        index,
         presentpins,
         presentsizes,
         bits,

@@ -1,5 +1,5 @@
 -- A list of calls on tables as opening left them: what one step of it needs and promises, and the course that the loop over it has taken. Rests on
--- edit_calls's Called, report's Wrote and memory's Prefix and Close. Assumes nothing.
+-- Rows, edit_calls's Called, report's Wrote and memory's Prefix and Close. Assumes nothing.
 use Prim.Native.Nat.{ℕ, _+_, _*_, _<_, _≤_}
 use native.Mathlib.Omega.{arith}
 use mathlib.Core.Path.{_≡_, refl, sym, ap, ap₂, _∙_, subst}
@@ -14,6 +14,7 @@ use Rattle.model.specs.Lent.{callsOf, Two}
 use Rattle.model.specs.Demand.{Accepted, Course}
 use Rattle.guarantees.specs.Caps.{CeilingIs}
 use Rattle.fixed.specs.Starting.{FixedIs}
+use Rattle.index.specs.Indexed.{TablesOk, Indexed, KeepsRight, indexed-then}
 use Rattle.fields.specs.Wrote.{Wrote}
 use Rattle.fields.proofs.Laws.{wrote-none, wrote-length, wrote-append}
 use Rattle.operations.specs.Tables.{Tables, Sound, Keeps}
@@ -25,6 +26,8 @@ use Rattle.search_calls.specs.Cycling.{ReadyA}
 use Rattle.any_call.specs.Kinds.{anyCall, any-is}
 use Rattle.memory.specs.Prefix.{after-more, answers-more, course-none, course-more, NextCall, callsOf-more}
 use Rattle.memory.specs.Close.{answer-fits}
+use Rattle.search_moves.specs.Tabled.{rows-ok}
+use Rattle.call_list.specs.Rows.{same-rows}
 
 -- ---- one step
 -- what it needs: a running sale, and space for the answer's line from `at` on
@@ -67,16 +70,19 @@ pub record CanRun (T : Tables) (average : ℕ) (ceilings fixedmarks calls : List
 -- what a list runs on between two calls
 pub record Point : Type 0 where
   pub tables : Tables
+  pub index : List ℕ
   pub stack : Two
   pub journal : Two
 
-abbrev pub point : Tables → Two → Two → Point
-point T S J = record { tables = T; stack = S; journal = J }
+abbrev pub point : Tables → List ℕ → Two → Two → Point
+point T index S J = record { tables = T; index = index; stack = S; journal = J }
 
--- it runs in the state s, on what the tables T₀ have become: what is not in use is untouched, and neither are sizes and loaded stretches
-pub record RunsOn (h : Hypergraph) (T₀ : Tables) (s : State) (p : Point) : Type 0 where
+-- it runs in the state s, on what the tables T₀ and the index₀ have become: what is not in use is untouched, and neither are sizes and loaded stretches;
+-- the rows of the index are right for the gains and the blocks that stand
+pub record RunsOn (h : Hypergraph) (T₀ : Tables) (index₀ : List ℕ) (s : State) (p : Point) : Type 0 where
   pub runs : Runs h s (p .tables) (p .stack) (p .journal)
   pub keeps : Keeps T₀ (p .tables)
+  pub indexed : Indexed (p .tables .gains) (p .tables .blocks) (p .tables .n) (p .tables .k) index₀ (p .index)
   pub n-same : p .tables .n ≡ T₀ .n
   pub m-same : p .tables .m ≡ T₀ .m
   pub k-same : p .tables .k ≡ T₀ .k
@@ -84,21 +90,27 @@ pub record RunsOn (h : Hypergraph) (T₀ : Tables) (s : State) (p : Point) : Typ
   pub loaded-same : p .tables .loaded ≡ T₀ .loaded
 
 -- i calls are done: the sale runs in the machine's state after them, on its course from the first call on, and their answers are written
-pub record Done (h : Hypergraph) (calls : List ℕ) (i : ℕ) (T₀ T : Tables) (S J : Two) (out₀ out : List ℕ) (at : ℕ) : Type 0 where
-  pub here : RunsOn h T₀ (after h (fresh h) (callsOf i calls)) (point T S J)
+pub record Done (h : Hypergraph) (calls : List ℕ) (i : ℕ) (T₀ T : Tables) (index₀ index : List ℕ) (S J : Two) (out₀ out : List ℕ) (at : ℕ) : Type 0 where
+  pub here : RunsOn h T₀ index₀ (after h (fresh h) (callsOf i calls)) (point T index S J)
   pub begun : Point
-  pub course : Course (RunsOn h T₀) h (fresh h) (callsOf i calls) begun (point T S J)
+  pub course : Course (RunsOn h T₀ index₀) h (fresh h) (callsOf i calls) begun (point T index S J)
   pub journal-le : J .len ≤ i
   pub wrote : Wrote out₀ out 0 (answers h (fresh h) (callsOf i calls)) at
 
-pub done-none : {limits : Limits} {h : Hypergraph} {T : Tables} {average count room : ℕ} {ceilings fixedmarks calls : List ℕ} {S J : Two} (out : List ℕ) → Begins limits h T average ceilings fixedmarks calls count room → Empty S → Empty J → Done h calls 0 T T S J out out 0
+-- before the first call the rows of the index can be made right
+pub begins-rows : {limits : Limits} {h : Hypergraph} {T : Tables} {average count room places : ℕ} {ceilings fixedmarks calls : List ℕ} → Begins limits h T average ceilings fixedmarks calls count room
+    → 16 * T .n ≤ places → TablesOk places (length (T .gains)) (T .blocks) (T .n) (T .k)
+begins-rows b = rows-ok (b .sound)
+
+pub done-none : {limits : Limits} {h : Hypergraph} {T : Tables} {average count room : ℕ} {ceilings fixedmarks calls index₀ index : List ℕ} {S J : Two} (out : List ℕ) → Begins limits h T average ceilings fixedmarks calls count room
+    → Indexed (T .gains) (T .blocks) (T .n) (T .k) index₀ index → Empty S → Empty J → Done h calls 0 T T index₀ index S J out out 0
 unfolding callsOf after answers
-done-none {h = h} {T = T} {S = S} {J = J} out b e f =
-    let start : RunsOn h T (fresh h) (point T S J) = record { runs = runs-fresh (b .sound) e f; keeps = keeps-none T; n-same = refl; m-same = refl; k-same = refl; firsts-same = refl; loaded-same = refl } in
-    record { here = start; begun = point T S J; course = course-none (RunsOn h T) h (fresh h) (point T S J) start; journal-le = omega (arith, f .none); wrote = wrote-none out 0 }
+done-none {h = h} {T = T} {index₀ = index₀} {index = index} {S = S} {J = J} out b r e f =
+    let start : RunsOn h T index₀ (fresh h) (point T index S J) = record { runs = runs-fresh (b .sound) e f; keeps = keeps-none T; indexed = r; n-same = refl; m-same = refl; k-same = refl; firsts-same = refl; loaded-same = refl } in
+    record { here = start; begun = point T index S J; course = course-none (RunsOn h T index₀) h (fresh h) (point T index S J) start; journal-le = omega (arith, f .none); wrote = wrote-none out 0 }
 
 module _ {limits : Limits} {h : Hypergraph} {T₀ : Tables} {average count : ℕ} {ceilings fixedmarks calls out₀ : List ℕ} (b : Begins limits h T₀ average ceilings fixedmarks calls count (length out₀)) (i : ℕ) (l : i < count)
-    {T : Tables} {S J : Two} {out : List ℕ} {at : ℕ} (d : Done h calls i T₀ T S J out₀ out at) (x y : ℕ) (qx : x ≡ getD calls (3 * i + 1) 0) (qy : y ≡ getD calls (3 * i + 2) 0) where
+    {T : Tables} {index₀ index : List ℕ} {S J : Two} {out : List ℕ} {at : ℕ} (d : Done h calls i T₀ T index₀ index S J out₀ out at) (x y : ℕ) (qx : x ≡ getD calls (3 * i + 1) 0) (qy : y ≡ getD calls (3 * i + 2) 0) where
   more : (length (callsOf i calls) ≡ i) × NextCall calls i
   more = callsOf-more count calls (b .known) i l
 
@@ -114,8 +126,11 @@ module _ {limits : Limits} {h : Hypergraph} {T₀ : Tables} {average count : ℕ
   out-length : length out ≡ length out₀
   out-length = wrote-length (d .wrote) (omega (arith, line-fits, b .spacious))
 
-  same : {T′ : Tables} {S′ J′ : Two} → (T′ ≡ T) × (S′ ≡ S) × (J′ ≡ J) → point T′ S′ J′ ≡ point T S J
-  same u = λ k. point (u .0 k) (u .1 k) (u .2 k)
+  -- a call that left the tables as they were left the index, too
+  same : {T′ : Tables} {index′ : List ℕ} {S′ J′ : Two} → Indexed (T′ .gains) (T′ .blocks) (T′ .n) (T′ .k) index index′ → (T′ ≡ T) × (S′ ≡ S) × (J′ ≡ J) → point T′ index′ S′ J′ ≡ point T index S J
+  same {index′ = index′} r u =
+      let rows : index′ ≡ index = same-rows (d .here .indexed) (subst (λ (t : Tables). Indexed (t .gains) (t .blocks) (t .n) (t .k) index index′) (u .0) r) in
+      λ k. point (u .0 k) (rows k) (u .1 k) (u .2 k)
 
   pub can-step : CanStep T S J average ceilings fixedmarks (length out) at asked
   can-step = record {
@@ -129,15 +144,19 @@ module _ {limits : Limits} {h : Hypergraph} {T₀ : Tables} {average count : ℕ
     fits = omega (arith, line-fits, b .spacious, d .wrote .ends, out-length);
   }
 
-  pub done-more : {T′ : Tables} {S′ J′ : Two} {out′ : List ℕ} {at′ : ℕ} → T′ .n ≡ T₀ .n → T′ .m ≡ T₀ .m → T′ .k ≡ T₀ .k → T′ .firsts ≡ T₀ .firsts → T′ .loaded ≡ T₀ .loaded
-      → Steps h (capacities h) T T′ S S′ J J′ asked out out′ at at′ → Done h calls (i + 1) T₀ T′ S′ J′ out₀ out′ at′
-  done-more {T′} {S′} {J′} {out′} {at′} qn qm qk qf ql s =
+  pub done-more : {T′ : Tables} {index′ : List ℕ} {S′ J′ : Two} {out′ : List ℕ} {at′ : ℕ} → T′ .n ≡ T₀ .n → T′ .m ≡ T₀ .m → T′ .k ≡ T₀ .k → T′ .firsts ≡ T₀ .firsts → T′ .loaded ≡ T₀ .loaded
+      → Steps h (capacities h) T T′ S S′ J J′ asked out out′ at at′ → KeepsRight (T .gains) (T .blocks) (T′ .gains) (T′ .blocks) (T′ .n) (T′ .k) index index′ → Done h calls (i + 1) T₀ T′ index₀ index′ S′ J′ out₀ out′ at′
+  done-more {T′} {index′} {S′} {J′} {out′} {at′} qn qm qk qf ql s w =
       let st : State = after h (fresh h) (callsOf i calls) in
       let e : Stepped h (capacities h) st asked T′ S′ J J′ (s .says) = s .called .steps st (d .here .runs) in
+      let before : Indexed (T .gains) (T .blocks) (T′ .n) (T′ .k) index₀ index =
+      subst (λ (z : ℕ). Indexed (T .gains) (T .blocks) z (T′ .k) index₀ index) (d .here .n-same ∙ sym qn) (subst (λ (z : ℕ). Indexed (T .gains) (T .blocks) (T .n) z index₀ index) (d .here .k-same ∙ sym qk) (d .here .indexed)) in
+      let r : Indexed (T′ .gains) (T′ .blocks) (T′ .n) (T′ .k) index index′ = record { kept = w .kept; rows = w .right (before .rows) } in
       let q : callsOf (i + 1) calls ≡ callsOf i calls ++ (asked ∷ []) = more .1 .more ∙ ap (λ (c : Call). callsOf i calls ++ (c ∷ [])) (sym asked-is) in
-      let now : RunsOn h T₀ (after h (fresh h) (callsOf i calls ++ (asked ∷ []))) (point T′ S′ J′) = record {
+      let now : RunsOn h T₀ index₀ (after h (fresh h) (callsOf i calls ++ (asked ∷ []))) (point T′ index′ S′ J′) = record {
         runs = subst (λ (x : State). Runs h x T′ S′ J′) (sym (after-more h (fresh h) (callsOf i calls) asked)) (e .runs);
         keeps = keeps-more (d .here .n-same) (d .here .m-same) (d .here .k-same) (d .here .firsts-same) (d .here .loaded-same) (d .here .keeps) (s .called .keeps st (d .here .runs));
+        indexed = indexed-then (before .kept) r;
         n-same = qn;
         m-same = qm;
         k-same = qk;
@@ -145,14 +164,15 @@ module _ {limits : Limits} {h : Hypergraph} {T₀ : Tables} {average count : ℕ
         loaded-same = ql;
       } in
       record {
-        here = subst (λ (cs : List Call). RunsOn h T₀ (after h (fresh h) cs) (point T′ S′ J′)) (sym q) now;
+        here = subst (λ (cs : List Call). RunsOn h T₀ index₀ (after h (fresh h) cs) (point T′ index′ S′ J′)) (sym q) now;
         begun = d .begun;
-        course = subst (λ (cs : List Call). Course (RunsOn h T₀) h (fresh h) cs (d .begun) (point T′ S′ J′)) (sym q)
-            (course-more (RunsOn h T₀) h (fresh h) (callsOf i calls) asked (d .begun) (point T S J) (point T′ S′ J′) (d .course) now (λ r. same (s .called .unchanged (subst (λ (a : Answer). 1 ≤ refusal a) (sym (e .says)) r))));
+        course = subst (λ (cs : List Call). Course (RunsOn h T₀ index₀) h (fresh h) cs (d .begun) (point T′ index′ S′ J′)) (sym q)
+            (course-more (RunsOn h T₀ index₀) h (fresh h) (callsOf i calls) asked (d .begun) (point T index S J) (point T′ index′ S′ J′) (d .course) now (λ no. same r (s .called .unchanged (subst (λ (a : Answer). 1 ≤ refusal a) (sym (e .says)) no))));
         journal-le = omega (arith, e .longer, d .journal-le);
         wrote = subst (λ (x : List ℕ). Wrote out₀ out′ 0 x at′) (ap (λ (a : Answer). answers h (fresh h) (callsOf i calls) ++ answerRow a) (e .says) ∙ sym (answers-more h (fresh h) (callsOf i calls) asked) ∙ ap (answers h (fresh h)) (sym q))
             (wrote-append (omega (arith, line-fits, b .spacious)) (d .wrote) (s .wrote));
       }
 
-pub done-all : {h : Hypergraph} {calls : List ℕ} {i count : ℕ} {T₀ T : Tables} {S J : Two} {out₀ out : List ℕ} {at : ℕ} → i ≡ count → Done h calls i T₀ T S J out₀ out at → Done h calls count T₀ T S J out₀ out at
-done-all {h} {calls} {i} {count} {T₀} {T} {S} {J} {out₀} {out} {at} e = subst (λ (j : ℕ). Done h calls j T₀ T S J out₀ out at) e
+pub done-all : {h : Hypergraph} {calls : List ℕ} {i count : ℕ} {T₀ T : Tables} {index₀ index : List ℕ} {S J : Two} {out₀ out : List ℕ} {at : ℕ} → i ≡ count → Done h calls i T₀ T index₀ index S J out₀ out at
+    → Done h calls count T₀ T index₀ index S J out₀ out at
+done-all {h} {calls} {i} {count} {T₀} {T} {index₀} {index} {S} {J} {out₀} {out} {at} e = subst (λ (j : ℕ). Done h calls j T₀ T index₀ index S J out₀ out at) e

@@ -1,9 +1,9 @@
 -- A: what its function needs, and that its result is the machine's. Rests on edit_calls's Called and on cycle's contract. Assumes nothing.
-use Prim.Native.Nat.{ℕ, _-_}
+use Prim.Native.Nat.{ℕ, _-_, _*_, _≤_}
 use native.Mathlib.Omega.{arith}
 use mathlib.Core.Path.{_≡_, refl, sym, ap, _∙_, subst}
 use mathlib.Core.List.{List, [], _∷_}
-use lib.ListN.{getD}
+use lib.ListN.{length, getD}
 use Rattle.model.specs.Catalogue.{Hypergraph, averageWeight}
 use Rattle.model.specs.Measure.{Contraction}
 use Rattle.model.specs.Machine.{callA, saysA, saysNO, State, settle}
@@ -12,7 +12,9 @@ use Rattle.model.specs.Search.{refusesA, doesA, callUnder}
 use Rattle.model.specs.Lent.{stackOf, Two}
 use Rattle.guarantees.specs.Caps.{CeilingIs}
 use Rattle.operations.specs.Pairs.{pairs-none, pairs-some}
+use Rattle.index.specs.Indexed.{TablesOk}
 use Rattle.operations.specs.Tables.{Tables, Sound}
+use Rattle.search_moves.specs.Tabled.{rows-ok}
 use Rattle.operations.specs.Keeping.{keeps-none}
 use Rattle.fixed.specs.Starting.{FixedIs}
 use Rattle.cycle.specs.Whole.{CycleOk, Does}
@@ -57,6 +59,11 @@ cycle-asks g z = record {
   average-is = g .average-is;
   fixed = g .fixed;
 }
+
+-- after it the rows of the index can be made right
+pub cycle-rows : {T T′ : Tables} {S J : Two} {average joins tried kept moves places : ℕ} {ceilings fixedmarks : List ℕ} → ReadyA T S J average fixedmarks → S .len ≡ 0 → Does T average ceilings fixedmarks T′ joins tried kept moves
+    → 16 * T′ .n ≤ places → TablesOk places (length (T′ .gains)) (T′ .blocks) (T′ .n) (T′ .k)
+cycle-rows {ceilings = ceilings} g z d l = rows-ok (d .is (g .ready .h) (λ b. getD ceilings (b - 1) 0) (g .ready .s) (g .average-is) (λ b _ _. refl) (g .fixed) (sound-none (g .ready .runs) z) .sound) l
 
 pub accepted-A : (h : Hypergraph) (ceiling : ℕ → ℕ) (T T′ : Tables) (S J J′ : Two) (average : ℕ) (ceilings fixedmarks : List ℕ) {joins tried kept moves : ℕ} → average ≡ averageWeight h → CeilingIs ceilings h ceiling → FixedIs fixedmarks h [] → S .len ≡ 0 → Does T average ceilings fixedmarks T′ joins tried kept moves → Cleared J J′
     → Called h ceiling T T′ S S J J′ callA (saysA joins tried kept moves (T′ .total))

@@ -1,13 +1,13 @@
 -- W and P: what their functions need, and that their results are the machine's. Rests on edit_calls's Called and Refusal and on search's contracts.
 -- Assumes nothing.
-use Prim.Native.Nat.{ℕ, _+_, _-_, _<_, _≤_}
+use Prim.Native.Nat.{ℕ, _+_, _-_, _*_, _<_, _≤_}
 use native.Mathlib.Omega.{arith}
 use mathlib.Core.Path.{_≡_, refl, sym, ap, ap₂, _∙_, subst}
 use mathlib.Core.Bool.{true, not, _&&_}
 use mathlib.Core.List.{List}
 use borrow.Author.Tests.{eqb-false, not-true, not-false}
 use lib.Dec.{eqb}
-use lib.ListN.{getD}
+use lib.ListN.{length, getD}
 use Rattle.laws.specs.Choice.{cond-zero, and-left, and-right}
 use Rattle.model.specs.Catalogue.{Hypergraph}
 use Rattle.model.specs.Machine.{callW, callP, saysW, saysP, State, settle}
@@ -17,7 +17,9 @@ use Rattle.model.specs.Measure.{Contraction}
 use Rattle.model.specs.Lent.{Two, stackOf}
 use Rattle.guarantees.specs.Caps.{CeilingIs}
 use Rattle.guarantees.specs.SearchBounds.{tried-le, walk-counts}
+use Rattle.index.specs.Indexed.{TablesOk}
 use Rattle.operations.specs.Tables.{Tables}
+use Rattle.search_moves.specs.Tabled.{rows-ok}
 use Rattle.operations.specs.Keeping.{keeps-none}
 use Rattle.fixed.specs.Starting.{FixedIs}
 use Rattle.walk.specs.Steps.{WalkOk, Ended, Walks}
@@ -83,6 +85,19 @@ walk-asks {T} u v w e =
       v-in = omega (arith, b .v-from, b .v-to);
       v-on = b .v-on;
     }
+
+-- after a walk or a polish the rows of the index can be made right
+pub walk-rows : {T T′ : List ℕ → List ℕ → Tables} {J : Two} {ceilings fixedmarks : List ℕ} {u v tried kept places : ℕ} (w : ReadyW T J fixedmarks) → ((aboves loaded : List ℕ) → Walks (T aboves loaded) ceilings fixedmarks u v (T′ aboves loaded) tried kept)
+    → 16 * T′ (w .moving .aboves) (w .moving .loaded) .n ≤ places → let T″ : Tables = T′ (w .moving .aboves) (w .moving .loaded) in TablesOk places (length (T″ .gains)) (T″ .blocks) (T″ .n) (T″ .k)
+walk-rows {ceilings = ceilings} w f l =
+    let g = w .moving in
+    rows-ok (f (g .aboves) (g .loaded) .is (g .ready .h) (λ b. getD ceilings (b - 1) 0) (g .ready .s .stack) (g .ready .s .block) (λ b _ _. refl) (fixed-now (g .ready .runs) (w .fixed)) (g .ready .runs .sound) .sound) l
+
+pub polish-rows : {T T′ : List ℕ → List ℕ → Tables} {J : Two} {ceilings fixedmarks : List ℕ} {moves places : ℕ} (w : ReadyW T J fixedmarks) → ((aboves loaded : List ℕ) → Polishes (T aboves loaded) ceilings fixedmarks (T′ aboves loaded) moves)
+    → 16 * T′ (w .moving .aboves) (w .moving .loaded) .n ≤ places → let T″ : Tables = T′ (w .moving .aboves) (w .moving .loaded) in TablesOk places (length (T″ .gains)) (T″ .blocks) (T″ .n) (T″ .k)
+polish-rows {ceilings = ceilings} w f l =
+    let g = w .moving in
+    rows-ok (f (g .aboves) (g .loaded) .is (g .ready .h) (λ b. getD ceilings (b - 1) 0) (g .ready .s .stack) (g .ready .s .block) (λ b _ _. refl) (fixed-now (g .ready .runs) (w .fixed)) (g .ready .runs .sound) .sound) l
 
 -- a walk's numbers are small
 pub walk-few : {T T′ : List ℕ → List ℕ → Tables} {J : Two} {ceilings fixedmarks : List ℕ} {u v tried kept : ℕ} (w : ReadyW T J fixedmarks) → ((aboves loaded : List ℕ) → Walks (T aboves loaded) ceilings fixedmarks u v (T′ aboves loaded) tried kept) → (tried < 65536) × (kept < 65536)

@@ -1,10 +1,12 @@
 // The calls W and P: refused with the number of the refusal, or done, with the numbers of the answer.
-ghost use Prim.Native.Nat.{ℕ};
+ghost use Prim.Native.Nat.{ℕ, _*_, _≤_};
 ghost use mathlib.Core.List.{List};
+ghost use lib.ListN.{length};
 ghost use Rattle.model.specs.Catalogue.{Hypergraph};
 ghost use Rattle.model.specs.Machine.{callW, callP, saysW, saysP};
 ghost use Rattle.model.specs.Lent.{Two, two, stackOf};
 ghost use Rattle.guarantees.specs.Caps.{CeilingIs};
+ghost use Rattle.index.specs.Indexed.{KeepsRight};
 ghost use Rattle.fixed.specs.Starting.{FixedIs};
 ghost use Rattle.search_moves.specs.Lent.{lent};
 ghost use Rattle.edit_calls.specs.Steps.{told};
@@ -13,6 +15,7 @@ ghost use Rattle.search_calls.specs.Searching.{ReadyW};
 use edit_calls::refusals::refuses_walk;
 use incidence::numbers::narrow;
 use incidence::numbers::wide;
+use index::rows::put_all_right;
 use operations::pairs::Journal;
 use polish::polishing::polish;
 use walk::walks::walk;
@@ -38,6 +41,7 @@ pub fn call_walk(
     counts: &mut [u16],
     visited: &mut [u16],
     gains: &mut [i32],
+    index: &mut [u16],
     blocks: &mut [u16],
     loads: &mut [u64; 16],
     presentpins: &[u16],
@@ -59,10 +63,12 @@ pub fn call_walk(
     requires { ⌜ ReadyW
         (lent (now counts) (now visited) (now gains) (now blocks) (now loads) (now presentpins) (now presentsizes) (now bits) (now weights) (now netweights) (now firsts) n m k total)
         (two (journal .vertices) (journal .blocks) (journal .len)) fixedmarks ⌝ }
+    requires { ⌜ 16 * n ≤ length (now index) ⌝ }
     ensures { λ r. ⌜ ((aboves loadedsizes : List ℕ) (S : Two) (h : Hypergraph) (ceiling : ℕ → ℕ) → CeilingIs (now (ceilings .entry)) h ceiling → FixedIs fixedmarks h (stackOf (S .xs) (S .ys) (S .len)) → Called h ceiling
         (lent (now (counts .entry)) (now (visited .entry)) (now (gains .entry)) (now (blocks .entry)) (now (loads .entry)) (now (presentpins .entry)) (now (presentsizes .entry)) (now (bits .entry)) (now (weights .entry)) (now (netweights .entry)) (now (firsts .entry)) n m k total aboves loadedsizes)
         (lent (now (counts .exit)) (now (visited .exit)) (now (gains .exit)) (now (blocks .exit)) (now (loads .exit)) (now (presentpins .exit)) (now (presentsizes .exit)) (now (bits .exit)) (now (weights .exit)) (now (netweights .exit)) (now (firsts .exit)) n m k (r .total) aboves loadedsizes)
         S S (two (journal .vertices) (journal .blocks) (journal .len)) (two (r .journal .vertices) (r .journal .blocks) (r .journal .len)) (callW u v) (told (r .no) (saysW (r .tried) (r .kept) (r .total)))) ⌝ }
+    ensures { λ _. ⌜ KeepsRight (now (gains .entry)) (now (blocks .entry)) (now (gains .exit)) (now (blocks .exit)) n k (now (index .entry)) (now (index .exit)) ⌝ }
 {
     let no = refuses_walk(blocks, n, u, v);
     if no != 0 {
@@ -79,6 +85,7 @@ pub fn call_walk(
         counts,
         visited,
         gains,
+        index,
         blocks,
         loads,
         presentpins,
@@ -96,6 +103,7 @@ pub fn call_walk(
         u - 1,
         v - 1,
     );
+    put_all_right(index, gains, blocks, n, k);
     WalkTurn {
         journal: cleared,
         no: 0,
@@ -110,6 +118,7 @@ pub fn call_polish(
     counts: &mut [u16],
     visited: &mut [u16],
     gains: &mut [i32],
+    index: &mut [u16],
     blocks: &mut [u16],
     loads: &mut [u64; 16],
     presentpins: &[u16],
@@ -129,16 +138,19 @@ pub fn call_polish(
     requires { ⌜ ReadyW
         (lent (now counts) (now visited) (now gains) (now blocks) (now loads) (now presentpins) (now presentsizes) (now bits) (now weights) (now netweights) (now firsts) n m k total)
         (two (journal .vertices) (journal .blocks) (journal .len)) fixedmarks ⌝ }
+    requires { ⌜ 16 * n ≤ length (now index) ⌝ }
     ensures { λ r. ⌜ ((aboves loadedsizes : List ℕ) (S : Two) (h : Hypergraph) (ceiling : ℕ → ℕ) → CeilingIs (now (ceilings .entry)) h ceiling → FixedIs fixedmarks h (stackOf (S .xs) (S .ys) (S .len)) → Called h ceiling
         (lent (now (counts .entry)) (now (visited .entry)) (now (gains .entry)) (now (blocks .entry)) (now (loads .entry)) (now (presentpins .entry)) (now (presentsizes .entry)) (now (bits .entry)) (now (weights .entry)) (now (netweights .entry)) (now (firsts .entry)) n m k total aboves loadedsizes)
         (lent (now (counts .exit)) (now (visited .exit)) (now (gains .exit)) (now (blocks .exit)) (now (loads .exit)) (now (presentpins .exit)) (now (presentsizes .exit)) (now (bits .exit)) (now (weights .exit)) (now (netweights .exit)) (now (firsts .exit)) n m k (r .total) aboves loadedsizes)
         S S (two (journal .vertices) (journal .blocks) (journal .len)) (two (r .journal .vertices) (r .journal .blocks) (r .journal .len)) callP (saysP (r .moves) (r .total))) ⌝ }
+    ensures { λ _. ⌜ KeepsRight (now (gains .entry)) (now (blocks .entry)) (now (gains .exit)) (now (blocks .exit)) n k (now (index .entry)) (now (index .exit)) ⌝ }
 {
     let cleared = journal.clear();
     let p = polish(
         counts,
         visited,
         gains,
+        index,
         blocks,
         loads,
         presentpins,
@@ -154,6 +166,7 @@ pub fn call_polish(
         k,
         total,
     );
+    put_all_right(index, gains, blocks, n, k);
     PolishTurn {
         journal: cleared,
         moves: p.moves,

@@ -1,16 +1,20 @@
 use borrow.Author.Needs.{needs}
+use native.Mathlib.Omega.{arith}
 use Rattle.call_list.specs.Course.{answer-room}
 use Rattle.call_list.proofs.step.Statement.{statement}
 use Rattle.call_list.proofs.step.Tie as tie
 
 perform-requires : tie.Need-perform-requires
-perform-requires c κs = search needs
+perform-requires c κs =
+    let start = c .before .before .before .before .before .before .before .before .before .before .before .before .before .before .before .before .before .before .before .before .before .before .before .before .before .before in
+    (start .pre .0 .ready, start .pre .1)
 
 put-answer-requires : tie.Need-put-answer-requires
 put-answer-requires c κs =
-    let at-perform = c .before .before .before .before .before .before .before .before .before .before .before .before .before .before .before .before .before .before .before .before in
-    let start = at-perform .before .before .before .before .before .before .before .before .before .before .before .before .before .before .before .before .before .before .before .before .before .before .before .before .before in
-    answer-room (start .pre) (at-perform .perform .ensures ((start .pre) .ready .ready .h) ((start .pre) .ceiling) ((start .pre) .ready .average-is) ((start .pre) .ceiling-is) ((start .pre) .ready .fixed))
+    let at-perform = c .before .before .before .before .before .before .before .before .before .before .before .before .before .before .before .before .before .before .before .before .before .before in
+    let start = at-perform .before .before .before .before .before .before .before .before .before .before .before .before .before .before .before .before .before .before .before .before .before .before .before .before .before .before .before in
+    let can = start .pre .0 in
+    answer-room can (at-perform .perform .ensures .0 (can .ready .ready .h) (can .ceiling) (can .ready .average-is) (can .ceiling-is) (can .ready .fixed))
 
 same-length : tie.Need-same-length
 same-length c = search needs
@@ -42,10 +46,13 @@ same-length-9 c = search needs
 same-length-10 : tie.Need-same-length-10
 same-length-10 c = search needs
 
+same-length-11 : tie.Need-same-length-11
+same-length-11 c = search needs
+
 returns : tie.Need-returns
 returns c =
-    let at-perform = c .before .before .before .before .before .before .before .before .before .before .before .before .before .before .before .before .before .before .before .before .before .before .before in
-    λ h ceiling p q f. record { says = _; called = at-perform .perform .ensures h ceiling p q f; wrote = c .before .before .put-answer .ensures }
+    let at-perform = c .before .before .before .before .before .before .before .before .before .before .before .before .before .before .before .before .before .before .before .before .before .before .before .before .before in
+    (λ h ceiling p q f. record { says = _; called = at-perform .perform .ensures .0 h ceiling p q f; wrote = c .before .before .put-answer .ensures }, at-perform .perform .ensures .1)
 
 pub step-spec : {M : Type 1} → statement M
 step-spec =
@@ -63,4 +70,5 @@ step-spec =
     same-length-8
     same-length-9
     same-length-10
+    same-length-11
     returns)

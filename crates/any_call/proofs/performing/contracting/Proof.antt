@@ -6,8 +6,8 @@ use Rattle.any_call.proofs.performing.contracting.Tie as tie
 
 call-join-requires : tie.Need-call-join-requires
 call-join-requires c κs =
-    let start = c .before .before .before .before .before .before .before .before .before .before .before .before .before .before .before .before .before .before .before .before .before in
-    record { loads = start .pre .loads; loaded = now (start .args .loadedsizes); ready = start .pre .ready }
+    let start = c .before .before .before .before .before .before .before .before .before .before .before .before .before .before .before .before .before .before .before .before .before .before .before in
+    (record { loads = start .pre .0 .loads; loaded = now (start .args .loadedsizes); ready = start .pre .0 .ready }, start .pre .1)
 
 answer-requires : tie.Need-answer-requires
 answer-requires c κs = search needs
@@ -41,10 +41,10 @@ same-length-9 c = search needs
 
 returns : tie.Need-returns
 returns c =
-    let at-call-join = c .before .before .before .before .before .before .before .before .before .before .before .before .before .before .before .before .before .before .before .before in
-    let at-if1 = at-call-join .before .before .before .before .before .before .before .before .before .before in
-    let start = at-if1 .before .before .before .before .before .before .before .before .before .before .before .before in
-    λ loads h ceiling. called-as (is-J (start .args .letter) (start .args .x) (start .args .y) (at-if1 .if1 .taken)) (c .answer .ensures) (at-call-join .call-join .ensures loads (now (start .args .loadedsizes)) h ceiling)
+    let at-call-join = c .before .before .before .before .before .before .before .before .before .before .before .before .before .before .before .before .before .before .before .before .before .before in
+    let at-if1 = at-call-join .before .before .before .before .before .before .before .before .before .before .before in
+    let start = at-if1 .before .before .before .before .before .before .before .before .before .before .before .before .before in
+    (λ loads h ceiling. called-as (is-J (start .args .letter) (start .args .x) (start .args .y) (at-if1 .if1 .taken)) (c .answer .ensures) (at-call-join .call-join .ensures .0 loads (now (start .args .loadedsizes)) h ceiling), at-call-join .call-join .ensures .1)
 
 call-split-requires : tie.Need-call-split-requires
 call-split-requires c κs = search needs
@@ -81,10 +81,16 @@ same-length-18 c = search needs
 
 returns-2 : tie.Need-returns-2
 returns-2 c =
-    let at-call-split = c .before .before .before .before .before .before .before .before .before .before .before .before .before .before .before .before .before .before .before .before in
-    let at-if1 = at-call-split .before .before .before .before .before .before .before .before .before .before in
-    let start = at-if1 .before .before .before .before .before .before .before .before .before .before .before .before in
-    λ loads h ceiling. called-as (is-S (start .args .letter) (start .args .x) (start .args .y) (at-if1 .if1 .left)) (c .answer2 .ensures) (at-call-split .call-split .ensures loads h ceiling)
+    let at-call-split = c .before .before .before .before .before .before .before .before .before .before .before .before .before .before .before .before .before .before .before .before .before .before in
+    let at-if1 = at-call-split .before .before .before .before .before .before .before .before .before .before .before in
+    let start = at-if1 .before .before .before .before .before .before .before .before .before .before .before .before .before in
+    (λ loads h ceiling. called-as (is-S (start .args .letter) (start .args .x) (start .args .y) (at-if1 .if1 .left)) (c .answer2 .ensures) (at-call-split .call-split .ensures .0 loads h ceiling), at-call-split .call-split .ensures .1)
+
+same-length-19 : tie.Need-same-length-19
+same-length-19 c = search needs
+
+same-length-20 : tie.Need-same-length-20
+same-length-20 c = search needs
 
 pub contracting-spec : {M : Type 1} → statement M
 contracting-spec =
@@ -101,10 +107,10 @@ contracting-spec =
     same-length-7
     same-length-8
     same-length-9
+    same-length-10
     returns
     call-split-requires
     answer-requires-2
-    same-length-10
     same-length-11
     same-length-12
     same-length-13
@@ -113,4 +119,6 @@ contracting-spec =
     same-length-16
     same-length-17
     same-length-18
+    same-length-19
+    same-length-20
     returns-2)
