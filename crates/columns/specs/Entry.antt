@@ -42,16 +42,17 @@ lists-of t q =
     let p = cut (leb 8192 (length (t .loadedPins))) 8192 (length (t .presentPins)) (f .0) in
     (leb-true 8192 (length (t .loadedPins)) (p .0), p .1, f .1, z .1, s .1)
 
-pub long-is : (limits : Limits) (out : List ℕ) (t : Lists) (counts : List ℕ) (gains : List ℤ) (visited : List ℕ) {r : Bool} → limits .vertexLimit ≤ 1024 → limits .blockLimit ≤ 16
-    → r ≡ longMemory limits (memory out (lent t counts gains visited)) → r ≡ true → Long limits out t counts gains visited
+pub long-is : (limits : Limits) (out : List ℕ) (t : Lists) (counts : List ℕ) (gains : List ℤ) (index visited : List ℕ) {r : Bool} → limits .vertexLimit ≤ 1024 → limits .blockLimit ≤ 16
+    → r ≡ longMemory limits (memory out (lent t counts gains index visited)) → r ≡ true → Long limits out t counts gains index visited
 unfolding longMemory longTables
-long-is limits out t counts gains visited short narrow e q =
-    let m : Lent = lent t counts gains visited in
+long-is limits out t counts gains index visited short narrow e q =
+    let m : Lent = lent t counts gains index visited in
     let n : ℕ = limits .vertexLimit in
     let vs : Bool = leb n (length (t .weights)) && leb n (length (t .blocks)) && leb n (length (t .aboves)) && leb n (length (t .fixed)) in
-    let all : (leb 60000 (length out) && (vs && longLists m && leb 16384 (length counts) && leb (16 * n) (length gains) && leb 1024 (length visited))) ≡ true = sym e ∙ q in
-    let v = cut (vs && longLists m && leb 16384 (length counts) && leb (16 * n) (length gains)) 1024 (length visited) (and-right (leb 60000 (length out)) _ all) in
-    let g = cut (vs && longLists m && leb 16384 (length counts)) (16 * n) (length gains) (v .0) in
+    let all : (leb 60000 (length out) && (vs && longLists m && leb 16384 (length counts) && leb (16 * n) (length gains) && leb (16 * n) (length index) && leb 1024 (length visited))) ≡ true = sym e ∙ q in
+    let v = cut (vs && longLists m && leb 16384 (length counts) && leb (16 * n) (length gains) && leb (16 * n) (length index)) 1024 (length visited) (and-right (leb 60000 (length out)) _ all) in
+    let i = cut (vs && longLists m && leb 16384 (length counts) && leb (16 * n) (length gains)) (16 * n) (length index) (v .0) in
+    let g = cut (vs && longLists m && leb 16384 (length counts)) (16 * n) (length gains) (i .0) in
     let c = cut (vs && longLists m) 16384 (length counts) (g .0) in
     let l = lists-of m (and-right vs (longLists m) (c .0)) in
     let x = cut (leb n (length (t .weights)) && leb n (length (t .blocks)) && leb n (length (t .aboves))) n (length (t .fixed)) (and-left vs (longLists m) (c .0)) in
@@ -74,6 +75,7 @@ long-is limits out t counts gains visited short narrow e q =
       };
       counts-long = c .1;
       gains-long = g .1;
+      index-long = i .1;
       visited-long = v .1;
     }
 

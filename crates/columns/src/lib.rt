@@ -9,8 +9,8 @@ use sale_file::Served;
 use sale_file::work_file;
 
 // A sale file, the limits of an entry, vmax lots and bmax sessions, and lent memory: the lots' bales, sessions, lots above and whether each is kept, vmax each; marks as
-// loaded and as they stand, 8,192 each; the buyers' first places, loaded marks and present marks, 1,024 each; counts, 16,384; gains, 16 for
-// each of vmax lots; visited, 1,024; the output, 60,000 bytes.
+// loaded and as they stand, 8,192 each; the buyers' first places, loaded marks and present marks, 1,024 each; counts, 16,384; gains and the
+// index, 16 for each of vmax lots; visited, 1,024; the output, 60,000 bytes.
 pub fn serve(
     file: &[u8],
     vmax: u32,
@@ -27,12 +27,13 @@ pub fn serve(
     presentsizes: &mut [u16],
     counts: &mut [u16],
     gains: &mut [i32],
+    index: &mut [u16],
     visited: &mut [u16],
 ) -> Served
     requires { ⌜ (vmax ≤ 1024) × (bmax ≤ 16) ⌝ }
     ensures { λ r. ⌜ ServesLots (limitsOf vmax bmax) (now (file .entry))
-        (memory (now (output .entry)) (lent (lists (now (weights .entry)) (now (blocks .entry)) (now (aboves .entry)) (now (fixed .entry)) (now (loadedpins .entry)) (now (presentpins .entry)) (now (firsts .entry)) (now (loadedsizes .entry)) (now (presentsizes .entry))) (now (counts .entry)) (now (gains .entry)) (now (visited .entry))))
-        (memory (now (output .exit)) (lent (lists (now (weights .exit)) (now (blocks .exit)) (now (aboves .exit)) (now (fixed .exit)) (now (loadedpins .exit)) (now (presentpins .exit)) (now (firsts .exit)) (now (loadedsizes .exit)) (now (presentsizes .exit))) (now (counts .exit)) (now (gains .exit)) (now (visited .exit))))
+        (memory (now (output .entry)) (lent (lists (now (weights .entry)) (now (blocks .entry)) (now (aboves .entry)) (now (fixed .entry)) (now (loadedpins .entry)) (now (presentpins .entry)) (now (firsts .entry)) (now (loadedsizes .entry)) (now (presentsizes .entry))) (now (counts .entry)) (now (gains .entry)) (now (index .entry)) (now (visited .entry))))
+        (memory (now (output .exit)) (lent (lists (now (weights .exit)) (now (blocks .exit)) (now (aboves .exit)) (now (fixed .exit)) (now (loadedpins .exit)) (now (presentpins .exit)) (now (firsts .exit)) (now (loadedsizes .exit)) (now (presentsizes .exit))) (now (counts .exit)) (now (gains .exit)) (now (index .exit)) (now (visited .exit))))
         (r .code) (r .written) (r .lots) ⌝ }
 {
     if !is_long(
@@ -49,6 +50,7 @@ pub fn serve(
         presentsizes,
         counts,
         gains,
+        index,
         visited,
     ) {
         return Served {
@@ -73,6 +75,7 @@ pub fn serve(
         presentsizes,
         counts,
         gains,
+        index,
         visited,
     )
 }

@@ -42,11 +42,12 @@ pub extern "C" fn kapokdrill_list(
     presentsizes: &mut [u16],
     counts: &mut [u16],
     gains: &mut [i32],
+    index: &mut [u16],
     visited: &mut [u16],
 ) -> ListRan
     ensures { λ r. ⌜ ListServes mainLimits (now (file .entry)) (now (list .entry))
-        (memory (now (output .entry)) (lent (lists (now (weights .entry)) (now (blocks .entry)) (now (aboves .entry)) (now (fixed .entry)) (now (loadedpins .entry)) (now (presentpins .entry)) (now (firsts .entry)) (now (loadedsizes .entry)) (now (presentsizes .entry))) (now (counts .entry)) (now (gains .entry)) (now (visited .entry))))
-        (memory (now (output .exit)) (lent (lists (now (weights .exit)) (now (blocks .exit)) (now (aboves .exit)) (now (fixed .exit)) (now (loadedpins .exit)) (now (presentpins .exit)) (now (firsts .exit)) (now (loadedsizes .exit)) (now (presentsizes .exit))) (now (counts .exit)) (now (gains .exit)) (now (visited .exit))))
+        (memory (now (output .entry)) (lent (lists (now (weights .entry)) (now (blocks .entry)) (now (aboves .entry)) (now (fixed .entry)) (now (loadedpins .entry)) (now (presentpins .entry)) (now (firsts .entry)) (now (loadedsizes .entry)) (now (presentsizes .entry))) (now (counts .entry)) (now (gains .entry)) (now (index .entry)) (now (visited .entry))))
+        (memory (now (output .exit)) (lent (lists (now (weights .exit)) (now (blocks .exit)) (now (aboves .exit)) (now (fixed .exit)) (now (loadedpins .exit)) (now (presentpins .exit)) (now (firsts .exit)) (now (loadedsizes .exit)) (now (presentsizes .exit))) (now (counts .exit)) (now (gains .exit)) (now (index .exit)) (now (visited .exit))))
         (returned (r .code) (r .written) (r .total) (two (r .stack .into) (r .stack .gone) (r .stack .len)) (two (r .journal .vertices) (r .journal .blocks) (r .journal .len))) ⌝ }
 {
     if !is_long(
@@ -63,6 +64,7 @@ pub extern "C" fn kapokdrill_list(
         presentsizes,
         counts,
         gains,
+        index,
         visited,
     ) {
         return refused_list(8);
@@ -88,6 +90,7 @@ pub extern "C" fn kapokdrill_list(
         presentsizes,
         counts,
         gains,
+        index,
         visited,
     )
 }

@@ -17,7 +17,7 @@ pub struct Ran {
 }
 
 // A sale file and lent memory: the lots, 1,024 records; the output, 60,000 bytes; marks as loaded and as they stand, 8,192 each; the buyers'
-// first places, loaded marks and present marks, 1,024 each; counts and gains, 16,384 each; visited, 1,024.
+// first places, loaded marks and present marks, 1,024 each; counts, gains and index, 16,384 each; visited, 1,024.
 #[no_mangle]
 pub extern "C" fn kapokdrill_run(
     file: &[u8],
@@ -30,9 +30,10 @@ pub extern "C" fn kapokdrill_run(
     presentsizes: &mut [u16],
     counts: &mut [u16],
     gains: &mut [i32],
+    index: &mut [u16],
     visited: &mut [u16],
 ) -> Ran
-    ensures { λ r. ⌜ Serves mainLimits (now (file .entry)) (inRecords (λ (l : Lot). l .bales) (λ (l : Lot). l .session) (λ (l : Lot). l .above) (λ (l : Lot). l .kept) (now (output .entry)) (now (lots .entry)) (others (now (loadedpins .entry)) (now (presentpins .entry)) (now (firsts .entry)) (now (loadedsizes .entry)) (now (presentsizes .entry)) (now (counts .entry)) (now (gains .entry)) (now (visited .entry)))) (inRecords (λ (l : Lot). l .bales) (λ (l : Lot). l .session) (λ (l : Lot). l .above) (λ (l : Lot). l .kept) (now (output .exit)) (now (lots .exit)) (others (now (loadedpins .exit)) (now (presentpins .exit)) (now (firsts .exit)) (now (loadedsizes .exit)) (now (presentsizes .exit)) (now (counts .exit)) (now (gains .exit)) (now (visited .exit)))) (r .code) (r .written) ⌝ }
+    ensures { λ r. ⌜ Serves mainLimits (now (file .entry)) (inRecords (λ (l : Lot). l .bales) (λ (l : Lot). l .session) (λ (l : Lot). l .above) (λ (l : Lot). l .kept) (now (output .entry)) (now (lots .entry)) (others (now (loadedpins .entry)) (now (presentpins .entry)) (now (firsts .entry)) (now (loadedsizes .entry)) (now (presentsizes .entry)) (now (counts .entry)) (now (gains .entry)) (now (index .entry)) (now (visited .entry)))) (inRecords (λ (l : Lot). l .bales) (λ (l : Lot). l .session) (λ (l : Lot). l .above) (λ (l : Lot). l .kept) (now (output .exit)) (now (lots .exit)) (others (now (loadedpins .exit)) (now (presentpins .exit)) (now (firsts .exit)) (now (loadedsizes .exit)) (now (presentsizes .exit)) (now (counts .exit)) (now (gains .exit)) (now (index .exit)) (now (visited .exit)))) (r .code) (r .written) ⌝ }
 {
     let answer = at_main(
         file,
@@ -45,6 +46,7 @@ pub extern "C" fn kapokdrill_run(
         presentsizes,
         counts,
         gains,
+        index,
         visited,
     );
     let n = answer.n;
@@ -56,7 +58,7 @@ pub extern "C" fn kapokdrill_run(
     }
 }
 
-// The superfine desk's entry, whose lots may be 256 records and whose gains 4,096 entries: 257 lots or 9 sessions are out of range (3).
+// The superfine desk's entry, whose lots may be 256 records and whose gains and index 4,096 entries: 257 lots or 9 sessions are out of range (3).
 #[no_mangle]
 pub extern "C" fn kapokdrill_run_fine(
     file: &[u8],
@@ -69,9 +71,10 @@ pub extern "C" fn kapokdrill_run_fine(
     presentsizes: &mut [u16],
     counts: &mut [u16],
     gains: &mut [i32],
+    index: &mut [u16],
     visited: &mut [u16],
 ) -> Ran
-    ensures { λ r. ⌜ Serves fineLimits (now (file .entry)) (inRecords (λ (l : Lot). l .bales) (λ (l : Lot). l .session) (λ (l : Lot). l .above) (λ (l : Lot). l .kept) (now (output .entry)) (now (lots .entry)) (others (now (loadedpins .entry)) (now (presentpins .entry)) (now (firsts .entry)) (now (loadedsizes .entry)) (now (presentsizes .entry)) (now (counts .entry)) (now (gains .entry)) (now (visited .entry)))) (inRecords (λ (l : Lot). l .bales) (λ (l : Lot). l .session) (λ (l : Lot). l .above) (λ (l : Lot). l .kept) (now (output .exit)) (now (lots .exit)) (others (now (loadedpins .exit)) (now (presentpins .exit)) (now (firsts .exit)) (now (loadedsizes .exit)) (now (presentsizes .exit)) (now (counts .exit)) (now (gains .exit)) (now (visited .exit)))) (r .code) (r .written) ⌝ }
+    ensures { λ r. ⌜ Serves fineLimits (now (file .entry)) (inRecords (λ (l : Lot). l .bales) (λ (l : Lot). l .session) (λ (l : Lot). l .above) (λ (l : Lot). l .kept) (now (output .entry)) (now (lots .entry)) (others (now (loadedpins .entry)) (now (presentpins .entry)) (now (firsts .entry)) (now (loadedsizes .entry)) (now (presentsizes .entry)) (now (counts .entry)) (now (gains .entry)) (now (index .entry)) (now (visited .entry)))) (inRecords (λ (l : Lot). l .bales) (λ (l : Lot). l .session) (λ (l : Lot). l .above) (λ (l : Lot). l .kept) (now (output .exit)) (now (lots .exit)) (others (now (loadedpins .exit)) (now (presentpins .exit)) (now (firsts .exit)) (now (loadedsizes .exit)) (now (presentsizes .exit)) (now (counts .exit)) (now (gains .exit)) (now (index .exit)) (now (visited .exit)))) (r .code) (r .written) ⌝ }
 {
     let answer = at_fine(
         file,
@@ -84,6 +87,7 @@ pub extern "C" fn kapokdrill_run_fine(
         presentsizes,
         counts,
         gains,
+        index,
         visited,
     );
     let n = answer.n;

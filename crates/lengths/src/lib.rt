@@ -4,7 +4,7 @@ ghost use Rattle.model.specs.Catalogue.{Limits};
 ghost use Rattle.model.specs.Memory.{longMemory};
 ghost use Rattle.model.specs.Lent.{lists, lent, memory};
 
-// The output and all tables: those of the lots and the gains go by the entry's limit of lots, vmax.
+// The output and all tables: those of the lots, the gains and the index go by the entry's limit of lots, vmax.
 pub fn is_long(
     vmax: u32,
     output: &[u8],
@@ -19,10 +19,11 @@ pub fn is_long(
     presentsizes: &[u16],
     counts: &[u16],
     gains: &[i32],
+    index: &[u16],
     visited: &[u16],
 ) -> bool
     ensures { λ r. ⌜ ((limits : Limits) → limits .vertexLimit ≡ vmax → r ≡ longMemory limits
-        (memory (now (output .entry)) (lent (lists (now (weights .entry)) (now (blocks .entry)) (now (aboves .entry)) (now (fixed .entry)) (now (loadedpins .entry)) (now (presentpins .entry)) (now (firsts .entry)) (now (loadedsizes .entry)) (now (presentsizes .entry))) (now (counts .entry)) (now (gains .entry)) (now (visited .entry))))) ⌝ }
+        (memory (now (output .entry)) (lent (lists (now (weights .entry)) (now (blocks .entry)) (now (aboves .entry)) (now (fixed .entry)) (now (loadedpins .entry)) (now (presentpins .entry)) (now (firsts .entry)) (now (loadedsizes .entry)) (now (presentsizes .entry))) (now (counts .entry)) (now (gains .entry)) (now (index .entry)) (now (visited .entry))))) ⌝ }
 {
     let lots = vmax as usize;
     if output.len() < 60000 {
@@ -47,6 +48,9 @@ pub fn is_long(
         return false;
     }
     if gains.len() < 16 * lots {
+        return false;
+    }
+    if index.len() < 16 * lots {
         return false;
     }
     1024 <= visited.len()

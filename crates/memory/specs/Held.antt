@@ -1,5 +1,6 @@
 -- Lent memory at the end of a list of calls is document 01's for the state that the machine ends in, each table by a law of its own: entries in
--- use are those of a sound sale, and the others are kept through loading, filling and the calls. Rests on Mask, loader, filling and calls. Assumes nothing.
+-- use are those of a sound sale, and the others are kept through loading, filling and the calls; the index goes by the gains and blocks that stand. Rests
+-- on Mask, loader, filling, calls and index. Assumes nothing.
 use Prim.Native.Nat.{ℕ, zero, suc, _+_, _-_, _*_, _/_, _%_, _<_, _≤_}
 use native.Mathlib.Nat.{div-add-mod}
 use native.Mathlib.Numerals.{add-one}
@@ -11,7 +12,7 @@ use mathlib.Core.Logic.{_⊎_, inl, inr, ⊎-elim}
 use mathlib.Core.List.{List, []}
 use borrow.Author.Tests.{ltb-true, ltb-false}
 use lib.Dec.{ltb}
-use lib.ListN.{length, getD}
+use lib.ListN.{length, getD, List·getD-eq-default}
 use lib.IntN.{ℤ, pos}
 use Rattle.laws.specs.Choice.{one, cond-yes, cond-no, and-left, and-right}
 use Rattle.laws.specs.Sum.{sumTo, sumTo-ext}
@@ -19,9 +20,13 @@ use Rattle.laws.specs.Occurrence.{occ, occ-total}
 use Rattle.model.specs.Catalogue.{Net, Hypergraph, vertices, drafted}
 use Rattle.model.specs.Measure.{Contraction, above, onBoard, pin, size, pinCount, gain}
 use Rattle.model.specs.Machine.{State}
-use Rattle.model.specs.Memory.{Tables as MemoryTables, Filled, Column, Grid, Pins, Holds, net, allPins, firstPlace, weightEntry, blockEntry, gainEntry, mask}
+use Rattle.model.specs.Index.{ranked}
+use Rattle.model.specs.Memory.{Tables as MemoryTables, Filled, Column, Grid, Pins, Holds, net, allPins, firstPlace, weightEntry, blockEntry, gainEntry, indexEntry, mask}
 use Rattle.model.specs.Lent.{Lists, lists}
 use Rattle.guarantees.specs.Stretches.{stretch-le}
+use Rattle.guarantees.specs.Ranks.{ranked-is, ranked-ext}
+use Rattle.index.specs.Row.{gainAt}
+use Rattle.index.specs.Indexed.{rowFor, row-off, row-on, Indexed}
 use Rattle.connectivity.specs.Raised.{at}
 use Rattle.connectivity.specs.Matrix.{KeptGains}
 use Rattle.connectivity.specs.Set.{kept-gains-trans}
@@ -33,9 +38,9 @@ use Rattle.loader.specs.Tables.{Started}
 use Rattle.loader.proofs.Fill.{filled-in, filled-out}
 use Rattle.memory.specs.Mask.{mask-is}
 
--- the lent tables as a running sale has them; who is fixed, and the loaded pins, are not lent to it
-abbrev pub memoryOf : CallTables → List ℕ → List ℕ → MemoryTables
-memoryOf T fixed loadedPins = record {
+-- the lent tables as a running sale has them; who is fixed, the loaded pins and the index stand beside its tables
+abbrev pub memoryOf : CallTables → List ℕ → List ℕ → List ℕ → MemoryTables
+memoryOf T fixed loadedPins index = record {
   weights = T .weights;
   blocks = T .blocks;
   aboves = T .aboves;
@@ -47,6 +52,7 @@ memoryOf T fixed loadedPins = record {
   presentSizes = T .sizes;
   counts = T .counts;
   gains = T .gains;
+  index = index;
   visited = T .visited;
 }
 
@@ -144,15 +150,53 @@ module _ {h : Hypergraph} {cs : List Contraction} {block : ℕ → ℕ} {T : Cal
       go (yes q) = read .gained y j (omega (arith, all-vertices)) (omega (arith, all-blocks)) ∙ sym (cond-yes (above cs (y + 1)) 0 _ (pos 0) q)
       go (no q) = read .gone y j (omega (arith, all-vertices)) (omega (arith, all-blocks)) q ∙ sym (cond-no (above cs (y + 1)) 0 (gain h cs block (y + 1) (j + 1)) (pos 0) q)
 
+  -- by the table's gains a vertex's other blocks stand in the order of choice, since these gains are the machine's
+  row-in : (y : ℕ) → y < vertices h → rowFor (T .gains) (T .blocks) (T .k) y ≡ cond (onBoard cs (y + 1)) (ranked (gain h cs block) (y + 1) (block (y + 1)) (h .blocks)) []
+  row-in y l = go (ℕ-discrete (above cs (y + 1)) 0)
+    where
+      own : block (y + 1) ≡ getD (T .blocks) y 0
+      own = sym (sound .follows .says .sits y (omega (arith, all-vertices)))
+
+      down : (b : ℕ) → 1 ≤ b → b - 1 + 1 ≡ b
+      down b bl = omega arith
+
+      worth : (b : ℕ) → 1 ≤ b → b ≤ T .k → gainAt (T .gains) y b ≡ gain h cs block (y + 1) b
+      worth b bl bu = read .gained y (b - 1) (omega (arith, all-vertices)) (omega arith) ∙ ap (gain h cs block (y + 1)) (down b bl)
+
+      go : Dec (above cs (y + 1) ≡ 0) → rowFor (T .gains) (T .blocks) (T .k) y ≡ cond (onBoard cs (y + 1)) (ranked (gain h cs block) (y + 1) (block (y + 1)) (h .blocks)) []
+      go (yes q) =
+          row-on (T .gains) (T .blocks) (T .k) y (block (y + 1)) own (λ z. omega (arith, z, sound .placed (y + 1) (omega arith) (omega arith) .board q .0))
+          ∙ ranked-ext (gain h cs block (y + 1)) (gainAt (T .gains) y) (block (y + 1)) (T .k) worth
+          ∙ sym (ranked-is (gain h cs block) (y + 1) (block (y + 1)) (T .k))
+          ∙ ap (ranked (gain h cs block) (y + 1) (block (y + 1))) all-blocks
+          ∙ sym (cond-yes (above cs (y + 1)) 0 _ [] q)
+      go (no q) =
+          row-off (T .gains) (T .blocks) (T .k) y (block (y + 1)) own (sound .placed (y + 1) (omega arith) (omega arith) .off q)
+          ∙ sym (cond-no (above cs (y + 1)) 0 (ranked (gain h cs block) (y + 1) (block (y + 1)) (h .blocks)) [] q)
+
+  index-in : {index index′ : List ℕ} → Indexed (T .gains) (T .blocks) (T .n) (T .k) index index′ → (y j : ℕ) → y < vertices h → j < h .blocks → getD index′ (16 * y + j) 0 ≡ indexEntry h cs block (suc y) (suc j)
+  unfolding indexEntry
+  index-in r y j l u =
+      let down : suc j - 1 ≡ j = omega arith in
+      r .rows y (omega (arith, all-vertices)) j (omega (arith, all-blocks))
+      ∙ ap (λ (m : List ℕ). getD m j 0) (row-in y l)
+      ∙ inside (onBoard cs (y + 1))
+      ∙ ap₂ (λ (v i : ℕ). cond (onBoard cs v) (getD (ranked (gain h cs block) v (block v) (h .blocks)) i 0) 0) (add-one y) (sym down)
+    where
+      inside : (on : Bool) → getD (cond on (ranked (gain h cs block) (y + 1) (block (y + 1)) (h .blocks)) []) j 0 ≡ cond on (getD (ranked (gain h cs block) (y + 1) (block (y + 1)) (h .blocks)) j 0) 0
+      inside true = refl
+      inside false = List·getD-eq-default [] 0 {n = j} (omega arith)
+
 -- ---- all tables: loaded, filled and kept through the calls
-pub held : {h : Hypergraph} {s : State} {old : MemoryTables} {new : Lists} {nw bits₀ bits₁ counts₁ visited₁ loads₁ : List ℕ} {gains₁ : List ℤ} {n m k total₁ : ℕ} {T : CallTables}
+pub held : {h : Hypergraph} {s : State} {old : MemoryTables} {new : Lists} {nw bits₀ bits₁ counts₁ visited₁ loads₁ index : List ℕ} {gains₁ : List ℤ} {n m k total₁ : ℕ} {T : CallTables}
     → Started h (lists (old .weights) (old .blocks) (old .aboves) (old .fixed) (old .loadedPins) (old .presentPins) (old .firsts) (old .loadedSizes) (old .presentSizes)) new
     → Prepared nw (new .presentPins) (new .blocks) (new .firsts) (new .presentSizes) n m k bits₀ bits₁ (old .counts) counts₁ (old .visited) visited₁ (old .gains) gains₁
     → Keeps (tables counts₁ visited₁ gains₁ (new .presentPins) (new .presentSizes) bits₁ (new .blocks) (new .weights) (new .aboves) loads₁ nw (new .firsts) (new .loadedSizes) n m k total₁) T
     → Sound h (s .stack) (s .block) T
+    → Indexed (T .gains) (T .blocks) (T .n) (T .k) (old .index) index
     → T .n ≡ n → T .m ≡ m → T .k ≡ k → T .firsts ≡ new .firsts → T .loaded ≡ new .loadedSizes
-    → Holds h s old (memoryOf T (new .fixed) (new .loadedPins))
-held {h} {s} {old} {new} {n = n} {m = m} {k = k} {T = T} started prepared keeps sound n-is m-is k-is firsts-is loaded-is = record {
+    → Holds h s old (memoryOf T (new .fixed) (new .loadedPins) index)
+held {h} {s} {old} {new} {index = index′} {n = n} {m = m} {k = k} {T = T} started prepared keeps sound indexed n-is m-is k-is firsts-is loaded-is = record {
   weights = weights;
   blocks = blocks;
   aboves = aboves;
@@ -164,6 +208,7 @@ held {h} {s} {old} {new} {n = n} {m = m} {k = k} {T = T} started prepared keeps 
   presentSizes = presentSizes;
   counts = counts;
   gains = gains;
+  index = index;
   visited = visited;
 }
   where
@@ -232,6 +277,11 @@ held {h} {s} {old} {new} {n = n} {m = m} {k = k} {T = T} started prepared keeps 
       where
         kept : KeptGains n k (old .gains) (T .gains)
         kept = kept-gains-trans (prepared .gains) (keeps .running .tables .of-gains)
+
+    index : Grid 0 (vertices h) (h .blocks) (indexEntry h (s .stack) (s .block)) (old .index) index′
+    index = grid (indexEntry h (s .stack) (s .block)) (indexed .kept .len) (index-in sound indexed) (λ y j u. ⊎-elim
+        (λ l. indexed .kept .past (16 * y + j) (λ used. omega (arith, used, all-vertices sound)))
+        (λ l. indexed .kept .past (16 * y + j) (λ used. omega (arith, used, all-blocks sound))))
 
     visited : Column (length (h .nets)) (λ e. mask h (s .stack) (s .block) (net h e)) (old .visited) (T .visited)
     visited = column (λ e. mask h (s .stack) (s .block) (net h e)) (keeps .running .tables .of-tally .masks-len ∙ prepared .masks-len) (mask-in sound) (λ e u _.

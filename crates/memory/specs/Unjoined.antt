@@ -50,7 +50,7 @@ module _ {limits : Limits} {file : List ℕ} {z : Sizes} {old new : Lists} {nw l
       ∙ ap (λ (n : ℕ). occ (new .presentPins) (firstPlace h (suc d)) n v) (sym (fresh-size d q))
       ∙ told .started .presentPins .sets (suc d) v (omega arith) (omega arith)
 
-  module _ {counts visited : List ℕ} {gains : List ℤ} {t : Tables} {s : State} (q : Holds h s (lent old counts gains visited) t) (same : t .loadedPins ≡ new .loadedPins) (none : s .stack ≡ []) where
+  module _ {counts index visited : List ℕ} {gains : List ℤ} {t : Tables} {s : State} (q : Holds h s (lent old counts gains index visited) t) (same : t .loadedPins ≡ new .loadedPins) (none : s .stack ≡ []) where
     entry : {value : ℕ → ℕ} {before now : List ℕ} → Filled 0 (λ i. ltb i (length (h .nets))) value before now → 1024 ≤ length before → (d : ℕ) → d < length (h .nets) → getD now d 0 ≡ value d
     entry {value} {before} {now} f fits d u = filled-in (length (h .nets)) value before now f d u (omega (arith, few))
 

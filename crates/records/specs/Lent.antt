@@ -29,7 +29,7 @@ lentRecords = inRecords (λ (l : Lot). l .bales) (λ (l : Lot). l .session) (λ 
 -- where lent memory is long, so is the lots' table
 long-lots : (limits : Limits) (m : Memory) → longMemory limits m ≡ true → limits .vertexLimit ≤ length (m .tables .weights)
 unfolding longMemory longTables
-long-lots limits m q = leb-true _ _ (and-left _ _ (and-left _ _ (and-left _ _ (and-left _ _ (and-left _ _ (and-left _ _ (and-left _ _ (and-right (leb 60000 (length (m .output))) _ q))))))))
+long-lots limits m q = leb-true _ _ (and-left _ _ (and-left _ _ (and-left _ _ (and-left _ _ (and-left _ _ (and-left _ _ (and-left _ _ (and-left _ _ (and-right (leb 60000 (length (m .output))) _ q)))))))))
 
 -- fewer records than the limit of lots: 8, and nothing is touched
 pub no-room : (limits : Limits) (file output : List ℕ) (lots : List Lot) (t : Tables) → length lots < limits .vertexLimit
@@ -50,7 +50,8 @@ same-long limits output weights blocks aboves fixed weights′ blocks′ aboves�
     leb 60000 (length output)
     && (alike weights weights′ w w′ i && alike blocks blocks′ b b′ i && alike aboves aboves′ a a′ i && alike fixed fixed′ x x′ i
     && longLists t
-    && leb 16384 (length (t .counts)) && leb (16 * limits .vertexLimit) (length (t .gains)) && leb 1024 (length (t .visited)))
+    && leb 16384 (length (t .counts)) && leb (16 * limits .vertexLimit) (length (t .gains))
+    && leb (16 * limits .vertexLimit) (length (t .index)) && leb 1024 (length (t .visited)))
   where
     alike : (l l′ : List ℕ) → limits .vertexLimit ≤ length l → limits .vertexLimit ≤ length l′ → leb (limits .vertexLimit) (length l) ≡ leb (limits .vertexLimit) (length l′)
     alike l l′ h h′ = le-leb _ _ h ∙ sym (le-leb _ _ h′)
@@ -94,6 +95,7 @@ module _ (limits : Limits) (file output output′ weights blocks aboves fixed we
     presentSizes = held .presentSizes;
     counts = held .counts;
     gains = held .gains;
+    index = held .index;
     visited = held .visited;
   }
 

@@ -29,10 +29,11 @@ pub fn core(
     presentsizes: &mut [u16],
     counts: &mut [u16],
     gains: &mut [i32],
+    index: &mut [u16],
     visited: &mut [u16],
 ) -> Answer
     requires { ⌜ (vmax ≤ 1024) × (bmax ≤ 16) ⌝ }
-    ensures { λ r. ⌜ Answers (limitsOf vmax bmax) (now (file .entry)) room (now (output .entry)) (others (now (loadedpins .entry)) (now (presentpins .entry)) (now (firsts .entry)) (now (loadedsizes .entry)) (now (presentsizes .entry)) (now (counts .entry)) (now (gains .entry)) (now (visited .entry))) (now (output .exit)) (others (now (loadedpins .exit)) (now (presentpins .exit)) (now (firsts .exit)) (now (loadedsizes .exit)) (now (presentsizes .exit)) (now (counts .exit)) (now (gains .exit)) (now (visited .exit))) r ⌝ }
+    ensures { λ r. ⌜ Answers (limitsOf vmax bmax) (now (file .entry)) room (now (output .entry)) (others (now (loadedpins .entry)) (now (presentpins .entry)) (now (firsts .entry)) (now (loadedsizes .entry)) (now (presentsizes .entry)) (now (counts .entry)) (now (gains .entry)) (now (index .entry)) (now (visited .entry))) (now (output .exit)) (others (now (loadedpins .exit)) (now (presentpins .exit)) (now (firsts .exit)) (now (loadedsizes .exit)) (now (presentsizes .exit)) (now (counts .exit)) (now (gains .exit)) (now (index .exit)) (now (visited .exit))) r ⌝ }
 {
     let least = vmax as usize;
     if room < least {
@@ -70,6 +71,7 @@ pub fn core(
         presentsizes,
         counts,
         gains,
+        index,
         visited,
     );
     let lots = gather(weights, blocks, aboves, fixed);

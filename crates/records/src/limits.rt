@@ -17,9 +17,10 @@ pub fn at_main(
     presentsizes: &mut [u16],
     counts: &mut [u16],
     gains: &mut [i32],
+    index: &mut [u16],
     visited: &mut [u16],
 ) -> Answer
-    ensures { λ r. ⌜ Answers mainLimits (now (file .entry)) room (now (output .entry)) (others (now (loadedpins .entry)) (now (presentpins .entry)) (now (firsts .entry)) (now (loadedsizes .entry)) (now (presentsizes .entry)) (now (counts .entry)) (now (gains .entry)) (now (visited .entry))) (now (output .exit)) (others (now (loadedpins .exit)) (now (presentpins .exit)) (now (firsts .exit)) (now (loadedsizes .exit)) (now (presentsizes .exit)) (now (counts .exit)) (now (gains .exit)) (now (visited .exit))) r ⌝ }
+    ensures { λ r. ⌜ Answers mainLimits (now (file .entry)) room (now (output .entry)) (others (now (loadedpins .entry)) (now (presentpins .entry)) (now (firsts .entry)) (now (loadedsizes .entry)) (now (presentsizes .entry)) (now (counts .entry)) (now (gains .entry)) (now (index .entry)) (now (visited .entry))) (now (output .exit)) (others (now (loadedpins .exit)) (now (presentpins .exit)) (now (firsts .exit)) (now (loadedsizes .exit)) (now (presentsizes .exit)) (now (counts .exit)) (now (gains .exit)) (now (index .exit)) (now (visited .exit))) r ⌝ }
 {
     core(
         file,
@@ -34,6 +35,7 @@ pub fn at_main(
         presentsizes,
         counts,
         gains,
+        index,
         visited,
     )
 }
@@ -50,9 +52,10 @@ pub fn at_fine(
     presentsizes: &mut [u16],
     counts: &mut [u16],
     gains: &mut [i32],
+    index: &mut [u16],
     visited: &mut [u16],
 ) -> Answer
-    ensures { λ r. ⌜ Answers fineLimits (now (file .entry)) room (now (output .entry)) (others (now (loadedpins .entry)) (now (presentpins .entry)) (now (firsts .entry)) (now (loadedsizes .entry)) (now (presentsizes .entry)) (now (counts .entry)) (now (gains .entry)) (now (visited .entry))) (now (output .exit)) (others (now (loadedpins .exit)) (now (presentpins .exit)) (now (firsts .exit)) (now (loadedsizes .exit)) (now (presentsizes .exit)) (now (counts .exit)) (now (gains .exit)) (now (visited .exit))) r ⌝ }
+    ensures { λ r. ⌜ Answers fineLimits (now (file .entry)) room (now (output .entry)) (others (now (loadedpins .entry)) (now (presentpins .entry)) (now (firsts .entry)) (now (loadedsizes .entry)) (now (presentsizes .entry)) (now (counts .entry)) (now (gains .entry)) (now (index .entry)) (now (visited .entry))) (now (output .exit)) (others (now (loadedpins .exit)) (now (presentpins .exit)) (now (firsts .exit)) (now (loadedsizes .exit)) (now (presentsizes .exit)) (now (counts .exit)) (now (gains .exit)) (now (index .exit)) (now (visited .exit))) r ⌝ }
 {
     core(
         file,
@@ -67,6 +70,7 @@ pub fn at_fine(
         presentsizes,
         counts,
         gains,
+        index,
         visited,
     )
 }

@@ -30,29 +30,31 @@ lotsIn (stopped q n) = 0
 lotsIn unread = 0
 
 -- ---- lengths
-pub record Long (limits : Limits) (out : List ℕ) (t : Lists) (counts : List ℕ) (gains : List ℤ) (visited : List ℕ) : Type 0 where
+pub record Long (limits : Limits) (out : List ℕ) (t : Lists) (counts : List ℕ) (gains : List ℤ) (index visited : List ℕ) : Type 0 where
   pub narrow : limits .blockLimit ≤ 16
   pub short : limits .vertexLimit ≤ 1024
   pub spacious : 60000 ≤ length out
   pub lists-long : LongLists (limits .vertexLimit) t
   pub counts-long : 16384 ≤ length counts
   pub gains-long : 16 * limits .vertexLimit ≤ length gains
+  pub index-long : 16 * limits .vertexLimit ≤ length index
   pub visited-long : 1024 ≤ length visited
 
-module _ {limits : Limits} {file out : List ℕ} {old new : Lists} {nw lo calls counts : List ℕ} {gains : List ℤ} {visited : List ℕ} (g : Long limits out old counts gains visited) where
+module _ {limits : Limits} {file out : List ℕ} {old new : Lists} {nw lo calls counts : List ℕ} {gains : List ℤ} {index visited : List ℕ} (g : Long limits out old counts gains index visited) where
   -- ---- the two answers of the loader
   module _ {r : Loaded} (l : Loads limits file r old new nw lo calls) where
     module _ {z : Sizes} (e : r ≡ Accepted z) where
       here : Loads limits file (Accepted z) old new nw lo calls
       here = subst (λ (x : Loaded). Loads limits file x old new nw lo calls) e l
 
-      pub catalogued : Catalogued limits file z old new nw lo counts gains visited
+      pub catalogued : Catalogued limits file z old new nw lo counts gains index visited
       catalogued = record {
         narrow = g .narrow;
         short = g .short;
         long = g .lists-long;
         counts-long = g .counts-long;
         gains-long = g .gains-long;
+        index-long = g .index-long;
         visited-long = g .visited-long;
         fileCalls = calls;
         loads = here;
@@ -61,10 +63,10 @@ module _ {limits : Limits} {file out : List ℕ} {old new : Lists} {nw lo calls 
       pub listed : 1536 ≤ length calls → Listed calls (z .calls) out
       listed q = let a = here .accepts z refl in record { count-le = a .calls-le; known = a .known; calls-fit = omega (arith, a .calls-le); spacious = g .spacious }
 
-      pub worked : {new′ : Lent} {out′ : List ℕ} {bytes : ℕ} → Reported (graph z new nw lo) (callsOf (z .calls) calls) (lent old counts gains visited) new′ out out′ bytes
-          → Worked (parse limits file) (memory out (lent old counts gains visited)) (memory out′ new′) 0 bytes
+      pub worked : {new′ : Lent} {out′ : List ℕ} {bytes : ℕ} → Reported (graph z new nw lo) (callsOf (z .calls) calls) (lent old counts gains index visited) new′ out out′ bytes
+          → Worked (parse limits file) (memory out (lent old counts gains index visited)) (memory out′ new′) 0 bytes
       unfolding outcome
-      worked {new′} {out′} {bytes} p = subst (λ (x : Reading). Worked x (memory out (lent old counts gains visited)) (memory out′ new′) 0 bytes) (here .says) (record { code-is = refl; output = p .output; tables = p .tables })
+      worked {new′} {out′} {bytes} p = subst (λ (x : Reading). Worked x (memory out (lent old counts gains index visited)) (memory out′ new′) 0 bytes) (here .says) (record { code-is = refl; output = p .output; tables = p .tables })
 
       pub lots-read : z .vertices ≡ lotsIn (parse limits file)
       lots-read = sym (accepted-book limits file _ (sym (here .says)) .vertices-are) ∙ ap lotsIn (here .says)
@@ -84,6 +86,6 @@ module _ {limits : Limits} {file out : List ℕ} {old new : Lists} {nw lo calls 
       line-fits = omega (arith, engine-fits limits (g .short) (g .narrow) file, ap (λ (x : Reading). length (outcome x .report)) stops)
 
       pub turned-down : {new′ : Lent} {out′ : List ℕ} {code bytes : ℕ} → code ≡ q → Wrote out out′ 0 (row "NO" (digits q ∷ digits n ∷ [])) bytes
-          → Worked (parse limits file) (memory out (lent old counts gains visited)) (memory out′ new′) code bytes
+          → Worked (parse limits file) (memory out (lent old counts gains index visited)) (memory out′ new′) code bytes
       unfolding outcome
-      turned-down {new′} {out′} {code} {bytes} d w = subst (λ (x : Reading). Worked x (memory out (lent old counts gains visited)) (memory out′ new′) code bytes) stops (record { code-is = d; output = written-all w; tables = tt })
+      turned-down {new′} {out′} {code} {bytes} d w = subst (λ (x : Reading). Worked x (memory out (lent old counts gains index visited)) (memory out′ new′) code bytes) stops (record { code-is = d; output = written-all w; tables = tt })

@@ -33,6 +33,7 @@ pub fn report_sale(
     presentsizes: &mut [u16],
     counts: &mut [u16],
     gains: &mut [i32],
+    index: &mut [u16],
     visited: &mut [u16],
     firsts: &[u16],
     loadedsizes: &[u16],
@@ -42,14 +43,14 @@ pub fn report_sale(
 ) -> usize
     requires { ⌜ CanSell
         (λ loadedpins. lists (now weights) (now blocks) (now aboves) (now fixed) loadedpins (now presentpins) (now firsts) (now loadedsizes) (now presentsizes))
-        z (now netweights) (now counts) (now gains) (now visited) (now calls) (z .calls) (now output) ⌝ }
+        z (now netweights) (now counts) (now gains) (now index) (now visited) (now calls) (z .calls) (now output) ⌝ }
     ensures { λ r. ⌜ ((limits : Limits) (file loadedpins lows : List ℕ) (old : Lists) → Catalogued limits file z old
         (lists (now (weights .entry)) (now (blocks .entry)) (now (aboves .entry)) (now (fixed .entry)) loadedpins (now (presentpins .entry)) (now (firsts .entry)) (now (loadedsizes .entry)) (now (presentsizes .entry)))
-        (now (netweights .entry)) lows (now (counts .entry)) (now (gains .entry)) (now (visited .entry)) → Listed (now (calls .entry)) (z .calls) (now (output .entry))
+        (now (netweights .entry)) lows (now (counts .entry)) (now (gains .entry)) (now (index .entry)) (now (visited .entry)) → Listed (now (calls .entry)) (z .calls) (now (output .entry))
         → Reported (graph z
         (lists (now (weights .entry)) (now (blocks .entry)) (now (aboves .entry)) (now (fixed .entry)) loadedpins (now (presentpins .entry)) (now (firsts .entry)) (now (loadedsizes .entry)) (now (presentsizes .entry)))
-        (now (netweights .entry)) lows) (callsOf (z .calls) (now (calls .entry))) (lent old (now (counts .entry)) (now (gains .entry)) (now (visited .entry)))
-        (lent (lists (now (weights .exit)) (now (blocks .exit)) (now (aboves .exit)) (now (fixed .exit)) loadedpins (now (presentpins .exit)) (now (firsts .exit)) (now (loadedsizes .exit)) (now (presentsizes .exit))) (now (counts .exit)) (now (gains .exit)) (now (visited .exit)))
+        (now (netweights .entry)) lows) (callsOf (z .calls) (now (calls .entry))) (lent old (now (counts .entry)) (now (gains .entry)) (now (index .entry)) (now (visited .entry)))
+        (lent (lists (now (weights .exit)) (now (blocks .exit)) (now (aboves .exit)) (now (fixed .exit)) loadedpins (now (presentpins .exit)) (now (firsts .exit)) (now (loadedsizes .exit)) (now (presentsizes .exit))) (now (counts .exit)) (now (gains .exit)) (now (index .exit)) (now (visited .exit)))
         (now (output .entry)) (now (output .exit)) r) ⌝ }
 {
     let n = z.vertices as usize;
@@ -65,6 +66,7 @@ pub fn report_sale(
         presentsizes,
         counts,
         gains,
+        index,
         visited,
         firsts,
         loadedsizes,

@@ -36,6 +36,7 @@ pub fn sell(
     presentsizes: &mut [u16],
     counts: &mut [u16],
     gains: &mut [i32],
+    index: &mut [u16],
     visited: &mut [u16],
     firsts: &[u16],
     loadedsizes: &[u16],
@@ -46,13 +47,13 @@ pub fn sell(
 ) -> Sale
     requires { ⌜ CanSell
         (λ loadedpins. lists (now weights) (now blocks) (now aboves) (now fixed) loadedpins (now presentpins) (now firsts) (now loadedsizes) (now presentsizes))
-        z (now netweights) (now counts) (now gains) (now visited) (now calls) count (now output) ⌝ }
+        z (now netweights) (now counts) (now gains) (now index) (now visited) (now calls) count (now output) ⌝ }
     ensures { λ r. ⌜ ((limits : Limits) (file loadedpins lows : List ℕ) (old : Lists) → Catalogued limits file z old
         (lists (now (weights .entry)) (now (blocks .entry)) (now (aboves .entry)) (now (fixed .entry)) loadedpins (now (presentpins .entry)) (now (firsts .entry)) (now (loadedsizes .entry)) (now (presentsizes .entry)))
-        (now (netweights .entry)) lows (now (counts .entry)) (now (gains .entry)) (now (visited .entry)) → Listed (now (calls .entry)) count (now (output .entry)) → Sold limits (graph z
+        (now (netweights .entry)) lows (now (counts .entry)) (now (gains .entry)) (now (index .entry)) (now (visited .entry)) → Listed (now (calls .entry)) count (now (output .entry)) → Sold limits (graph z
         (lists (now (weights .entry)) (now (blocks .entry)) (now (aboves .entry)) (now (fixed .entry)) loadedpins (now (presentpins .entry)) (now (firsts .entry)) (now (loadedsizes .entry)) (now (presentsizes .entry)))
-        (now (netweights .entry)) lows) (callsOf count (now (calls .entry))) (lent old (now (counts .entry)) (now (gains .entry)) (now (visited .entry)))
-        (lent (lists (now (weights .exit)) (now (blocks .exit)) (now (aboves .exit)) (now (fixed .exit)) loadedpins (now (presentpins .exit)) (now (firsts .exit)) (now (loadedsizes .exit)) (now (presentsizes .exit))) (now (counts .exit)) (now (gains .exit)) (now (visited .exit)))
+        (now (netweights .entry)) lows) (callsOf count (now (calls .entry))) (lent old (now (counts .entry)) (now (gains .entry)) (now (index .entry)) (now (visited .entry)))
+        (lent (lists (now (weights .exit)) (now (blocks .exit)) (now (aboves .exit)) (now (fixed .exit)) loadedpins (now (presentpins .exit)) (now (firsts .exit)) (now (loadedsizes .exit)) (now (presentsizes .exit))) (now (counts .exit)) (now (gains .exit)) (now (index .exit)) (now (visited .exit)))
         (now (output .entry)) (now (output .exit)) (two (r .stack .into) (r .stack .gone) (r .stack .len)) (two (r .journal .vertices) (r .journal .blocks) (r .journal .len)) (z .vertices) (z .nets) (r .draft) (r .total) (r .at)) ⌝ }
 {
     let n = z.vertices as usize;
@@ -90,6 +91,7 @@ pub fn sell(
         counts,
         visited,
         gains,
+        index,
         presentpins,
         presentsizes,
         &mut bits,

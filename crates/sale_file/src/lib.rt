@@ -33,14 +33,15 @@ pub fn work_file(
     presentsizes: &mut [u16],
     counts: &mut [u16],
     gains: &mut [i32],
+    index: &mut [u16],
     visited: &mut [u16],
 ) -> Served
     requires { ⌜ Long (limitsOf vmax bmax) (now output)
         (lists (now weights) (now blocks) (now aboves) (now fixed) (now loadedpins) (now presentpins) (now firsts) (now loadedsizes) (now presentsizes))
-        (now counts) (now gains) (now visited) ⌝ }
+        (now counts) (now gains) (now index) (now visited) ⌝ }
     ensures { λ r. ⌜ Worked (parse (limitsOf vmax bmax) (now (file .entry)))
-        (memory (now (output .entry)) (lent (lists (now (weights .entry)) (now (blocks .entry)) (now (aboves .entry)) (now (fixed .entry)) (now (loadedpins .entry)) (now (presentpins .entry)) (now (firsts .entry)) (now (loadedsizes .entry)) (now (presentsizes .entry))) (now (counts .entry)) (now (gains .entry)) (now (visited .entry))))
-        (memory (now (output .exit)) (lent (lists (now (weights .exit)) (now (blocks .exit)) (now (aboves .exit)) (now (fixed .exit)) (now (loadedpins .exit)) (now (presentpins .exit)) (now (firsts .exit)) (now (loadedsizes .exit)) (now (presentsizes .exit))) (now (counts .exit)) (now (gains .exit)) (now (visited .exit))))
+        (memory (now (output .entry)) (lent (lists (now (weights .entry)) (now (blocks .entry)) (now (aboves .entry)) (now (fixed .entry)) (now (loadedpins .entry)) (now (presentpins .entry)) (now (firsts .entry)) (now (loadedsizes .entry)) (now (presentsizes .entry))) (now (counts .entry)) (now (gains .entry)) (now (index .entry)) (now (visited .entry))))
+        (memory (now (output .exit)) (lent (lists (now (weights .exit)) (now (blocks .exit)) (now (aboves .exit)) (now (fixed .exit)) (now (loadedpins .exit)) (now (presentpins .exit)) (now (firsts .exit)) (now (loadedsizes .exit)) (now (presentsizes .exit))) (now (counts .exit)) (now (gains .exit)) (now (index .exit)) (now (visited .exit))))
         (r .code) (r .written) × (r .lots ≡ lotsIn (parse (limitsOf vmax bmax) (now (file .entry)))) ⌝ }
 {
     let mut netweights = [0u16; 1024];
@@ -83,6 +84,7 @@ pub fn work_file(
                 presentsizes,
                 counts,
                 gains,
+                index,
                 visited,
                 firsts,
                 loadedsizes,

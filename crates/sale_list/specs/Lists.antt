@@ -138,21 +138,23 @@ pub idle : {code bytes total : ℕ} {S J : Two} → S .len ≡ 0 → S .xs ≡ r
     → Idle (returned code bytes total S J)
 idle {S = S} {J = J} s sx sy j jx jy t = record { no-joins = s; no-moves = j; zero-total = t; stack-whole = zero-new {S = S} sx sy; journal-whole = zero-new {S = J} jx jy }
 
-module _ (list out : List ℕ) (counts : List ℕ) (gains : List ℤ) (visited : List ℕ) {limits : Limits} {file : List ℕ} {old new : Lists} {nw lo calls : List ℕ} {r : Loaded} (l : Loads limits file r old new nw lo calls) where
+module _ (list out : List ℕ) (counts : List ℕ) (gains : List ℤ) (index visited : List ℕ) {limits : Limits} {file : List ℕ} {old new : Lists} {nw lo calls : List ℕ} {r : Loaded} (l : Loads limits file r old new nw lo calls) where
   -- the catalogue is accepted; the stack and the journal are returned with zeros past their lengths
-  pub list-worked : {z : Sizes} (e : r ≡ Accepted z) {new′ : Lent} {out′ : List ℕ} {S S′ J J′ : Two} {n m draft total at : ℕ} → Sold limits (graph z new nw lo) (listCalls list) (lent old counts gains visited) new′ out out′ S J n m draft total at
+  pub list-worked : {z : Sizes} (e : r ≡ Accepted z) {new′ : Lent} {out′ : List ℕ} {S S′ J J′ : Two} {n m draft total at : ℕ} → Sold limits (graph z new nw lo) (listCalls list) (lent old counts gains index visited) new′ out out′ S J n m draft total at
       → Zeroed (S .len) (S .xs) (S′ .xs) × Zeroed (S .len) (S .ys) (S′ .ys) × (S′ .len ≡ S .len)
       → Zeroed (J .len) (J .xs) (J′ .xs) × Zeroed (J .len) (J .ys) (J′ .ys) × (J′ .len ≡ J .len)
-      → ListWorked limits (parse limits file) (listCalls list) (memory out (lent old counts gains visited)) (memory out′ new′) (returned 0 at total S′ J′)
+      → ListWorked limits (parse limits file) (listCalls list) (memory out (lent old counts gains index visited)) (memory out′ new′) (returned 0 at total S′ J′)
   list-worked {z} e {new′} {out′} {S} {S′} {J} {J′} {total = total} {at = at} s zs zj =
       let stack-same = sym (zeroed-pairs {A = Contraction} (λ u v. record { into = u; gone = v }) {S = S} {S′ = S′} (zs .0) (zs .1) (zs .2)) in
       let journal-same = sym (zeroed-pairs {A = Move} (λ v b. record { vertex = v; from = b }) {S = J} {S′ = J′} (zj .0) (zj .1) (zj .2)) in
-      subst (λ (x : Reading). ListWorked limits x (listCalls list) (memory out (lent old counts gains visited)) (memory out′ new′) (returned 0 at total S′ J′)) (ap (λ (x : Loaded). seen (l .estimated) x new nw lo calls) (sym e) ∙ l .says)
+      subst (λ (x : Reading). ListWorked limits x (listCalls list) (memory out (lent old counts gains index visited)) (memory out′ new′) (returned 0 at total S′ J′)) (ap (λ (x : Loaded). seen (l .estimated) x new nw lo calls) (sym e) ∙ l .says)
       (record {
         code-is = refl;
         lines = s .lines;
-        demand = subst (λ (x : Standing). Demand3 limits (graph z new nw lo) (listCalls list) (lent old counts gains visited) x (s .lines) total) (λ k. standing new′ (stack-same k) (journal-same k)) (s .demand);
+        demand = subst (λ (x : Standing). Demand3 limits (graph z new nw lo) (listCalls list) (lent old counts gains index visited) x (s .lines) total) (λ k. standing new′ (stack-same k) (journal-same k)) (s .demand);
         clump-gains = s .clump-gains;
+        each-pair-once = s .each-pair-once;
+        first-is-best = s .first-is-best;
         every-count = every-count limits (graph z new nw lo) (s .demand .accepted) (listCalls list);
         output = written-all (s .wrote);
         stack-whole = zero-past {S = S} {S′ = S′} (s .stack-whole .xs-whole) (s .stack-whole .ys-whole) (zs .0) (zs .1) (zs .2);
@@ -161,8 +163,8 @@ module _ (list out : List ℕ) (counts : List ℕ) (gains : List ℤ) (visited :
 
   -- it is refused
   pub list-down : {q n : ℕ} (e : r ≡ Refused q n) (new′ : Lent) {out′ : List ℕ} {x : Returned} → Idle x → x .code ≡ q → Wrote out out′ 0 (row "NO" (digits q ∷ digits n ∷ [])) (x .bytes)
-      → ListWorked limits (parse limits file) (listCalls list) (memory out (lent old counts gains visited)) (memory out′ new′) x
+      → ListWorked limits (parse limits file) (listCalls list) (memory out (lent old counts gains index visited)) (memory out′ new′) x
   unfolding outcome
   list-down {q} {n} e new′ {out′} {x} i d w =
-      subst (λ (y : Reading). ListWorked limits y (listCalls list) (memory out (lent old counts gains visited)) (memory out′ new′) x) (ap (λ (y : Loaded). seen (l .estimated) y new nw lo calls) (sym e) ∙ l .says)
+      subst (λ (y : Reading). ListWorked limits y (listCalls list) (memory out (lent old counts gains index visited)) (memory out′ new′) x) (ap (λ (y : Loaded). seen (l .estimated) y new nw lo calls) (sym e) ∙ l .says)
       (record { code-is = d; output = written-all w; tables = tt }, i)

@@ -45,76 +45,96 @@ same-length-11 c = search needs
 same-length-12 : tie.Need-same-length-12
 same-length-12 c = search needs
 
+same-length-13 : tie.Need-same-length-13
+same-length-13 c = search needs
+
+same-length-14 : tie.Need-same-length-14
+same-length-14 c = search needs
+
 returns : tie.Need-returns
 returns c = too-short _ _ _ (c .before .is-long .ensures _ refl) (not-true _ (c .if1 .taken))
 
 work-file-requires : tie.Need-work-file-requires
 work-file-requires c κs =
-    let at-if1 = c .before .before .before .before .before .before .before .before .before .before .before .before .before in
+    let at-if1 = c .before .before .before .before .before .before .before .before .before .before .before .before .before .before in
     let at-is-long = at-if1 .before in
-    let start = at-is-long .before .before .before .before .before .before .before .before .before .before .before .before .before .before .before .before .before .before .before .before .before .before .before .before .before .before .before in
-    long-is _ _ _ _ _ _ (start .pre .0) (start .pre .1) (at-is-long .is-long .ensures _ refl) (not-false _ (at-if1 .if1 .left))
-
-same-length-13 : tie.Need-same-length-13
-same-length-13 c = search needs
-
-same-length-14 : tie.Need-same-length-14
-same-length-14 c =
-    let at-work-file = c .before .before .before .before .before .before .before .before .before .before .before .before .before .before .before .before .before .before .before .before .before .before .before .before .before in
-    omega (arith, at-work-file .work-file .kept)
+    let start = at-is-long .before .before .before .before .before .before .before .before .before .before .before .before .before .before .before .before .before .before .before .before .before .before .before .before .before .before .before .before .before in
+    long-is _ _ _ _ _ _ _ (start .pre .0) (start .pre .1) (at-is-long .is-long .ensures _ refl) (not-false _ (at-if1 .if1 .left))
 
 same-length-15 : tie.Need-same-length-15
 same-length-15 c =
-    let at-work-file = c .before .before .before .before .before .before .before .before .before .before .before .before .before .before .before .before .before .before .before .before .before .before .before .before .before in
+    let at-work-file = c .before .before .before .before .before .before .before .before .before .before .before .before .before .before .before .before .before .before .before .before .before .before .before .before .before .before .before in
     omega (arith, at-work-file .work-file .kept)
 
 same-length-16 : tie.Need-same-length-16
 same-length-16 c =
-    let at-work-file = c .before .before .before .before .before .before .before .before .before .before .before .before .before .before .before .before .before .before .before .before .before .before .before .before .before in
+    let at-work-file = c .before .before .before .before .before .before .before .before .before .before .before .before .before .before .before .before .before .before .before .before .before .before .before .before .before .before .before in
     omega (arith, at-work-file .work-file .kept)
 
 same-length-17 : tie.Need-same-length-17
 same-length-17 c =
-    let at-work-file = c .before .before .before .before .before .before .before .before .before .before .before .before .before .before .before .before .before .before .before .before .before .before .before .before .before in
+    let at-work-file = c .before .before .before .before .before .before .before .before .before .before .before .before .before .before .before .before .before .before .before .before .before .before .before .before .before .before .before in
     omega (arith, at-work-file .work-file .kept)
 
 same-length-18 : tie.Need-same-length-18
 same-length-18 c =
-    let at-work-file = c .before .before .before .before .before .before .before .before .before .before .before .before .before .before .before .before .before .before .before .before .before .before .before .before .before in
+    let at-work-file = c .before .before .before .before .before .before .before .before .before .before .before .before .before .before .before .before .before .before .before .before .before .before .before .before .before .before .before in
     omega (arith, at-work-file .work-file .kept)
 
 same-length-19 : tie.Need-same-length-19
 same-length-19 c =
-    let at-work-file = c .before .before .before .before .before .before .before .before .before .before .before .before .before .before .before .before .before .before .before .before .before .before .before .before .before in
+    let at-work-file = c .before .before .before .before .before .before .before .before .before .before .before .before .before .before .before .before .before .before .before .before .before .before .before .before .before .before .before in
     omega (arith, at-work-file .work-file .kept)
 
 same-length-20 : tie.Need-same-length-20
 same-length-20 c =
-    let at-work-file = c .before .before .before .before .before .before .before .before .before .before .before .before .before .before .before .before .before .before .before .before .before .before .before .before .before in
+    let at-work-file = c .before .before .before .before .before .before .before .before .before .before .before .before .before .before .before .before .before .before .before .before .before .before .before .before .before .before .before in
     omega (arith, at-work-file .work-file .kept)
 
 same-length-21 : tie.Need-same-length-21
-same-length-21 c = search needs
+same-length-21 c =
+    let at-work-file = c .before .before .before .before .before .before .before .before .before .before .before .before .before .before .before .before .before .before .before .before .before .before .before .before .before .before .before in
+    omega (arith, at-work-file .work-file .kept)
 
 same-length-22 : tie.Need-same-length-22
-same-length-22 c = search needs
+same-length-22 c =
+    let at-work-file = c .before .before .before .before .before .before .before .before .before .before .before .before .before .before .before .before .before .before .before .before .before .before .before .before .before .before .before in
+    omega (arith, at-work-file .work-file .kept)
 
 same-length-23 : tie.Need-same-length-23
-same-length-23 c = search needs
+same-length-23 c =
+    let at-work-file = c .before .before .before .before .before .before .before .before .before .before .before .before .before .before .before .before .before .before .before .before .before .before .before .before .before .before .before in
+    omega (arith, at-work-file .work-file .kept)
 
 same-length-24 : tie.Need-same-length-24
-same-length-24 c = search needs
+same-length-24 c =
+    let at-work-file = c .before .before .before .before .before .before .before .before .before .before .before .before .before .before .before .before .before .before .before .before .before .before .before .before .before .before .before in
+    omega (arith, at-work-file .work-file .kept)
 
 same-length-25 : tie.Need-same-length-25
-same-length-25 c = search needs
+same-length-25 c =
+    let at-work-file = c .before .before .before .before .before .before .before .before .before .before .before .before .before .before .before .before .before .before .before .before .before .before .before .before .before .before .before in
+    omega (arith, at-work-file .work-file .kept)
 
 same-length-26 : tie.Need-same-length-26
-same-length-26 c = search needs
+same-length-26 c =
+    let at-work-file = c .before .before .before .before .before .before .before .before .before .before .before .before .before .before .before .before .before .before .before .before .before .before .before .before .before .before .before in
+    omega (arith, at-work-file .work-file .kept)
+
+same-length-27 : tie.Need-same-length-27
+same-length-27 c =
+    let at-work-file = c .before .before .before .before .before .before .before .before .before .before .before .before .before .before .before .before .before .before .before .before .before .before .before .before .before .before .before in
+    omega (arith, at-work-file .work-file .kept)
+
+same-length-28 : tie.Need-same-length-28
+same-length-28 c =
+    let at-work-file = c .before .before .before .before .before .before .before .before .before .before .before .before .before .before .before .before .before .before .before .before .before .before .before .before .before .before .before in
+    omega (arith, at-work-file .work-file .kept)
 
 returns-2 : tie.Need-returns-2
 returns-2 c =
-    let at-work-file = c .before .before .before .before .before .before .before .before .before .before .before .before .before .before .before .before .before .before .before .before .before .before .before .before .before in
-    let at-if1 = at-work-file .before .before .before .before .before .before .before .before .before .before .before .before .before .before in
+    let at-work-file = c .before .before .before .before .before .before .before .before .before .before .before .before .before .before .before .before .before .before .before .before .before .before .before .before .before .before .before in
+    let at-if1 = at-work-file .before .before .before .before .before .before .before .before .before .before .before .before .before .before .before in
     let at-is-long = at-if1 .before in
     served _ _ _ (at-is-long .is-long .ensures _ refl) _ (not-false _ (at-if1 .if1 .left)) (at-work-file .work-file .ensures)
 
@@ -136,9 +156,9 @@ serve-spec =
     same-length-11
     same-length-12
     same-length-13
+    same-length-14
     returns
     work-file-requires
-    same-length-14
     same-length-15
     same-length-16
     same-length-17
@@ -151,4 +171,6 @@ serve-spec =
     same-length-24
     same-length-25
     same-length-26
+    same-length-27
+    same-length-28
     returns-2)

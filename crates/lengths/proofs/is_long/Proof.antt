@@ -61,15 +61,30 @@ returns-8 c limits q =
     let at-if1 = at-if2 .before in
     by-tests limits _ q (short-yes 60000 _ (at-if1 .if1 .left) (short-yes _ _ (at-if2 .if2 .left) (short-yes _ _ (at-if3 .if3 .left) (short-yes _ _ (at-if4 .if4 .left) (short-yes _ _ (at-if5 .if5 .left) (both-yes _ _ (lists-test _ (at-long .are-long .ensures)) (c .before .before .if6 .left) (short-yes 16384 _ (c .before .if7 .left) (short-no _ _ _ (c .if8 .taken)))))))))
 
+mul-if9 : tie.Need-mul-if9
+mul-if9 c = search needs
+
 returns-9 : tie.Need-returns-9
 returns-9 c limits q =
-    let at-long = c .before .before .before in
+    let at-if6 = c .before .before .before in
+    let at-long = at-if6 .before in
     let at-if5 = at-long .before in
     let at-if4 = at-if5 .before in
     let at-if3 = at-if4 .before in
     let at-if2 = at-if3 .before in
     let at-if1 = at-if2 .before in
-    by-tests limits _ q (short-yes 60000 _ (at-if1 .if1 .left) (short-yes _ _ (at-if2 .if2 .left) (short-yes _ _ (at-if3 .if3 .left) (short-yes _ _ (at-if4 .if4 .left) (short-yes _ _ (at-if5 .if5 .left) (both-yes _ _ (lists-test _ (at-long .are-long .ensures)) (c .before .before .if6 .left) (short-yes 16384 _ (c .before .if7 .left) (short-yes _ _ (c .if8 .left) refl))))))))
+    by-tests limits _ q (short-yes 60000 _ (at-if1 .if1 .left) (short-yes _ _ (at-if2 .if2 .left) (short-yes _ _ (at-if3 .if3 .left) (short-yes _ _ (at-if4 .if4 .left) (short-yes _ _ (at-if5 .if5 .left) (both-yes _ _ (lists-test _ (at-long .are-long .ensures)) (at-if6 .if6 .left) (short-yes 16384 _ (c .before .before .if7 .left) (short-yes _ _ (c .before .if8 .left) (short-no _ _ _ (c .if9 .taken))))))))))
+
+returns-10 : tie.Need-returns-10
+returns-10 c limits q =
+    let at-if6 = c .before .before .before in
+    let at-long = at-if6 .before in
+    let at-if5 = at-long .before in
+    let at-if4 = at-if5 .before in
+    let at-if3 = at-if4 .before in
+    let at-if2 = at-if3 .before in
+    let at-if1 = at-if2 .before in
+    by-tests limits _ q (short-yes 60000 _ (at-if1 .if1 .left) (short-yes _ _ (at-if2 .if2 .left) (short-yes _ _ (at-if3 .if3 .left) (short-yes _ _ (at-if4 .if4 .left) (short-yes _ _ (at-if5 .if5 .left) (both-yes _ _ (lists-test _ (at-long .are-long .ensures)) (at-if6 .if6 .left) (short-yes 16384 _ (c .before .before .if7 .left) (short-yes _ _ (c .before .if8 .left) (short-yes _ _ (c .if9 .left) refl)))))))))
 
 pub is-long-spec : {M : Type 1} → statement M
 is-long-spec =
@@ -85,4 +100,6 @@ is-long-spec =
     returns-7
     mul-if8
     returns-8
-    returns-9)
+    mul-if9
+    returns-9
+    returns-10)

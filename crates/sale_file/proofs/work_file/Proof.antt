@@ -19,7 +19,7 @@ enum-known-q c = search needs
 refuse-requires : tie.Need-refuse-requires
 refuse-requires c κs =
     let at-load = c .before .before .before .before .before .before .before .before .before .before .before .before .before .before .before .before .before .before .before .before .before .before .before in
-    let long = c .before .before .before .before .before .before .before .before .before .before .before .before .before .before .before .before .before .before .before .before .before .before .before .before .before .before .before .before .before .before .before .before .before .before .before .before .before .before .before .before .before .before .before .before .before .before .before .before .before .pre in
+    let long = c .before .before .before .before .before .before .before .before .before .before .before .before .before .before .before .before .before .before .before .before .before .before .before .before .before .before .before .before .before .before .before .before .before .before .before .before .before .before .before .before .before .before .before .before .before .before .before .before .before .before .pre in
     let loads = at-load .load .ensures in
     let refused = c .before .before .q .given .1 in
     (small long loads refused .1, omega (arith, line-fits long loads refused, long .spacious))
@@ -28,7 +28,7 @@ cast-number : tie.Need-cast-number
 cast-number c =
     let at-q = c .before .before .before .before .before in
     let at-load = at-q .before .before .before .before .before .before .before .before .before .before .before .before .before .before .before .before .before .before .before .before .before in
-    let start = at-load .before .before .before .before .before .before .before .before .before .before .before .before .before .before .before .before .before .before .before .before .before .before .before .before .before .before in
+    let start = at-load .before .before .before .before .before .before .before .before .before .before .before .before .before .before .before .before .before .before .before .before .before .before .before .before .before .before .before in
     omega (arith, small (start .pre) (at-load .load .ensures) (at-q .q .given .1) .0)
 
 enum-known-z : tie.Need-enum-known-z
@@ -36,7 +36,7 @@ enum-known-z c = search needs
 
 slice-aggregate-report-sale : tie.Need-slice-aggregate-report-sale
 slice-aggregate-report-sale c =
-    let at-z = c .before .before .before .before .before .before .before .before .before .before .before .before .before .before in
+    let at-z = c .before .before .before .before .before .before .before .before .before .before .before .before .before .before .before in
     let at-load = at-z .before .before .before .before .before .before .before .before .before .before .before .before .before .before .before .before .before .before .before .before .before in
     omega (arith, at-load .load .ensures .accepts _ (at-z .z .given .1) .costs)
 
@@ -45,9 +45,9 @@ slice-aggregate-report-sale-2 c = search needs
 
 report-sale-requires : tie.Need-report-sale-requires
 report-sale-requires c κs =
-    let at-z = c .before .before .before .before .before .before .before .before .before .before .before .before .before .before .before in
+    let at-z = c .before .before .before .before .before .before .before .before .before .before .before .before .before .before .before .before in
     let at-load = at-z .before .before .before .before .before .before .before .before .before .before .before .before .before .before .before .before .before .before .before .before .before in
-    let long = c .before .before .before .before .before .before .before .before .before .before .before .before .before .before .before .before .before .before .before .before .before .before .before .before .before .before .before .before .before .before .before .before .before .before .before .before .before .before .before .before .before .before .before .before .before .before .before .before .before .before .before .before .before .before .before .before .before .before .before .before .before .before .pre in
+    let long = c .before .before .before .before .before .before .before .before .before .before .before .before .before .before .before .before .before .before .before .before .before .before .before .before .before .before .before .before .before .before .before .before .before .before .before .before .before .before .before .before .before .before .before .before .before .before .before .before .before .before .before .before .before .before .before .before .before .before .before .before .before .before .before .before .pre in
     let loads = at-load .load .ensures in
     let accepted = at-z .z .given .1 in
     record {
@@ -62,7 +62,7 @@ report-sale-requires c κs =
 
 cast-lots : tie.Need-cast-lots
 cast-lots c =
-    let at-z = c .before .before .before .before .before .before .before .before .before .before .before .before .before .before .before .before .before .before .before .before .before .before .before .before .before .before .before .before .before .before .before .before .before .before in
+    let at-z = c .before .before .before .before .before .before .before .before .before .before .before .before .before .before .before .before .before .before .before .before .before .before .before .before .before .before .before .before .before .before .before .before .before .before .before .before .before in
     let at-load = at-z .before .before .before .before .before .before .before .before .before .before .before .before .before .before .before .before .before .before .before .before .before in
     omega (arith, at-load .load .ensures .accepts _ (at-z .z .given .1) .range .l-high)
 
@@ -93,77 +93,77 @@ same-length-8 c = search needs
 same-length-9 : tie.Need-same-length-9
 same-length-9 c = search needs
 
+same-length-10 : tie.Need-same-length-10
+same-length-10 c = search needs
+
 returns : tie.Need-returns
 returns c =
     let at-q = c .before .before .before .before .before in
     let at-load = at-q .before .before .before .before .before .before .before .before .before .before .before .before .before .before .before .before .before .before .before .before .before in
-    let start = at-load .before .before .before .before .before .before .before .before .before .before .before .before .before .before .before .before .before .before .before .before .before .before .before .before .before .before in
+    let start = at-load .before .before .before .before .before .before .before .before .before .before .before .before .before .before .before .before .before .before .before .before .before .before .before .before .before .before .before in
     let long = start .pre in
     let loads = at-load .load .ensures in
     let refused = at-q .q .given .1 in
     (turned-down long loads refused refl (c .before .before .refuse .ensures), no-lots long loads refused)
 
-same-length-10 : tie.Need-same-length-10
-same-length-10 c = search needs
-
 same-length-11 : tie.Need-same-length-11
 same-length-11 c =
-    let at-report-sale = c .before .before .before .before .before .before .before .before .before .before .before .before .before .before .before .before .before .before in
-    let at-load = at-report-sale .before .before .before .before .before .before .before .before .before .before .before .before .before .before .before .before .before .before .before .before .before .before .before .before .before .before .before .before .before .before .before .before .before .before .before .before .before in
+    let at-report-sale = c .before .before .before .before .before .before .before .before .before .before .before .before .before .before .before .before .before .before .before .before in
+    let at-load = at-report-sale .before .before .before .before .before .before .before .before .before .before .before .before .before .before .before .before .before .before .before .before .before .before .before .before .before .before .before .before .before .before .before .before .before .before .before .before .before .before in
     omega (arith, at-load .load .kept, at-report-sale .report-sale .kept)
 
 same-length-12 : tie.Need-same-length-12
 same-length-12 c =
-    let at-report-sale = c .before .before .before .before .before .before .before .before .before .before .before .before .before .before .before .before .before .before in
-    let at-load = at-report-sale .before .before .before .before .before .before .before .before .before .before .before .before .before .before .before .before .before .before .before .before .before .before .before .before .before .before .before .before .before .before .before .before .before .before .before .before .before in
+    let at-report-sale = c .before .before .before .before .before .before .before .before .before .before .before .before .before .before .before .before .before .before .before .before in
+    let at-load = at-report-sale .before .before .before .before .before .before .before .before .before .before .before .before .before .before .before .before .before .before .before .before .before .before .before .before .before .before .before .before .before .before .before .before .before .before .before .before .before .before in
     omega (arith, at-load .load .kept, at-report-sale .report-sale .kept)
 
 same-length-13 : tie.Need-same-length-13
 same-length-13 c =
-    let at-report-sale = c .before .before .before .before .before .before .before .before .before .before .before .before .before .before .before .before .before .before in
-    let at-load = at-report-sale .before .before .before .before .before .before .before .before .before .before .before .before .before .before .before .before .before .before .before .before .before .before .before .before .before .before .before .before .before .before .before .before .before .before .before .before .before in
+    let at-report-sale = c .before .before .before .before .before .before .before .before .before .before .before .before .before .before .before .before .before .before .before .before in
+    let at-load = at-report-sale .before .before .before .before .before .before .before .before .before .before .before .before .before .before .before .before .before .before .before .before .before .before .before .before .before .before .before .before .before .before .before .before .before .before .before .before .before .before in
     omega (arith, at-load .load .kept, at-report-sale .report-sale .kept)
 
 same-length-14 : tie.Need-same-length-14
 same-length-14 c =
-    let at-report-sale = c .before .before .before .before .before .before .before .before .before .before .before .before .before .before .before .before .before .before in
-    let at-load = at-report-sale .before .before .before .before .before .before .before .before .before .before .before .before .before .before .before .before .before .before .before .before .before .before .before .before .before .before .before .before .before .before .before .before .before .before .before .before .before in
+    let at-report-sale = c .before .before .before .before .before .before .before .before .before .before .before .before .before .before .before .before .before .before .before .before in
+    let at-load = at-report-sale .before .before .before .before .before .before .before .before .before .before .before .before .before .before .before .before .before .before .before .before .before .before .before .before .before .before .before .before .before .before .before .before .before .before .before .before .before .before in
     omega (arith, at-load .load .kept, at-report-sale .report-sale .kept)
 
 same-length-15 : tie.Need-same-length-15
 same-length-15 c =
-    let at-report-sale = c .before .before .before .before .before .before .before .before .before .before .before .before .before .before .before .before .before .before in
-    let at-load = at-report-sale .before .before .before .before .before .before .before .before .before .before .before .before .before .before .before .before .before .before .before .before .before .before .before .before .before .before .before .before .before .before .before .before .before .before .before .before .before in
+    let at-report-sale = c .before .before .before .before .before .before .before .before .before .before .before .before .before .before .before .before .before .before .before .before in
+    let at-load = at-report-sale .before .before .before .before .before .before .before .before .before .before .before .before .before .before .before .before .before .before .before .before .before .before .before .before .before .before .before .before .before .before .before .before .before .before .before .before .before .before in
     omega (arith, at-load .load .kept, at-report-sale .report-sale .kept)
 
 same-length-16 : tie.Need-same-length-16
 same-length-16 c =
-    let at-report-sale = c .before .before .before .before .before .before .before .before .before .before .before .before .before .before .before .before .before .before in
-    let at-load = at-report-sale .before .before .before .before .before .before .before .before .before .before .before .before .before .before .before .before .before .before .before .before .before .before .before .before .before .before .before .before .before .before .before .before .before .before .before .before .before in
+    let at-report-sale = c .before .before .before .before .before .before .before .before .before .before .before .before .before .before .before .before .before .before .before .before in
+    let at-load = at-report-sale .before .before .before .before .before .before .before .before .before .before .before .before .before .before .before .before .before .before .before .before .before .before .before .before .before .before .before .before .before .before .before .before .before .before .before .before .before .before in
     omega (arith, at-load .load .kept, at-report-sale .report-sale .kept)
 
 same-length-17 : tie.Need-same-length-17
 same-length-17 c =
-    let at-report-sale = c .before .before .before .before .before .before .before .before .before .before .before .before .before .before .before .before .before .before in
-    let at-load = at-report-sale .before .before .before .before .before .before .before .before .before .before .before .before .before .before .before .before .before .before .before .before .before .before .before .before .before .before .before .before .before .before .before .before .before .before .before .before .before in
+    let at-report-sale = c .before .before .before .before .before .before .before .before .before .before .before .before .before .before .before .before .before .before .before .before in
+    let at-load = at-report-sale .before .before .before .before .before .before .before .before .before .before .before .before .before .before .before .before .before .before .before .before .before .before .before .before .before .before .before .before .before .before .before .before .before .before .before .before .before .before in
     omega (arith, at-load .load .kept, at-report-sale .report-sale .kept)
 
 same-length-18 : tie.Need-same-length-18
 same-length-18 c =
-    let at-report-sale = c .before .before .before .before .before .before .before .before .before .before .before .before .before .before .before .before .before .before in
-    let at-load = at-report-sale .before .before .before .before .before .before .before .before .before .before .before .before .before .before .before .before .before .before .before .before .before .before .before .before .before .before .before .before .before .before .before .before .before .before .before .before .before in
+    let at-report-sale = c .before .before .before .before .before .before .before .before .before .before .before .before .before .before .before .before .before .before .before .before in
+    let at-load = at-report-sale .before .before .before .before .before .before .before .before .before .before .before .before .before .before .before .before .before .before .before .before .before .before .before .before .before .before .before .before .before .before .before .before .before .before .before .before .before .before in
     omega (arith, at-load .load .kept, at-report-sale .report-sale .kept)
 
 same-length-19 : tie.Need-same-length-19
 same-length-19 c =
-    let at-report-sale = c .before .before .before .before .before .before .before .before .before .before .before .before .before .before .before .before .before .before in
-    let at-load = at-report-sale .before .before .before .before .before .before .before .before .before .before .before .before .before .before .before .before .before .before .before .before .before .before .before .before .before .before .before .before .before .before .before .before .before .before .before .before .before in
+    let at-report-sale = c .before .before .before .before .before .before .before .before .before .before .before .before .before .before .before .before .before .before .before .before in
+    let at-load = at-report-sale .before .before .before .before .before .before .before .before .before .before .before .before .before .before .before .before .before .before .before .before .before .before .before .before .before .before .before .before .before .before .before .before .before .before .before .before .before .before in
     omega (arith, at-load .load .kept, at-report-sale .report-sale .kept)
 
 same-length-20 : tie.Need-same-length-20
 same-length-20 c =
-    let at-report-sale = c .before .before .before .before .before .before .before .before .before .before .before .before .before .before .before .before .before .before in
-    let at-load = at-report-sale .before .before .before .before .before .before .before .before .before .before .before .before .before .before .before .before .before .before .before .before .before .before .before .before .before .before .before .before .before .before .before .before .before .before .before .before .before in
+    let at-report-sale = c .before .before .before .before .before .before .before .before .before .before .before .before .before .before .before .before .before .before .before .before in
+    let at-load = at-report-sale .before .before .before .before .before .before .before .before .before .before .before .before .before .before .before .before .before .before .before .before .before .before .before .before .before .before .before .before .before .before .before .before .before .before .before .before .before .before in
     omega (arith, at-load .load .kept, at-report-sale .report-sale .kept)
 
 same-length-21 : tie.Need-same-length-21
@@ -175,13 +175,16 @@ same-length-22 c = search needs
 same-length-23 : tie.Need-same-length-23
 same-length-23 c = search needs
 
+same-length-24 : tie.Need-same-length-24
+same-length-24 c = search needs
+
 returns-2 : tie.Need-returns-2
 returns-2 c =
-    let at-report-sale = c .before .before .before .before .before .before .before .before .before .before .before .before .before .before .before .before .before .before in
-    let at-z = at-report-sale .before .before .before .before .before .before .before .before .before .before .before .before .before .before .before .before in
+    let at-report-sale = c .before .before .before .before .before .before .before .before .before .before .before .before .before .before .before .before .before .before .before .before in
+    let at-z = at-report-sale .before .before .before .before .before .before .before .before .before .before .before .before .before .before .before .before .before in
     let at-load = at-z .before .before .before .before .before .before .before .before .before .before .before .before .before .before .before .before .before .before .before .before .before in
     let reported = at-report-sale .report-sale .ensures in
-    let long = c .before .before .before .before .before .before .before .before .before .before .before .before .before .before .before .before .before .before .before .before .before .before .before .before .before .before .before .before .before .before .before .before .before .before .before .before .before .before .before .before .before .before .before .before .before .before .before .before .before .before .before .before .before .before .before .before .before .before .before .before .before .before .before .before .before .before .before .before .before .before .before .before .before .before .before .before .before .before .before .before .before .pre in
+    let long = c .before .before .before .before .before .before .before .before .before .before .before .before .before .before .before .before .before .before .before .before .before .before .before .before .before .before .before .before .before .before .before .before .before .before .before .before .before .before .before .before .before .before .before .before .before .before .before .before .before .before .before .before .before .before .before .before .before .before .before .before .before .before .before .before .before .before .before .before .before .before .before .before .before .before .before .before .before .before .before .before .before .before .before .before .before .pre in
     let loads = at-load .load .ensures in
     let accepted = at-z .z .given .1 in
     let calls-long = at-load .load .kept in (
@@ -228,4 +231,5 @@ work-file-spec =
     same-length-21
     same-length-22
     same-length-23
+    same-length-24
     returns-2)

@@ -19,7 +19,7 @@ enum-known-q c = search needs
 refuse-requires : tie.Need-refuse-requires
 refuse-requires c κs =
     let at-load = c .before .before .before .before .before .before .before .before .before .before .before .before .before .before .before .before .before .before .before .before .before .before .before in
-    let start = at-load .before .before .before .before .before .before .before .before .before .before .before .before .before .before .before .before .before .before .before .before .before .before .before .before .before .before .before in
+    let start = at-load .before .before .before .before .before .before .before .before .before .before .before .before .before .before .before .before .before .before .before .before .before .before .before .before .before .before .before .before in
     let long = start .pre .0 in
     let loads = at-load .load .ensures in
     let refused = c .before .before .q .given .1 in
@@ -29,26 +29,29 @@ cast-number : tie.Need-cast-number
 cast-number c =
     let at-q = c .before .before .before .before .before in
     let at-load = at-q .before .before .before .before .before .before .before .before .before .before .before .before .before .before .before .before .before .before .before .before .before in
-    let start = at-load .before .before .before .before .before .before .before .before .before .before .before .before .before .before .before .before .before .before .before .before .before .before .before .before .before .before .before in
+    let start = at-load .before .before .before .before .before .before .before .before .before .before .before .before .before .before .before .before .before .before .before .before .before .before .before .before .before .before .before .before in
     omega (arith, small (start .pre .0) (at-load .load .ensures) (at-q .q .given .1) .0)
 
 new-requires : tie.Need-new-requires
 new-requires c κs = search needs
+
+new-requires-2 : tie.Need-new-requires-2
+new-requires-2 c κs = search needs
 
 enum-known-z : tie.Need-enum-known-z
 enum-known-z c = search needs
 
 slice-aggregate-sell : tie.Need-slice-aggregate-sell
 slice-aggregate-sell c =
-    let at-z = c .before .before .before .before .before .before .before .before .before .before .before .before .before .before in
+    let at-z = c .before .before .before .before .before .before .before .before .before .before .before .before .before .before .before in
     let at-load = at-z .before .before .before .before .before .before .before .before .before .before .before .before .before .before .before .before .before .before .before .before .before in
     omega (arith, at-load .load .ensures .accepts _ (at-z .z .given .1) .costs)
 
 sell-requires : tie.Need-sell-requires
 sell-requires c κs =
-    let at-z = c .before .before .before .before .before .before .before .before .before .before .before .before .before .before in
+    let at-z = c .before .before .before .before .before .before .before .before .before .before .before .before .before .before .before in
     let at-load = at-z .before .before .before .before .before .before .before .before .before .before .before .before .before .before .before .before .before .before .before .before .before in
-    let start = at-load .before .before .before .before .before .before .before .before .before .before .before .before .before .before .before .before .before .before .before .before .before .before .before .before .before .before .before in
+    let start = at-load .before .before .before .before .before .before .before .before .before .before .before .before .before .before .before .before .before .before .before .before .before .before .before .before .before .before .before .before in
     let long = start .pre .0 in
     record {
       limits = _;
@@ -59,6 +62,30 @@ sell-requires c κs =
       catalogued = catalogued long (at-load .load .ensures) (at-z .z .given .1);
       listed = list-listed _ (start .pre .1) (long .spacious);
     }
+
+zeroed-requires : tie.Need-zeroed-requires
+zeroed-requires c κs =
+    let at-sell = c .before .before .before .before .before .before .before .before .before .before .before .before .before .before .before .before .before .before .before .before .before in
+    let at-z = at-sell .before .before .before .before .before .before .before .before .before .before .before .before .before .before .before .before in
+    let at-load = at-z .before .before .before .before .before .before .before .before .before .before .before .before .before .before .before .before .before .before .before .before .before in
+    let start = at-load .before .before .before .before .before .before .before .before .before .before .before .before .before .before .before .before .before .before .before .before .before .before .before .before .before .before .before .before in
+    let long = start .pre .0 in
+    let loads = at-load .load .ensures in
+    let accepted = at-z .z .given .1 in
+    let sold = (at-sell .sell .ensures _ _ _ _ _ (catalogued long loads accepted) (list-listed _ (start .pre .1) (long .spacious))) in
+    (sold .stack-whole .xs-whole, sold .stack-whole .ys-whole)
+
+zeroed-requires-2 : tie.Need-zeroed-requires-2
+zeroed-requires-2 c κs =
+    let at-sell = c .before .before .before .before .before .before .before .before .before .before .before .before .before .before .before .before .before .before .before .before .before .before in
+    let at-z = at-sell .before .before .before .before .before .before .before .before .before .before .before .before .before .before .before .before in
+    let at-load = at-z .before .before .before .before .before .before .before .before .before .before .before .before .before .before .before .before .before .before .before .before .before in
+    let start = at-load .before .before .before .before .before .before .before .before .before .before .before .before .before .before .before .before .before .before .before .before .before .before .before .before .before .before .before .before in
+    let long = start .pre .0 in
+    let loads = at-load .load .ensures in
+    let accepted = at-z .z .given .1 in
+    let sold = (at-sell .sell .ensures _ _ _ _ _ (catalogued long loads accepted) (list-listed _ (start .pre .1) (long .spacious))) in
+    (sold .journal-whole .xs-whole, sold .journal-whole .ys-whole)
 
 same-length : tie.Need-same-length
 same-length c = search needs
@@ -87,75 +114,75 @@ same-length-8 c = search needs
 same-length-9 : tie.Need-same-length-9
 same-length-9 c = search needs
 
+same-length-10 : tie.Need-same-length-10
+same-length-10 c = search needs
+
 returns : tie.Need-returns
 returns c =
     let at-refuse = c .before .before .before .before in
     let at-q = at-refuse .before .before .before in
     let at-load = at-q .before .before .before .before .before .before .before .before .before .before .before .before .before .before .before .before .before .before .before .before .before in
-    let start = at-load .before .before .before .before .before .before .before .before .before .before .before .before .before .before .before .before .before .before .before .before .before .before .before .before .before .before .before in
-    list-down (now (start .args .list)) _ _ _ _ (at-load .load .ensures) (at-q .q .given .1) _ (idle (c .before .new .ensures .2) (c .before .new .ensures .3) (c .before .new .ensures .4) (c .new2 .ensures .2) (c .new2 .ensures .3) (c .new2 .ensures .4) refl) refl (at-refuse .refuse .ensures)
-
-same-length-10 : tie.Need-same-length-10
-same-length-10 c = search needs
+    let start = at-load .before .before .before .before .before .before .before .before .before .before .before .before .before .before .before .before .before .before .before .before .before .before .before .before .before .before .before .before in
+    list-down (now (start .args .list)) _ _ _ _ _ (at-load .load .ensures) (at-q .q .given .1) _ (idle (c .before .new .ensures .2) (c .before .new .ensures .3) (c .before .new .ensures .4) (c .new2 .ensures .2) (c .new2 .ensures .3) (c .new2 .ensures .4) refl) refl (at-refuse .refuse .ensures)
 
 same-length-11 : tie.Need-same-length-11
 same-length-11 c =
-    let at-sell = c .before .before .before .before .before .before .before .before .before .before .before .before .before .before .before .before .before .before .before .before .before in
-    let at-load = at-sell .before .before .before .before .before .before .before .before .before .before .before .before .before .before .before .before .before .before .before .before .before .before .before .before .before .before .before .before .before .before .before .before .before .before .before .before in
+    let at-sell = c .before .before .before .before .before .before .before .before .before .before .before .before .before .before .before .before .before .before .before .before .before .before .before in
+    let at-load = at-sell .before .before .before .before .before .before .before .before .before .before .before .before .before .before .before .before .before .before .before .before .before .before .before .before .before .before .before .before .before .before .before .before .before .before .before .before .before in
     omega (arith, at-load .load .kept, at-sell .sell .kept)
 
 same-length-12 : tie.Need-same-length-12
 same-length-12 c =
-    let at-sell = c .before .before .before .before .before .before .before .before .before .before .before .before .before .before .before .before .before .before .before .before .before in
-    let at-load = at-sell .before .before .before .before .before .before .before .before .before .before .before .before .before .before .before .before .before .before .before .before .before .before .before .before .before .before .before .before .before .before .before .before .before .before .before .before in
+    let at-sell = c .before .before .before .before .before .before .before .before .before .before .before .before .before .before .before .before .before .before .before .before .before .before .before in
+    let at-load = at-sell .before .before .before .before .before .before .before .before .before .before .before .before .before .before .before .before .before .before .before .before .before .before .before .before .before .before .before .before .before .before .before .before .before .before .before .before .before in
     omega (arith, at-load .load .kept, at-sell .sell .kept)
 
 same-length-13 : tie.Need-same-length-13
 same-length-13 c =
-    let at-sell = c .before .before .before .before .before .before .before .before .before .before .before .before .before .before .before .before .before .before .before .before .before in
-    let at-load = at-sell .before .before .before .before .before .before .before .before .before .before .before .before .before .before .before .before .before .before .before .before .before .before .before .before .before .before .before .before .before .before .before .before .before .before .before .before in
+    let at-sell = c .before .before .before .before .before .before .before .before .before .before .before .before .before .before .before .before .before .before .before .before .before .before .before in
+    let at-load = at-sell .before .before .before .before .before .before .before .before .before .before .before .before .before .before .before .before .before .before .before .before .before .before .before .before .before .before .before .before .before .before .before .before .before .before .before .before .before in
     omega (arith, at-load .load .kept, at-sell .sell .kept)
 
 same-length-14 : tie.Need-same-length-14
 same-length-14 c =
-    let at-sell = c .before .before .before .before .before .before .before .before .before .before .before .before .before .before .before .before .before .before .before .before .before in
-    let at-load = at-sell .before .before .before .before .before .before .before .before .before .before .before .before .before .before .before .before .before .before .before .before .before .before .before .before .before .before .before .before .before .before .before .before .before .before .before .before in
+    let at-sell = c .before .before .before .before .before .before .before .before .before .before .before .before .before .before .before .before .before .before .before .before .before .before .before in
+    let at-load = at-sell .before .before .before .before .before .before .before .before .before .before .before .before .before .before .before .before .before .before .before .before .before .before .before .before .before .before .before .before .before .before .before .before .before .before .before .before .before in
     omega (arith, at-load .load .kept, at-sell .sell .kept)
 
 same-length-15 : tie.Need-same-length-15
 same-length-15 c =
-    let at-sell = c .before .before .before .before .before .before .before .before .before .before .before .before .before .before .before .before .before .before .before .before .before in
-    let at-load = at-sell .before .before .before .before .before .before .before .before .before .before .before .before .before .before .before .before .before .before .before .before .before .before .before .before .before .before .before .before .before .before .before .before .before .before .before .before in
+    let at-sell = c .before .before .before .before .before .before .before .before .before .before .before .before .before .before .before .before .before .before .before .before .before .before .before in
+    let at-load = at-sell .before .before .before .before .before .before .before .before .before .before .before .before .before .before .before .before .before .before .before .before .before .before .before .before .before .before .before .before .before .before .before .before .before .before .before .before .before in
     omega (arith, at-load .load .kept, at-sell .sell .kept)
 
 same-length-16 : tie.Need-same-length-16
 same-length-16 c =
-    let at-sell = c .before .before .before .before .before .before .before .before .before .before .before .before .before .before .before .before .before .before .before .before .before in
-    let at-load = at-sell .before .before .before .before .before .before .before .before .before .before .before .before .before .before .before .before .before .before .before .before .before .before .before .before .before .before .before .before .before .before .before .before .before .before .before .before in
+    let at-sell = c .before .before .before .before .before .before .before .before .before .before .before .before .before .before .before .before .before .before .before .before .before .before .before in
+    let at-load = at-sell .before .before .before .before .before .before .before .before .before .before .before .before .before .before .before .before .before .before .before .before .before .before .before .before .before .before .before .before .before .before .before .before .before .before .before .before .before in
     omega (arith, at-load .load .kept, at-sell .sell .kept)
 
 same-length-17 : tie.Need-same-length-17
 same-length-17 c =
-    let at-sell = c .before .before .before .before .before .before .before .before .before .before .before .before .before .before .before .before .before .before .before .before .before in
-    let at-load = at-sell .before .before .before .before .before .before .before .before .before .before .before .before .before .before .before .before .before .before .before .before .before .before .before .before .before .before .before .before .before .before .before .before .before .before .before .before in
+    let at-sell = c .before .before .before .before .before .before .before .before .before .before .before .before .before .before .before .before .before .before .before .before .before .before .before in
+    let at-load = at-sell .before .before .before .before .before .before .before .before .before .before .before .before .before .before .before .before .before .before .before .before .before .before .before .before .before .before .before .before .before .before .before .before .before .before .before .before .before in
     omega (arith, at-load .load .kept, at-sell .sell .kept)
 
 same-length-18 : tie.Need-same-length-18
 same-length-18 c =
-    let at-sell = c .before .before .before .before .before .before .before .before .before .before .before .before .before .before .before .before .before .before .before .before .before in
-    let at-load = at-sell .before .before .before .before .before .before .before .before .before .before .before .before .before .before .before .before .before .before .before .before .before .before .before .before .before .before .before .before .before .before .before .before .before .before .before .before in
+    let at-sell = c .before .before .before .before .before .before .before .before .before .before .before .before .before .before .before .before .before .before .before .before .before .before .before in
+    let at-load = at-sell .before .before .before .before .before .before .before .before .before .before .before .before .before .before .before .before .before .before .before .before .before .before .before .before .before .before .before .before .before .before .before .before .before .before .before .before .before in
     omega (arith, at-load .load .kept, at-sell .sell .kept)
 
 same-length-19 : tie.Need-same-length-19
 same-length-19 c =
-    let at-sell = c .before .before .before .before .before .before .before .before .before .before .before .before .before .before .before .before .before .before .before .before .before in
-    let at-load = at-sell .before .before .before .before .before .before .before .before .before .before .before .before .before .before .before .before .before .before .before .before .before .before .before .before .before .before .before .before .before .before .before .before .before .before .before .before in
+    let at-sell = c .before .before .before .before .before .before .before .before .before .before .before .before .before .before .before .before .before .before .before .before .before .before .before in
+    let at-load = at-sell .before .before .before .before .before .before .before .before .before .before .before .before .before .before .before .before .before .before .before .before .before .before .before .before .before .before .before .before .before .before .before .before .before .before .before .before .before in
     omega (arith, at-load .load .kept, at-sell .sell .kept)
 
 same-length-20 : tie.Need-same-length-20
 same-length-20 c =
-    let at-sell = c .before .before .before .before .before .before .before .before .before .before .before .before .before .before .before .before .before .before .before .before .before in
-    let at-load = at-sell .before .before .before .before .before .before .before .before .before .before .before .before .before .before .before .before .before .before .before .before .before .before .before .before .before .before .before .before .before .before .before .before .before .before .before .before in
+    let at-sell = c .before .before .before .before .before .before .before .before .before .before .before .before .before .before .before .before .before .before .before .before .before .before .before in
+    let at-load = at-sell .before .before .before .before .before .before .before .before .before .before .before .before .before .before .before .before .before .before .before .before .before .before .before .before .before .before .before .before .before .before .before .before .before .before .before .before .before in
     omega (arith, at-load .load .kept, at-sell .sell .kept)
 
 same-length-21 : tie.Need-same-length-21
@@ -167,43 +194,19 @@ same-length-22 c = search needs
 same-length-23 : tie.Need-same-length-23
 same-length-23 c = search needs
 
+same-length-24 : tie.Need-same-length-24
+same-length-24 c = search needs
+
 returns-2 : tie.Need-returns-2
 returns-2 c =
-    let at-sell = c .before .before .before .before .before .before .before .before .before .before .before .before .before .before .before .before .before .before .before .before .before in
-    let at-z = at-sell .before .before .before .before .before .before .before .before .before .before .before .before .before .before .before in
+    let at-sell = c .before .before .before .before .before .before .before .before .before .before .before .before .before .before .before .before .before .before .before .before .before .before .before in
+    let at-z = at-sell .before .before .before .before .before .before .before .before .before .before .before .before .before .before .before .before in
     let at-load = at-z .before .before .before .before .before .before .before .before .before .before .before .before .before .before .before .before .before .before .before .before .before in
-    let start = at-load .before .before .before .before .before .before .before .before .before .before .before .before .before .before .before .before .before .before .before .before .before .before .before .before .before .before .before in
+    let start = at-load .before .before .before .before .before .before .before .before .before .before .before .before .before .before .before .before .before .before .before .before .before .before .before .before .before .before .before .before in
     let long = start .pre .0 in
     let loads = at-load .load .ensures in
     let accepted = at-z .z .given .1 in
-    list-worked (now (start .args .list)) _ _ _ _ loads accepted (at-sell .sell .ensures _ _ _ _ _ (catalogued long loads accepted) (list-listed _ (start .pre .1) (long .spacious))) (c .before .zeroed .ensures) (c .zeroed2 .ensures)
-
-new-requires-2 : tie.Need-new-requires-2
-new-requires-2 c κs = search needs
-
-zeroed-requires : tie.Need-zeroed-requires
-zeroed-requires c κs =
-    let at-sell = c .before .before .before .before .before .before .before .before .before .before .before .before .before .before .before .before .before .before .before in
-    let at-z = at-sell .before .before .before .before .before .before .before .before .before .before .before .before .before .before .before in
-    let at-load = at-z .before .before .before .before .before .before .before .before .before .before .before .before .before .before .before .before .before .before .before .before .before in
-    let start = at-load .before .before .before .before .before .before .before .before .before .before .before .before .before .before .before .before .before .before .before .before .before .before .before .before .before .before .before in
-    let long = start .pre .0 in
-    let loads = at-load .load .ensures in
-    let accepted = at-z .z .given .1 in
-    let sold = (at-sell .sell .ensures _ _ _ _ _ (catalogued long loads accepted) (list-listed _ (start .pre .1) (long .spacious))) in
-    (sold .stack-whole .xs-whole, sold .stack-whole .ys-whole)
-
-zeroed-requires-2 : tie.Need-zeroed-requires-2
-zeroed-requires-2 c κs =
-    let at-sell = c .before .before .before .before .before .before .before .before .before .before .before .before .before .before .before .before .before .before .before .before in
-    let at-z = at-sell .before .before .before .before .before .before .before .before .before .before .before .before .before .before .before in
-    let at-load = at-z .before .before .before .before .before .before .before .before .before .before .before .before .before .before .before .before .before .before .before .before .before in
-    let start = at-load .before .before .before .before .before .before .before .before .before .before .before .before .before .before .before .before .before .before .before .before .before .before .before .before .before .before .before in
-    let long = start .pre .0 in
-    let loads = at-load .load .ensures in
-    let accepted = at-z .z .given .1 in
-    let sold = (at-sell .sell .ensures _ _ _ _ _ (catalogued long loads accepted) (list-listed _ (start .pre .1) (long .spacious))) in
-    (sold .journal-whole .xs-whole, sold .journal-whole .ys-whole)
+    list-worked (now (start .args .list)) _ _ _ _ _ loads accepted (at-sell .sell .ensures _ _ _ _ _ (catalogued long loads accepted) (list-listed _ (start .pre .1) (long .spacious))) (c .before .zeroed .ensures) (c .zeroed2 .ensures)
 
 pub work-list-spec : {M : Type 1} → statement M
 work-list-spec =
@@ -245,4 +248,5 @@ work-list-spec =
     same-length-21
     same-length-22
     same-length-23
+    same-length-24
     returns-2)

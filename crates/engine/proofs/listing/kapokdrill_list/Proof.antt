@@ -53,6 +53,9 @@ same-length-12 c = search needs
 same-length-13 : tie.Need-same-length-13
 same-length-13 c = search needs
 
+same-length-14 : tie.Need-same-length-14
+same-length-14 c = search needs
+
 returns : tie.Need-returns
 returns c = untouched-8 mainLimits _ _ _ _ (c .before .before .is-long .ensures _ refl) (not-true _ (c .before .if1 .taken)) (c .refused-list .ensures .0) (c .refused-list .ensures .1) (c .refused-list .ensures .2)
 
@@ -61,9 +64,6 @@ list-refusal-requires c κs = search needs
 
 refused-list-requires-2 : tie.Need-refused-list-requires-2
 refused-list-requires-2 c κs = search needs
-
-same-length-14 : tie.Need-same-length-14
-same-length-14 c = search needs
 
 same-length-15 : tie.Need-same-length-15
 same-length-15 c = search needs
@@ -101,6 +101,12 @@ same-length-25 c = search needs
 same-length-26 : tie.Need-same-length-26
 same-length-26 c = search needs
 
+same-length-27 : tie.Need-same-length-27
+same-length-27 c = search needs
+
+same-length-28 : tie.Need-same-length-28
+same-length-28 c = search needs
+
 returns-2 : tie.Need-returns-2
 returns-2 c =
     let at-if1 = c .before .before .before in
@@ -109,69 +115,86 @@ returns-2 c =
 
 work-list-requires : tie.Need-work-list-requires
 work-list-requires c κs =
-    let at-if2 = c .before .before .before .before .before .before .before .before .before .before .before .before .before in
+    let at-if2 = c .before .before .before .before .before .before .before .before .before .before .before .before .before .before in
     let at-list-refusal = at-if2 .before in
     let at-if1 = at-list-refusal .before in
     let at-is-long = at-if1 .before in
-    (long-is mainLimits _ _ _ _ _ (omega arith) (omega arith) (at-is-long .is-long .ensures _ refl) (not-false _ (at-if1 .if1 .left)), sym (at-list-refusal .list-refusal .ensures) ∙ at-if2 .if2 .left)
-
-same-length-27 : tie.Need-same-length-27
-same-length-27 c = search needs
-
-same-length-28 : tie.Need-same-length-28
-same-length-28 c =
-    let at-work-list = c .before .before .before .before .before .before .before .before .before .before .before .before .before .before .before .before .before .before .before .before .before .before .before .before .before in
-    omega (arith, at-work-list .work-list .kept)
+    (long-is mainLimits _ _ _ _ _ _ (omega arith) (omega arith) (at-is-long .is-long .ensures _ refl) (not-false _ (at-if1 .if1 .left)), sym (at-list-refusal .list-refusal .ensures) ∙ at-if2 .if2 .left)
 
 same-length-29 : tie.Need-same-length-29
 same-length-29 c =
-    let at-work-list = c .before .before .before .before .before .before .before .before .before .before .before .before .before .before .before .before .before .before .before .before .before .before .before .before .before in
+    let at-work-list = c .before .before .before .before .before .before .before .before .before .before .before .before .before .before .before .before .before .before .before .before .before .before .before .before .before .before .before in
     omega (arith, at-work-list .work-list .kept)
 
 same-length-30 : tie.Need-same-length-30
 same-length-30 c =
-    let at-work-list = c .before .before .before .before .before .before .before .before .before .before .before .before .before .before .before .before .before .before .before .before .before .before .before .before .before in
+    let at-work-list = c .before .before .before .before .before .before .before .before .before .before .before .before .before .before .before .before .before .before .before .before .before .before .before .before .before .before .before in
     omega (arith, at-work-list .work-list .kept)
 
 same-length-31 : tie.Need-same-length-31
 same-length-31 c =
-    let at-work-list = c .before .before .before .before .before .before .before .before .before .before .before .before .before .before .before .before .before .before .before .before .before .before .before .before .before in
+    let at-work-list = c .before .before .before .before .before .before .before .before .before .before .before .before .before .before .before .before .before .before .before .before .before .before .before .before .before .before .before in
     omega (arith, at-work-list .work-list .kept)
 
 same-length-32 : tie.Need-same-length-32
 same-length-32 c =
-    let at-work-list = c .before .before .before .before .before .before .before .before .before .before .before .before .before .before .before .before .before .before .before .before .before .before .before .before .before in
+    let at-work-list = c .before .before .before .before .before .before .before .before .before .before .before .before .before .before .before .before .before .before .before .before .before .before .before .before .before .before .before in
     omega (arith, at-work-list .work-list .kept)
 
 same-length-33 : tie.Need-same-length-33
 same-length-33 c =
-    let at-work-list = c .before .before .before .before .before .before .before .before .before .before .before .before .before .before .before .before .before .before .before .before .before .before .before .before .before in
+    let at-work-list = c .before .before .before .before .before .before .before .before .before .before .before .before .before .before .before .before .before .before .before .before .before .before .before .before .before .before .before in
     omega (arith, at-work-list .work-list .kept)
 
 same-length-34 : tie.Need-same-length-34
 same-length-34 c =
-    let at-work-list = c .before .before .before .before .before .before .before .before .before .before .before .before .before .before .before .before .before .before .before .before .before .before .before .before .before in
+    let at-work-list = c .before .before .before .before .before .before .before .before .before .before .before .before .before .before .before .before .before .before .before .before .before .before .before .before .before .before .before in
     omega (arith, at-work-list .work-list .kept)
 
 same-length-35 : tie.Need-same-length-35
-same-length-35 c = search needs
+same-length-35 c =
+    let at-work-list = c .before .before .before .before .before .before .before .before .before .before .before .before .before .before .before .before .before .before .before .before .before .before .before .before .before .before .before in
+    omega (arith, at-work-list .work-list .kept)
 
 same-length-36 : tie.Need-same-length-36
-same-length-36 c = search needs
+same-length-36 c =
+    let at-work-list = c .before .before .before .before .before .before .before .before .before .before .before .before .before .before .before .before .before .before .before .before .before .before .before .before .before .before .before in
+    omega (arith, at-work-list .work-list .kept)
 
 same-length-37 : tie.Need-same-length-37
-same-length-37 c = search needs
+same-length-37 c =
+    let at-work-list = c .before .before .before .before .before .before .before .before .before .before .before .before .before .before .before .before .before .before .before .before .before .before .before .before .before .before .before in
+    omega (arith, at-work-list .work-list .kept)
 
 same-length-38 : tie.Need-same-length-38
-same-length-38 c = search needs
+same-length-38 c =
+    let at-work-list = c .before .before .before .before .before .before .before .before .before .before .before .before .before .before .before .before .before .before .before .before .before .before .before .before .before .before .before in
+    omega (arith, at-work-list .work-list .kept)
 
 same-length-39 : tie.Need-same-length-39
-same-length-39 c = search needs
+same-length-39 c =
+    let at-work-list = c .before .before .before .before .before .before .before .before .before .before .before .before .before .before .before .before .before .before .before .before .before .before .before .before .before .before .before in
+    omega (arith, at-work-list .work-list .kept)
+
+same-length-40 : tie.Need-same-length-40
+same-length-40 c =
+    let at-work-list = c .before .before .before .before .before .before .before .before .before .before .before .before .before .before .before .before .before .before .before .before .before .before .before .before .before .before .before in
+    omega (arith, at-work-list .work-list .kept)
+
+same-length-41 : tie.Need-same-length-41
+same-length-41 c =
+    let at-work-list = c .before .before .before .before .before .before .before .before .before .before .before .before .before .before .before .before .before .before .before .before .before .before .before .before .before .before .before in
+    omega (arith, at-work-list .work-list .kept)
+
+same-length-42 : tie.Need-same-length-42
+same-length-42 c =
+    let at-work-list = c .before .before .before .before .before .before .before .before .before .before .before .before .before .before .before .before .before .before .before .before .before .before .before .before .before .before .before in
+    omega (arith, at-work-list .work-list .kept)
 
 returns-3 : tie.Need-returns-3
 returns-3 c =
-    let at-work-list = c .before .before .before .before .before .before .before .before .before .before .before .before .before .before .before .before .before .before .before .before .before .before .before .before .before in
-    let at-if2 = at-work-list .before .before .before .before .before .before .before .before .before .before .before .before .before .before in
+    let at-work-list = c .before .before .before .before .before .before .before .before .before .before .before .before .before .before .before .before .before .before .before .before .before .before .before .before .before .before .before in
+    let at-if2 = at-work-list .before .before .before .before .before .before .before .before .before .before .before .before .before .before .before in
     let at-list-refusal = at-if2 .before in
     let at-if1 = at-list-refusal .before in
     let at-is-long = at-if1 .before in
@@ -196,10 +219,10 @@ kapokdrill-list-spec =
     same-length-11
     same-length-12
     same-length-13
+    same-length-14
     returns
     list-refusal-requires
     refused-list-requires-2
-    same-length-14
     same-length-15
     same-length-16
     same-length-17
@@ -212,10 +235,10 @@ kapokdrill-list-spec =
     same-length-24
     same-length-25
     same-length-26
-    returns-2
-    work-list-requires
     same-length-27
     same-length-28
+    returns-2
+    work-list-requires
     same-length-29
     same-length-30
     same-length-31
@@ -227,4 +250,7 @@ kapokdrill-list-spec =
     same-length-37
     same-length-38
     same-length-39
+    same-length-40
+    same-length-41
+    same-length-42
     returns-3)

@@ -14,8 +14,8 @@ use Rattle.records.proofs.answering.core.Tie as tie
 
 returns : tie.Need-returns
 returns c =
-    let a = c .before .before .before .before .before .before .before .before .before .before .args in
-    record { fits = omega arith; small = omega arith; serves = λ lots e. no-room (limitsOf (a .vmax) (a .bmax)) (a .file .now) (a .output .now) lots (others (a .loadedpins .now) (a .presentpins .now) (a .firsts .now) (a .loadedsizes .now) (a .presentsizes .now) (a .counts .now) (a .gains .now) (a .visited .now)) (omega (arith, e, c .if1 .taken)) }
+    let a = c .before .before .before .before .before .before .before .before .before .before .before .args in
+    record { fits = omega arith; small = omega arith; serves = λ lots e. no-room (limitsOf (a .vmax) (a .bmax)) (a .file .now) (a .output .now) lots (others (a .loadedpins .now) (a .presentpins .now) (a .firsts .now) (a .loadedsizes .now) (a .presentsizes .now) (a .counts .now) (a .gains .now) (a .index .now) (a .visited .now)) (omega (arith, e, c .if1 .taken)) }
 
 slice-aggregate-serve : tie.Need-slice-aggregate-serve
 slice-aggregate-serve c = search needs
@@ -62,22 +62,25 @@ same-length-8 c = search needs
 same-length-9 : tie.Need-same-length-9
 same-length-9 c = search needs
 
+same-length-10 : tie.Need-same-length-10
+same-length-10 c = search needs
+
 returns-2 : tie.Need-returns-2
 returns-2 c =
-    let start = c .before .before .before .before .before .before .before .before .before .before .before .before .before .before .before .before .before .before .before .before .before .before .before .before .before .before .before .before .before .before .before .before .before .before .before .before .before .before .before .before .before .before .before .before .before .before in
+    let start = c .before .before .before .before .before .before .before .before .before .before .before .before .before .before .before .before .before .before .before .before .before .before .before .before .before .before .before .before .before .before .before .before .before .before .before .before .before .before .before .before .before .before .before .before .before .before .before .before .before .before in
     let a = start .args in
-    let at-serve = c .before .before .before .before .before .before .before .before .before .before .before .before .before .before .before .before .before .before .before .before .before .before in
+    let at-serve = c .before .before .before .before .before .before .before .before .before .before .before .before .before .before .before .before .before .before .before .before .before .before .before .before in
     let told = at-serve .serve .ensures in
     let last = at-serve .serve .last in
     let zeros : List ℕ = replicate 1024 0 in
     let long : a .vmax ≤ length zeros = omega (arith, length-replicate {A = ℕ} 1024 0, start .pre) in
-    let room : a .vmax ≤ a .room = c .before .before .before .before .before .before .before .before .before .before .before .before .before .before .before .before .before .before .before .before .before .before .before .before .before .before .before .before .before .before .before .before .before .before .before .before .if1 .left in
-    let few : at-serve .serve .result .lots ≤ a .vmax = omega (arith, told .lots-are, lots-few (limitsOf (a .vmax) (a .bmax)) (a .file .now) (longMemory (limitsOf (a .vmax) (a .bmax)) (inTables (a .output .now) zeros zeros zeros zeros (others (a .loadedpins .now) (a .presentpins .now) (a .firsts .now) (a .loadedsizes .now) (a .presentsizes .now) (a .counts .now) (a .gains .now) (a .visited .now))))) in
+    let room : a .vmax ≤ a .room = c .before .before .before .before .before .before .before .before .before .before .before .before .before .before .before .before .before .before .before .before .before .before .before .before .before .before .before .before .before .before .before .before .before .before .before .before .before .before .before .if1 .left in
+    let few : at-serve .serve .result .lots ≤ a .vmax = omega (arith, told .lots-are, lots-few (limitsOf (a .vmax) (a .bmax)) (a .file .now) (longMemory (limitsOf (a .vmax) (a .bmax)) (inTables (a .output .now) zeros zeros zeros zeros (others (a .loadedpins .now) (a .presentpins .now) (a .firsts .now) (a .loadedsizes .now) (a .presentsizes .now) (a .counts .now) (a .gains .now) (a .index .now) (a .visited .now))))) in
     record {
       fits = omega (arith, few, room);
       small = omega (arith, few, start .pre);
       serves = λ lots e. serves-records (limitsOf (a .vmax) (a .bmax)) (a .file .now) (a .output .now) (last .1 .1 .1 .0) zeros zeros zeros zeros (last .1 .1 .1 .1 .0) (last .1 .1 .1 .1 .1 .0) (last .1 .1 .1 .1 .1 .1 .0) (last .1 .1 .1 .1 .1 .1 .1 .0)
-          (others (a .loadedpins .now) (a .presentpins .now) (a .firsts .now) (a .loadedsizes .now) (a .presentsizes .now) (a .counts .now) (a .gains .now) (a .visited .now)) (others (last .1 .1 .1 .1 .1 .1 .1 .1 .0) (last .1 .1 .1 .1 .1 .1 .1 .1 .1 .0) (last .1 .1 .1 .1 .1 .1 .1 .1 .1 .1 .0) (last .1 .1 .1 .1 .1 .1 .1 .1 .1 .1 .1 .0) (last .1 .1 .1 .1 .1 .1 .1 .1 .1 .1 .1 .1 .0) (last .1 .1 .1 .1 .1 .1 .1 .1 .1 .1 .1 .1 .1 .0) (last .1 .1 .1 .1 .1 .1 .1 .1 .1 .1 .1 .1 .1 .1 .0) (last .1 .1 .1 .1 .1 .1 .1 .1 .1 .1 .1 .1 .1 .1 .1 .0)) (c .gather .result) lots (at-serve .serve .result .lots) _ _
+          (others (a .loadedpins .now) (a .presentpins .now) (a .firsts .now) (a .loadedsizes .now) (a .presentsizes .now) (a .counts .now) (a .gains .now) (a .index .now) (a .visited .now)) (others (last .1 .1 .1 .1 .1 .1 .1 .1 .0) (last .1 .1 .1 .1 .1 .1 .1 .1 .1 .0) (last .1 .1 .1 .1 .1 .1 .1 .1 .1 .1 .0) (last .1 .1 .1 .1 .1 .1 .1 .1 .1 .1 .1 .0) (last .1 .1 .1 .1 .1 .1 .1 .1 .1 .1 .1 .1 .0) (last .1 .1 .1 .1 .1 .1 .1 .1 .1 .1 .1 .1 .1 .0) (last .1 .1 .1 .1 .1 .1 .1 .1 .1 .1 .1 .1 .1 .1 .0) (last .1 .1 .1 .1 .1 .1 .1 .1 .1 .1 .1 .1 .1 .1 .1 .0) (last .1 .1 .1 .1 .1 .1 .1 .1 .1 .1 .1 .1 .1 .1 .1 .1 .0)) (c .gather .result) lots (at-serve .serve .result .lots) _ _
           long long long long (omega (arith, e, room)) few (c .gather .ensures) (told .lots-are) (told .serves);
     }
 
@@ -101,4 +104,5 @@ core-spec =
     same-length-7
     same-length-8
     same-length-9
+    same-length-10
     returns-2)

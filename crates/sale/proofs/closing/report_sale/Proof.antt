@@ -14,8 +14,8 @@ sell-requires c κs = search needs
 
 put-closing-requires : tie.Need-put-closing-requires
 put-closing-requires c κs =
-    let at-sell = c .before .before .before .before .before .before .before .before .before .before .before .before .before .before .before .before .before .before .before .before .before .before .before .before in
-    let start = at-sell .before .before .before .before .before .before .before .before .before .before .before .before .before .before .before .before .before .before .before .before .before .before .before .before .before in
+    let at-sell = c .before .before .before .before .before .before .before .before .before .before .before .before .before .before .before .before .before .before .before .before .before .before .before .before .before .before in
+    let start = at-sell .before .before .before .before .before .before .before .before .before .before .before .before .before .before .before .before .before .before .before .before .before .before .before .before .before .before .before in
     closes (at-sell .sell .ensures (start .pre .limits) (start .pre .file) (start .pre .pins) (start .pre .lows) (start .pre .old) (start .pre .catalogued) (start .pre .listed))
 
 same-length : tie.Need-same-length
@@ -45,9 +45,12 @@ same-length-8 c = search needs
 same-length-9 : tie.Need-same-length-9
 same-length-9 c = search needs
 
+same-length-10 : tie.Need-same-length-10
+same-length-10 c = search needs
+
 returns : tie.Need-returns
 returns c =
-    let at-sell = c .before .before .before .before .before .before .before .before .before .before .before .before .before .before .before .before .before .before .before .before .before .before .before .before .before .before .before in
+    let at-sell = c .before .before .before .before .before .before .before .before .before .before .before .before .before .before .before .before .before .before .before .before .before .before .before .before .before .before .before .before .before in
     λ limits file pins lows old g l. reported (at-sell .sell .ensures limits file pins lows old g l) (c .before .before .put-closing .ensures _ _ (at-sell .sell .ensures limits file pins lows old g l .ended))
 
 pub report-sale-spec : {M : Type 1} → statement M
@@ -67,4 +70,5 @@ report-sale-spec =
     same-length-7
     same-length-8
     same-length-9
+    same-length-10
     returns)
