@@ -17,6 +17,7 @@ fn main() {
     let mut presentsizes = [0u16; 1024];
     let mut counts = [0u16; 16384];
     let mut gains = [0i32; 16384];
+    let mut index = [0u16; 16384];
     let mut visited = [0u16; 1024];
     let n = io::read_full(0, &mut file);
     // J,2,5  M,2,2  S  B  A
@@ -36,6 +37,7 @@ fn main() {
         &mut presentsizes,
         &mut counts,
         &mut gains,
+        &mut index,
         &mut visited,
     );
     let written = ran.written;

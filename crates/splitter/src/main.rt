@@ -16,6 +16,7 @@ fn main() {
     let mut presentsizes = [0u16; 1024];
     let mut counts = [0u16; 16384];
     let mut gains = [0i32; 16384];
+    let mut index = [0u16; 16384];
     let mut visited = [0u16; 1024];
     let n = io::read_full(0, &mut file);
     let served = serve(
@@ -34,6 +35,7 @@ fn main() {
         &mut presentsizes,
         &mut counts,
         &mut gains,
+        &mut index,
         &mut visited,
     );
     let written = served.written;

@@ -59,17 +59,20 @@ slice-aggregate-kapokdrill-list-14 c = search needs
 slice-aggregate-kapokdrill-list-15 : tie.Need-slice-aggregate-kapokdrill-list-15
 slice-aggregate-kapokdrill-list-15 c = search needs
 
+slice-aggregate-kapokdrill-list-16 : tie.Need-slice-aggregate-kapokdrill-list-16
+slice-aggregate-kapokdrill-list-16 c = search needs
+
 kapokdrill-list-requires : tie.Need-kapokdrill-list-requires
 kapokdrill-list-requires c κs = search needs
 
 array-share-prefix-output : tie.Need-array-share-prefix-output
 array-share-prefix-output c =
-    let at-kapokdrill-list = c .before .before .before .before .before .before .before .before .before .before .before .before .before in
+    let at-kapokdrill-list = c .before .before .before .before .before .before .before .before .before .before .before .before .before .before in
     lines-in _ _ _ _ _ _ (at-kapokdrill-list .kapokdrill-list .ensures)
 
 slice-aggregate-write-all : tie.Need-slice-aggregate-write-all
 slice-aggregate-write-all c =
-    let at-kapokdrill-list = c .before .before .before .before .before .before .before .before .before .before .before .before .before .before in
+    let at-kapokdrill-list = c .before .before .before .before .before .before .before .before .before .before .before .before .before .before .before in
     sym (length-take-le _ _ (lines-in _ _ _ _ _ _ (at-kapokdrill-list .kapokdrill-list .ensures)))
 
 write-all-requires : tie.Need-write-all-requires
@@ -100,6 +103,7 @@ main-spec =
     slice-aggregate-kapokdrill-list-13
     slice-aggregate-kapokdrill-list-14
     slice-aggregate-kapokdrill-list-15
+    slice-aggregate-kapokdrill-list-16
     kapokdrill-list-requires
     array-share-prefix-output
     slice-aggregate-write-all

@@ -56,17 +56,20 @@ slice-aggregate-serve-13 c = search needs
 slice-aggregate-serve-14 : tie.Need-slice-aggregate-serve-14
 slice-aggregate-serve-14 c = search needs
 
+slice-aggregate-serve-15 : tie.Need-slice-aggregate-serve-15
+slice-aggregate-serve-15 c = search needs
+
 serve-requires : tie.Need-serve-requires
 serve-requires c κs = search needs
 
 array-share-prefix-output : tie.Need-array-share-prefix-output
 array-share-prefix-output c =
-    let at-serve = c .before .before .before .before .before .before .before .before .before .before .before .before .before in
+    let at-serve = c .before .before .before .before .before .before .before .before .before .before .before .before .before .before in
     bytes-in _ _ _ _ _ _ (at-serve .serve .ensures .serves)
 
 slice-aggregate-write-all : tie.Need-slice-aggregate-write-all
 slice-aggregate-write-all c =
-    let at-serve = c .before .before .before .before .before .before .before .before .before .before .before .before .before .before in
+    let at-serve = c .before .before .before .before .before .before .before .before .before .before .before .before .before .before .before in
     sym (length-take-le _ _ (bytes-in _ _ _ _ _ _ (at-serve .serve .ensures .serves)))
 
 write-all-requires : tie.Need-write-all-requires
@@ -96,6 +99,7 @@ main-spec =
     slice-aggregate-serve-12
     slice-aggregate-serve-13
     slice-aggregate-serve-14
+    slice-aggregate-serve-15
     serve-requires
     array-share-prefix-output
     slice-aggregate-write-all
