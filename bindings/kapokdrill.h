@@ -28,9 +28,11 @@ extern "C" {
 #define KAPOKDRILL_PINS 8192
 #define KAPOKDRILL_COUNTS 16384
 #define KAPOKDRILL_GAINS 16384
-/* At the superfine desk's entry two of them are less. */
+#define KAPOKDRILL_INDEX 16384
+/* At the superfine desk's entry three of them are less. */
 #define KAPOKDRILL_FINE_VERTICES 256
 #define KAPOKDRILL_FINE_GAINS 4096
+#define KAPOKDRILL_FINE_INDEX 4096
 
 typedef struct {
     /* 0, or the number under which the file was turned down:
@@ -79,6 +81,10 @@ typedef kapokdrill_result kapokdrill_entry(
     uint16_t *counts, size_t counts_length,
     /* By how much the total falls if the lot goes to the block; 0 at its own and off the board. */
     int32_t *gains, size_t gains_length,
+    /* The moves of each lot in the order of choice; the row of lot v begins at 16 * (v - 1). Of k
+     * blocks, its first k entries are in use: on the board the k - 1 other blocks, gain descending,
+     * then block ascending, and one 0 behind them; off the board 0 in all k. */
+    uint16_t *index, size_t index_length,
     /* The blocks that a net visits: block s is bit s - 1 from the lowest. */
     uint16_t *visited, size_t visited_length);
 
@@ -86,7 +92,7 @@ typedef kapokdrill_result kapokdrill_entry(
 kapokdrill_entry kapokdrill_run;
 
 /* The superfine desk's entry: 257 lots or 9 sessions are out of range (3), and `lots` may have 256
- * records and `gains` 4,096 entries. All else is as at the main entry. */
+ * records, `gains` and `index` 4,096 entries each. All else is as at the main entry. */
 kapokdrill_entry kapokdrill_run_fine;
 
 /* The joins that stand: lot gone[i] was joined into lot into[i], the earliest first; 0 from depth on. */
@@ -137,6 +143,7 @@ kapokdrill_list_result kapokdrill_list(
     uint16_t *presentsizes, size_t presentsizes_length,
     uint16_t *counts, size_t counts_length,
     int32_t *gains, size_t gains_length,
+    uint16_t *index, size_t index_length,
     uint16_t *visited, size_t visited_length);
 
 /* A stretch of a table of pins: its first place, from 0, and how many places it has. */

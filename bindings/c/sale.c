@@ -14,6 +14,8 @@ static uint16_t firsts[KAPOKDRILL_NETS];
 static uint16_t loadedsizes[KAPOKDRILL_NETS], presentsizes[KAPOKDRILL_NETS];
 static uint16_t counts[KAPOKDRILL_COUNTS];
 static int32_t gains[KAPOKDRILL_GAINS];
+/* Not called `index`, which is a function of some C libraries. */
+static uint16_t move_index[KAPOKDRILL_INDEX];
 static uint16_t visited[KAPOKDRILL_NETS];
 
 int main(int count, char **words) {
@@ -25,7 +27,8 @@ int main(int count, char **words) {
         output, KAPOKDRILL_OUTPUT,
         loadedpins, KAPOKDRILL_PINS, presentpins, KAPOKDRILL_PINS, firsts, KAPOKDRILL_NETS,
         loadedsizes, KAPOKDRILL_NETS, presentsizes, KAPOKDRILL_NETS, counts, KAPOKDRILL_COUNTS,
-        gains, fine ? KAPOKDRILL_FINE_GAINS : KAPOKDRILL_GAINS, visited, KAPOKDRILL_NETS);
+        gains, fine ? KAPOKDRILL_FINE_GAINS : KAPOKDRILL_GAINS,
+        move_index, fine ? KAPOKDRILL_FINE_INDEX : KAPOKDRILL_INDEX, visited, KAPOKDRILL_NETS);
     fwrite(output, 1, result.written, stdout);
     return (int)result.code;
 }

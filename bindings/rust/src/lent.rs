@@ -11,11 +11,11 @@ pub const VERTICES: usize = 1_024;
 pub const NETS: usize = 1_024;
 /// Entries of a table of pins.
 pub const PINS: usize = 8_192;
-/// Entries of the tables of counts and gains.
+/// Entries of the tables of counts and gains and of the index.
 pub const ROWS: usize = 16_384;
 /// Records of lots at the superfine desk's entry.
 pub const FINE_VERTICES: usize = 256;
-/// Entries of its table of gains.
+/// Entries of its table of gains and of its index.
 pub const FINE_ROWS: usize = 4_096;
 
 /// A lot's record: its bales, its session (0 off the board), the lot that it was joined into (0 on
@@ -39,6 +39,7 @@ pub struct Lent<'a> {
     pub presentsizes: &'a mut [u16],
     pub counts: &'a mut [u16],
     pub gains: &'a mut [i32],
+    pub index: &'a mut [u16],
     pub visited: &'a mut [u16],
 }
 
@@ -180,6 +181,8 @@ extern "C" {
         counts_length: usize,
         gains: *mut i32,
         gains_length: usize,
+        index: *mut u16,
+        index_length: usize,
         visited: *mut u16,
         visited_length: usize,
     ) -> ListOutcome;
@@ -232,6 +235,8 @@ macro_rules! over_records {
                 counts_length: usize,
                 gains: *mut i32,
                 gains_length: usize,
+                index: *mut u16,
+                index_length: usize,
                 visited: *mut u16,
                 visited_length: usize,
             ) -> Outcome;
@@ -264,6 +269,8 @@ macro_rules! over_records {
                     lent.counts.len(),
                     lent.gains.as_mut_ptr(),
                     lent.gains.len(),
+                    lent.index.as_mut_ptr(),
+                    lent.index.len(),
                     lent.visited.as_mut_ptr(),
                     lent.visited.len(),
                 )
@@ -279,7 +286,7 @@ over_records! {
 
 over_records! {
     /// The same through the superfine desk's entry: 257 lots or 9 sessions are out of range (3), and
-    /// the lots may have `FINE_VERTICES` records and the gains `FINE_ROWS` entries.
+    /// the lots may have `FINE_VERTICES` records, the gains and the index `FINE_ROWS` entries each.
     run_fine, kapokdrill_run_fine
 }
 
@@ -318,6 +325,8 @@ pub fn run_list(file: &[u8], list: &[u32], lots: Columns<'_>, lent: Lent<'_>) ->
             lent.counts.len(),
             lent.gains.as_mut_ptr(),
             lent.gains.len(),
+            lent.index.as_mut_ptr(),
+            lent.index.len(),
             lent.visited.as_mut_ptr(),
             lent.visited.len(),
         )

@@ -30,6 +30,7 @@ pub struct Memory {
     presentsizes: Box<[u16]>,
     counts: Box<[u16]>,
     gains: Box<[i32]>,
+    index: Box<[u16]>,
     visited: Box<[u16]>,
 }
 
@@ -40,7 +41,7 @@ impl Default for Memory {
 }
 
 impl Memory {
-    /// Memory as long as the entry asks. The lots and the gains go by how many lots it takes.
+    /// Memory as long as the entry asks. The lots, the gains and the index go by how many lots it takes.
     pub fn new(desk: Desk) -> Self {
         let lot = Lot {
             bales: 0,
@@ -48,7 +49,7 @@ impl Memory {
             above: 0,
             kept: 0,
         };
-        let (vertices, gains) = match desk {
+        let (vertices, rows) = match desk {
             Desk::Main => (VERTICES, ROWS),
             Desk::Superfine => (FINE_VERTICES, FINE_ROWS),
         };
@@ -62,7 +63,8 @@ impl Memory {
             loadedsizes: vec![0; NETS].into(),
             presentsizes: vec![0; NETS].into(),
             counts: vec![0; ROWS].into(),
-            gains: vec![0; gains].into(),
+            gains: vec![0; rows].into(),
+            index: vec![0; rows].into(),
             visited: vec![0; NETS].into(),
         }
     }
@@ -115,6 +117,7 @@ impl Memory {
             presentsizes: &mut self.presentsizes,
             counts: &mut self.counts,
             gains: &mut self.gains,
+            index: &mut self.index,
             visited: &mut self.visited,
         };
         (&mut self.lots, lent)
@@ -148,6 +151,13 @@ impl Memory {
     /// The gain of a lot to a session, at `entry(lot, session)`.
     pub fn gains(&self) -> &[i32] {
         &self.gains
+    }
+
+    /// Each lot's moves in the order of choice, its row from `entry(lot, 1)` on. The first entries of a
+    /// row, as many as there are sessions, are the lot's other sessions, gain descending, then session
+    /// ascending, and one 0 behind them; 0 in all of these for a lot off the board.
+    pub fn index(&self) -> &[u16] {
+        &self.index
     }
 
     /// The sessions each buyer visits: session s is bit s - 1 from the lowest.

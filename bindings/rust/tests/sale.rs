@@ -96,6 +96,9 @@ const WITH_ONE_JOIN: [Lot; 5] = [
     lot(10, 0, 2),
 ];
 
+/// Their rows of the index: one other session and a 0, and nothing for lot 5, which is off the board.
+const WITH_ONE_JOIN_INDEX: [[u16; 2]; 5] = [[2, 0], [2, 0], [1, 0], [1, 0], [0, 0]];
+
 #[test]
 fn tables_of_the_worked_sale_with_one_join() {
     let mut memory = Memory::default();
@@ -109,6 +112,9 @@ fn tables_of_the_worked_sale_with_one_join() {
     assert_eq!(memory.counts()[entry(3, 2)], 2);
     assert_eq!(memory.gains()[entry(1, 2)], 3);
     assert_eq!(memory.gains()[entry(4, 1)], -1);
+    for (lot, row) in (1..).zip(WITH_ONE_JOIN_INDEX) {
+        assert_eq!(memory.index()[entry(lot, 1)..][..2], row, "lot {lot}");
+    }
     assert_eq!(memory.visited()[..3], [0b11, 0b01, 0b10]);
 }
 
@@ -162,12 +168,30 @@ fn the_worked_sale_with_its_calls_apart() {
 }
 
 #[test]
-fn records_past_the_sale_keep_what_they_held() {
+fn a_row_of_the_index_has_the_order_of_choice() {
+    // Lot 1 to 2, 3, 4 wins 1, 3, 1; while 2 is joined into it 6, 3, 1.
+    let file = b"SALE,5,4,4,1000\nLOT,1,1\nLOT,1,1\nLOT,1,2\nLOT,1,3\nLOT,1,4\n\
+        BUY,1,1,3\nBUY,3,1,4\nBUY,1,1,5\nBUY,5,2,3\n";
+    let mut memory = Memory::default();
+    let rows = |memory: &Memory| {
+        let row = |lot| memory.index()[entry(lot, 1)..][..4].to_vec();
+        [row(1), row(2)]
+    };
+    assert_eq!(memory.run(file).0, 0);
+    assert_eq!(rows(&memory), [[3, 2, 4, 0], [2, 3, 4, 0]]);
+    let join = [b'J'.into(), 1, 2];
+    assert_eq!(memory.run_list(file, &join).0.code, 0);
+    assert_eq!(rows(&memory), [[2, 3, 4, 0], [0, 0, 0, 0]]);
+}
+
+#[test]
+fn records_and_rows_past_the_sale_keep_what_they_held() {
     let unused = Lot {
         kept: 10,
         ..lot(7, 8, 9)
     };
     let mut lots = vec![unused; VERTICES];
+    let mut index = vec![7_001; ROWS];
     let outcome = lent::run(
         ONE_JOIN,
         &mut lots,
@@ -180,12 +204,19 @@ fn records_past_the_sale_keep_what_they_held() {
             presentsizes: &mut [0; NETS],
             counts: &mut [0; ROWS],
             gains: &mut [0; ROWS],
+            index: &mut index,
             visited: &mut [0; NETS],
         },
     );
     assert_eq!(outcome.code, 0);
     assert_eq!(lots[..5], WITH_ONE_JOIN);
     assert!(lots[5..].iter().all(|&record| record == unused));
+    // of the rows in use the entries past the two sessions too
+    let mut wanted = vec![7_001; ROWS];
+    for (lot, row) in (1..).zip(WITH_ONE_JOIN_INDEX) {
+        wanted[entry(lot, 1)..][..2].copy_from_slice(&row);
+    }
+    assert!(index == wanted);
 }
 
 #[test]

@@ -34,14 +34,15 @@ struct Pieces {
     output: Vec<u8>,
     sixteens: [Vec<u16>; 7],
     gains: Vec<i32>,
+    index: Vec<u16>,
 }
 
-/// The lengths of the ten pieces in the order of the entries' parameters: lots, output, loaded pins,
-/// present pins, firsts, loaded sizes, present sizes, counts, gains, visited.
-type Lengths = [usize; 10];
+/// The lengths of the eleven pieces in the order of the entries' parameters: lots, output, loaded
+/// pins, present pins, firsts, loaded sizes, present sizes, counts, gains, index, visited.
+type Lengths = [usize; 11];
 
 const MAIN: Lengths = [
-    VERTICES, OUTPUT, PINS, PINS, NETS, NETS, NETS, ROWS, ROWS, NETS,
+    VERTICES, OUTPUT, PINS, PINS, NETS, NETS, NETS, ROWS, ROWS, ROWS, NETS,
 ];
 const FINE: Lengths = [
     FINE_VERTICES,
@@ -52,6 +53,7 @@ const FINE: Lengths = [
     NETS,
     NETS,
     ROWS,
+    FINE_ROWS,
     FINE_ROWS,
     NETS,
 ];
@@ -67,8 +69,9 @@ impl Pieces {
         Pieces {
             lots: vec![lot; lengths[0]],
             output: vec![7; lengths[1]],
-            sixteens: [2, 3, 4, 5, 6, 7, 9].map(|piece| vec![7_001; lengths[piece]]),
+            sixteens: [2, 3, 4, 5, 6, 7, 10].map(|piece| vec![7_001; lengths[piece]]),
             gains: vec![-7_000_001; lengths[8]],
+            index: vec![7_001; lengths[9]],
         }
     }
 
@@ -84,6 +87,7 @@ impl Pieces {
             presentsizes,
             counts,
             gains: &mut self.gains,
+            index: &mut self.index,
             visited,
         };
         match desk {
@@ -123,7 +127,7 @@ fn tables_of_the_superfine_desk_are_too_short_for_the_main_entry() {
     assert_eq!(pieces.run(Desk::Main, file.as_bytes()).code, 8);
     assert!(pieces == before);
     assert_eq!(pieces.run(Desk::Superfine, file.as_bytes()).code, 0);
-    for piece in [0, 8] {
+    for piece in [0, 8, 9] {
         let mut lengths = MAIN;
         lengths[piece] = FINE[piece];
         assert_short(Desk::Main, lengths);
@@ -155,8 +159,10 @@ fn a_sale_of_256_lots_and_8_sessions_through_both_entries() {
     let rest = Pieces::new(MAIN);
     assert!(main.lots[FINE_VERTICES..] == rest.lots[FINE_VERTICES..]);
     assert!(main.gains[FINE_ROWS..] == rest.gains[FINE_ROWS..]);
+    assert!(main.index[FINE_ROWS..] == rest.index[FINE_ROWS..]);
     main.lots.truncate(FINE_VERTICES);
     main.gains.truncate(FINE_ROWS);
+    main.index.truncate(FINE_ROWS);
     assert!(main == fine);
 }
 
