@@ -103,10 +103,13 @@ pub enum Kind {
     Kept,
     /// Bales not yet counted.
     Estimates,
+    /// Many sessions, most of them full, and gains that are often equal, so that the best pairs of W
+    /// and P are tied and the first of them have no space.
+    Crowded,
 }
 
 /// All kinds with the names that the program takes.
-pub const KINDS: [(&str, Kind); 24] = [
+pub const KINDS: [(&str, Kind); 25] = [
     ("mixed", Kind::Mixed),
     ("one-lot", Kind::OneLot),
     ("no-buyers", Kind::NoBuyers),
@@ -131,6 +134,7 @@ pub const KINDS: [(&str, Kind); 24] = [
     ("superfine", Kind::Superfine),
     ("kept", Kind::Kept),
     ("estimates", Kind::Estimates),
+    ("crowded", Kind::Crowded),
 ];
 
 /// An accepted sale of a kind that the seed settles; mostly a small one.
@@ -229,6 +233,7 @@ fn catalogue(random: &mut Random, kind: Kind) -> Catalogue {
         Kind::SixteenSessions => 16,
         Kind::Superfine => random.between(7, 9) as usize,
         Kind::Walks | Kind::Lopsided => random.between(2, 3) as usize,
+        Kind::Crowded => *random.pick(&[6, 8, 15, 16, 16]),
         _ if random.in_hundred(60) => random.between(2, 4) as usize,
         _ => random.between(2, 16) as usize,
     };
@@ -238,6 +243,7 @@ fn catalogue(random: &mut Random, kind: Kind) -> Catalogue {
         Kind::Superfine => *random.pick(&[20, 255, 256, 256, 257, 258]),
         Kind::SixteenSessions | Kind::Rounds => random.between(8, 70) as usize,
         Kind::Walks | Kind::Lopsided => random.between(5, 50) as usize,
+        Kind::Crowded => random.between(16, 50) as usize,
         _ if random.in_hundred(75) => random.between(1, 14) as usize,
         _ => random.between(10, 60) as usize,
     };
@@ -260,6 +266,7 @@ fn catalogue(random: &mut Random, kind: Kind) -> Catalogue {
             Kind::Tight => 0,
             Kind::HalfCaps => 500,
             Kind::Lopsided => 1_000,
+            Kind::Crowded => *random.pick(&[0, 0, 100, 300]),
             Kind::Walks | Kind::Rounds => random.between(100, 1_000),
             _ => *random.pick(&[0, 20, 100, 200, 500, 999, 1_000]),
         },
@@ -271,6 +278,9 @@ fn catalogue(random: &mut Random, kind: Kind) -> Catalogue {
     }
     if kind == Kind::Lopsided {
         fill_first_session(random, &mut made);
+    }
+    if kind == Kind::Crowded {
+        fill_by_turns(random, &mut made);
     }
     settle_draft(&mut made);
     match kind {
@@ -355,6 +365,23 @@ fn fill_first_session(random: &mut Random, made: &mut Catalogue) {
     }
 }
 
+/// Lots of 1 or 2 bales go to the first session with space, the sessions in random order, so that
+/// the last of them alone have some left.
+fn fill_by_turns(random: &mut Random, made: &mut Catalogue) {
+    for lot in &mut made.lots {
+        lot.count(random.between(1, 2));
+    }
+    let cap = measure::cap(made);
+    let order = random.some_lots(made.sessions, made.sessions);
+    let mut filled = vec![0; made.sessions + 1];
+    for lot in &mut made.lots {
+        let space = |session: &&usize| filled[**session] + lot.bales <= cap;
+        // Where two bales fit nowhere the draft is overfull, and is settled like others.
+        lot.session = *order.iter().find(space).unwrap_or(&order[0]);
+        filled[lot.session] += lot.bales;
+    }
+}
+
 /// Changes sessions, and bales if need be, until no session is above the cap.
 pub(crate) fn settle_draft(made: &mut Catalogue) {
     if !measure::overfull_draft(made) {
@@ -390,10 +417,14 @@ fn mark_lists(random: &mut Random, kind: Kind, lots: usize) -> Vec<Buyer> {
         Kind::Large => random.between(100, 400) as usize,
         Kind::Superfine => random.between(10, 120) as usize,
         Kind::Walks | Kind::Rounds | Kind::SixteenSessions => random.between(5, 60) as usize,
+        Kind::Crowded => random.between(8, 40) as usize,
         _ if random.in_hundred(80) => random.between(0, 15) as usize,
         _ => random.between(10, 60) as usize,
     };
-    let heaviest = *random.pick(&[1, 3, 10, 1_000]);
+    let heaviest = match kind {
+        Kind::Crowded => *random.pick(&[1, 2]),
+        _ => *random.pick(&[1, 3, 10, 1_000]),
+    };
     let whole = random.some_lots(lots, lots);
     let mut buyers = Vec::new();
     for place in 0..buyer_count {
@@ -489,6 +520,7 @@ fn calls_of_kind(random: &mut Random, catalogue: &Catalogue, kind: Kind) -> Vec<
         Kind::Kept => steered_calls(random, catalogue, 16, &[22, 14, 24, 4, 16, 6, 10, 4]),
         Kind::Estimates => steered_calls(random, catalogue, 16, &[12, 10, 28, 6, 18, 8, 12, 6]),
         Kind::Lopsided => steered_calls(random, catalogue, 10, &[20, 10, 20, 10, 35, 0, 5, 0]),
+        Kind::Crowded => steered_calls(random, catalogue, 12, &[18, 14, 22, 10, 26, 6, 4, 0]),
         Kind::Rounds => {
             let mut calls = steered_calls(random, catalogue, 4, &[0, 0, 50, 10, 20, 20, 0, 0]);
             calls.push(Call::A);

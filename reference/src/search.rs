@@ -18,15 +18,16 @@ pub struct Walk {
 }
 
 /// A lot, a session that is not its own and has space for it, and the gain of the move.
-struct Pair {
-    lot: usize,
-    session: usize,
-    gain: i64,
+#[derive(Clone, Copy, Debug, PartialEq, Eq)]
+pub struct Pair {
+    pub lot: usize,
+    pub session: usize,
+    pub gain: i64,
 }
 
-/// The pair with space of highest gain, then lowest lot, then lowest session. The lots come
-/// in rising order, so a later pair is taken only for a higher gain.
-fn best_pair(machine: &Machine, view: &View, lots: &[usize]) -> Option<Pair> {
+/// The pair with space of highest gain, then lowest lot, then lowest session, by looking at all of
+/// them. The lots come in rising order, so a later pair is taken only for a higher gain.
+pub fn best_pair(machine: &Machine, view: &View, lots: &[usize]) -> Option<Pair> {
     let mut best: Option<Pair> = None;
     for &lot in lots {
         for session in machine.catalogue.session_numbers() {

@@ -1,6 +1,7 @@
 //! What the lent tables hold in a state, entry by entry, worked out afresh.
 //! Rests on `machine` for the state and on `measure` for every entry.
 
+use std::cmp::Reverse;
 use std::collections::BTreeSet;
 
 use crate::machine::Machine;
@@ -25,8 +26,8 @@ pub struct BuyerRecord {
 }
 
 /// The entries in use of all lent tables. Vectors by lot or buyer start with number 1;
-/// vectors by session within them start with session 1. The order of marks in a present set
-/// is free, so these are sets.
+/// vectors by session within them start with session 1, and a lot's row of the index has as many
+/// places as there are sessions. The order of marks in a present set is free, so these are sets.
 #[derive(Clone, Debug, PartialEq, Eq)]
 pub struct Tables {
     pub lots: Vec<LotRecord>,
@@ -35,12 +36,25 @@ pub struct Tables {
     pub buyers: Vec<BuyerRecord>,
     pub counts: Vec<Vec<u64>>,
     pub gains: Vec<Vec<i64>>,
+    pub index: Vec<Vec<usize>>,
     pub visited: Vec<u64>,
 }
 
-/// The place of an entry in the lent tables of counts and gains.
+/// The place of an entry in the lent tables of counts and gains. A row of the index begins where
+/// the lot's row of gains does.
 pub fn entry(number: usize, session: usize) -> usize {
     16 * (number - 1) + session - 1
+}
+
+/// A board lot's row of the index, from the gains of its row: its other sessions in the order of
+/// choice, which is gain descending, then session ascending, and one 0 behind them.
+fn index_row(own_session: usize, gains: &[i64]) -> Vec<usize> {
+    let mut row: Vec<usize> = (1..=gains.len())
+        .filter(|&session| session != own_session)
+        .collect();
+    row.sort_by_key(|&session| (Reverse(gains[session - 1]), session));
+    row.push(0);
+    row
 }
 
 impl Tables {
@@ -93,7 +107,7 @@ impl Tables {
             })
             .collect();
 
-        let gains = catalogue
+        let gains: Vec<Vec<i64>> = catalogue
             .lot_numbers()
             .map(|lot| {
                 catalogue
@@ -106,6 +120,17 @@ impl Tables {
                         }
                     })
                     .collect()
+            })
+            .collect();
+
+        let index = catalogue
+            .lot_numbers()
+            .map(|lot| {
+                if standing.on_board(lot) {
+                    index_row(view.session(lot), &gains[lot - 1])
+                } else {
+                    vec![0; catalogue.sessions]
+                }
             })
             .collect();
 
@@ -126,6 +151,7 @@ impl Tables {
             buyers,
             counts,
             gains,
+            index,
             visited,
         }
     }

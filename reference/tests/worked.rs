@@ -114,6 +114,7 @@ fn tables_of_the_worked_sale_with_one_join() {
     assert_eq!(tables.buyers, [buyer(0, 2), buyer(2, 1), buyer(4, 2)]);
     assert_eq!(tables.counts, [[1, 1], [1, 0], [0, 2]]);
     assert_eq!(tables.gains, [[0, 3], [0, 0], [2, 0], [-1, 0], [0, 0]]);
+    assert_eq!(tables.index, [[2, 0], [2, 0], [1, 0], [1, 0], [0, 0]]);
     assert_eq!(tables.visited, [0b11, 0b01, 0b10]);
 }
 
