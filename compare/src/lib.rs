@@ -25,6 +25,7 @@ pub struct Memory {
     pub presentsizes: Vec<u16>,
     pub counts: Vec<u16>,
     pub gains: Vec<i32>,
+    pub index: Vec<u16>,
     pub visited: Vec<u16>,
 }
 
@@ -60,6 +61,7 @@ impl Memory {
             presentsizes: noise(random, NETS, short),
             counts: noise(random, ROWS, short),
             gains: noise(random, 16 * lots, |bits| bits as i32),
+            index: noise(random, 16 * lots, short),
             visited: noise(random, NETS, short),
         }
     }
@@ -74,6 +76,7 @@ impl Memory {
             presentsizes: &mut self.presentsizes,
             counts: &mut self.counts,
             gains: &mut self.gains,
+            index: &mut self.index,
             visited: &mut self.visited,
         };
         (&mut self.lots, lent)
@@ -183,6 +186,9 @@ impl Memory {
             for (j, &gain) in tables.gains[i].iter().enumerate() {
                 self.gains[entry(i + 1, j + 1)] = gain as i32;
             }
+            for (j, &session) in tables.index[i].iter().enumerate() {
+                self.index[entry(i + 1, 1) + j] = session as u16;
+            }
         }
         for (i, &mark) in tables.loaded_marks.iter().enumerate() {
             self.loadedpins[i] = mark as u16;
@@ -227,6 +233,7 @@ impl Memory {
             ("presentsizes", self.presentsizes == other.presentsizes),
             ("counts", self.counts == other.counts),
             ("gains", self.gains == other.gains),
+            ("index", self.index == other.index),
             ("visited", self.visited == other.visited),
         ];
         match tables.iter().find(|(_, same)| !same) {
@@ -308,7 +315,7 @@ fn calls_of(list: &[u32]) -> Result<Vec<Call>, u32> {
 }
 
 /// A call as three numbers, the letter's byte and two; those that the call does not have are `spare`.
-fn numbers_of(call: &Call, mut spare: impl FnMut() -> u64) -> [u32; 3] {
+pub fn numbers_of(call: &Call, mut spare: impl FnMut() -> u64) -> [u32; 3] {
     let (letter, x, y) = match *call {
         Call::J { u, v } => (b'J', u, v),
         Call::S => (b'S', spare(), spare()),

@@ -4,12 +4,13 @@
 //! number, gives other sales than the usual ones.
 
 use compare::{
-    compare, compare_fine, compare_list, random_bytes, random_list, sales_on_file, Memory,
+    compare, compare_fine, compare_list, numbers_of, random_bytes, random_list, sales_on_file,
+    Memory,
 };
 use kapokdrill::lent::{Outcome, Record, Stack, NETS, OUTPUT, PINS, ROWS, VERTICES};
 use reference::catalogue::{Buyer, Lot};
 use reference::generator::{calls, damaged, sale, sale_of_kind, write_sale, Kind, Random};
-use reference::{Catalogue, Limits, Sale};
+use reference::{parse, Catalogue, Limits, Sale};
 use std::fs::File;
 use std::process::Command;
 
@@ -111,6 +112,16 @@ fn the_superfine_entry_agrees() {
 }
 
 #[test]
+fn crowded_sales_agree() {
+    let crowded = |seed| sale_of_kind(seed, Kind::Crowded);
+    let returns = all_agree("crowded", 400, crowded);
+    assert_eq!(returns[0], 400);
+    // of the sales with 6 and 8 sessions the superfine desk has the index too
+    let returns = all_agree_by(compare_fine, "crowded, superfine", 400, crowded);
+    assert!(returns[0] > 100 && returns[3] > 100);
+}
+
+#[test]
 fn large_sales_agree() {
     let returns = all_agree("large", 12, |seed| sale_of_kind(seed, Kind::Large));
     assert_eq!(returns[0], 12);
@@ -176,6 +187,26 @@ fn lists_apart_from_their_catalogue_agree() {
 }
 
 #[test]
+fn tables_after_each_call_of_a_list_agree() {
+    let first = seed() * 1_000_000;
+    for seed in first..first + 150 {
+        let file = match seed % 3 {
+            0 => sale(seed),
+            _ => sale_of_kind(seed, Kind::Crowded),
+        };
+        let catalogue = parse(&file).expect("a generated sale").catalogue;
+        let list: Vec<u32> = calls(seed, &catalogue, 12)
+            .iter()
+            .flat_map(|call| numbers_of(call, || 0))
+            .collect();
+        for count in 0..=12 {
+            let found = compare_list(&file, &list[..3 * count], &mut Random::new(seed));
+            assert_eq!(found, Ok(0), "seed {seed}, {count} calls");
+        }
+    }
+}
+
+#[test]
 fn stretches_of_pins_agree_in_short_and_odd_tables() {
     let mut random = Random::new(seed());
     for _ in 0..2_000 {
@@ -210,7 +241,7 @@ type Cut = (usize, fn(&mut Memory, usize));
 
 #[test]
 fn short_memory_is_told_first_and_nothing_is_touched() {
-    let cuts: [Cut; 10] = [
+    let cuts: [Cut; 11] = [
         (VERTICES, |memory, length| memory.lots.truncate(length)),
         (OUTPUT, |memory, length| memory.output.truncate(length)),
         (PINS, |memory, length| memory.loadedpins.truncate(length)),
@@ -220,6 +251,7 @@ fn short_memory_is_told_first_and_nothing_is_touched() {
         (NETS, |memory, length| memory.presentsizes.truncate(length)),
         (ROWS, |memory, length| memory.counts.truncate(length)),
         (ROWS, |memory, length| memory.gains.truncate(length)),
+        (ROWS, |memory, length| memory.index.truncate(length)),
         (NETS, |memory, length| memory.visited.truncate(length)),
     ];
     let accepted: &[u8] = b"SALE,1,0,2,1000\nLOT,7,1\n";
@@ -244,10 +276,11 @@ fn short_memory_is_told_first_and_nothing_is_touched() {
             }
         }
     }
-    let fine: [Cut; 3] = [
+    let fine: [Cut; 4] = [
         (256, |memory, length| memory.lots.truncate(length)),
         (ROWS, |memory, length| memory.counts.truncate(length)),
         (4_096, |memory, length| memory.gains.truncate(length)),
+        (4_096, |memory, length| memory.index.truncate(length)),
     ];
     for (length, cut) in fine {
         for short in [length - 1, 0] {
