@@ -132,14 +132,26 @@ not-better-four gains rooms row low weight own b {s = s} {t} {p₀} {p₁} {p₂
     go (suc (suc (suc zero))) k q = rw q (h₃ (high-two .1))
     go (suc (suc (suc (suc d)))) k q = absurd (omega arith)
 
--- four blocks more
-pub not-better-more : (gains : List ℤ) (rooms : List ℕ) (row b weight own : ℕ) (low : ℤ) → ((j : ℕ) → j < b → NotBetter gains rooms row low weight own j) → ((j : ℕ) → b ≤ j → j < b + 4 → NotBetter gains rooms row low weight own j)
-    → (j : ℕ) → j < b + 4 → NotBetter gains rooms row low weight own j
-not-better-more gains rooms row b weight own low f g j l = go (decLt j b)
+-- the tests of all sixteen
+pub not-better-all : (gains : List ℤ) (rooms : List ℕ) (row : ℕ) (low : ℤ) (weight own : ℕ) {r s t p₀ p₁ p₂ p₃ : Bool} → (p₀ ≡ false → (j : ℕ) → 0 ≤ j → j < 4 → NotBetter gains rooms row low weight own j)
+    → (p₁ ≡ false → (j : ℕ) → 4 ≤ j → j < 8 → NotBetter gains rooms row low weight own j) → (p₂ ≡ false → (j : ℕ) → 8 ≤ j → j < 12 → NotBetter gains rooms row low weight own j)
+    → (p₃ ≡ false → (j : ℕ) → 12 ≤ j → j < 16 → NotBetter gains rooms row low weight own j) → s ≡ (p₀ || p₁) → t ≡ (p₂ || p₃) → r ≡ (s || t) → r ≡ false → (j : ℕ) → j < 16 → NotBetter gains rooms row low weight own j
+not-better-all gains rooms row low weight own {s = s} {t} {p₀} {p₁} {p₂} {p₃} h₀ h₁ h₂ h₃ es et er e j u = go (decLt j 4) (decLt j 8) (decLt j 12)
   where
-    go : Dec (j < b) → NotBetter gains rooms row low weight own j
-    go (yes q) = f j q
-    go (no q) = g j (omega arith) l
+    halves : (s ≡ false) × (t ≡ false)
+    halves = or-none s t (sym er ∙ e)
+
+    low-two : (p₀ ≡ false) × (p₁ ≡ false)
+    low-two = or-none p₀ p₁ (sym es ∙ halves .0)
+
+    high-two : (p₂ ≡ false) × (p₃ ≡ false)
+    high-two = or-none p₂ p₃ (sym et ∙ halves .1)
+
+    go : Dec (j < 4) → Dec (j < 8) → Dec (j < 12) → NotBetter gains rooms row low weight own j
+    go (yes a) _ _ = h₀ (low-two .0) j (omega arith) a
+    go (no a) (yes b) _ = h₁ (low-two .1) j (omega arith) b
+    go (no a) (no b) (yes d) = h₂ (high-two .0) j (omega arith) d
+    go (no a) (no b) (no d) = h₃ (high-two .1) j (omega arith) u
 
 -- ---- the vertices of one part
 
@@ -168,7 +180,7 @@ module _ (gains : List ℤ) (blocks weights rooms : List ℕ) (word first size k
       go i a b c e (no q) (no d) = absurd (omega (arith, n .passed i (omega arith) b))
 
 -- bit j of word c is the candidate at place 64 * c + j
-part-bit : (candidates : List ℕ) (c j : ℕ) → j < 64 → on candidates 0 (64 * c + j) ≡ bit (getD candidates c 0) j
+pub part-bit : (candidates : List ℕ) (c j : ℕ) → j < 64 → on candidates 0 (64 * c + j) ≡ bit (getD candidates c 0) j
 part-bit candidates c j l =
     let at-c : 16 * 0 + (64 * c + j) / 64 ≡ c = omega arith in
     let at-j : (64 * c + j) % 64 ≡ j = omega arith in
@@ -179,7 +191,12 @@ module _ (candidates blocks weights loads ceilings rooms : List ℕ) (gains : Li
   abbrev bestBefore : ℕ → Best
   bestBefore i = bestTo (openIn candidates blocks weights loads ceilings) (gainIn gains) k i
 
-  -- the part has been searched up to bit j, which is a candidate or past the part
+  -- the vertices of the part before bit `from` have been searched
+  pub record Searched (lead₀ lead : Lead) (from : ℕ) : Type 0 where
+    pub high : from ≤ 65
+    pub leads : Leads lead₀ (bestBefore (64 * c)) → Leads lead (bestBefore (lesser (64 * c + from) (64 * c + size)))
+
+  -- and bit j is a candidate or past the part
   pub record Among (lead₀ lead : Lead) (j : ℕ) : Type 0 where
     pub high : j ≤ 64
     pub found : j < size → on candidates 0 (64 * c + j) ≡ 1
@@ -207,27 +224,38 @@ module _ (candidates blocks weights loads ceilings rooms : List ℕ) (gains : Li
             )
 
     -- `top` and `low′` are the two gains read back from their bits
-    module _ (lead₀ lead : Lead) (r : ℕ) {top low low′ : ℤ} (et : top ≡ lead .top) (el : low′ ≡ low) (least : Least top low) where
-      among : (from : ℕ) → from ≤ size → Passed gains blocks weights rooms (getD candidates c 0) (64 * c) size k low′ from r → (Leads lead₀ (bestBefore (64 * c)) → Leads lead (bestBefore (64 * c + from))) → Among lead₀ lead r
-      among from le p g = record {
-        high = p .high;
-        found = λ l. part-bit candidates c r (omega arith) ∙ p .found l;
-        leads = λ q. passed-leads low′ from r lead le (rw (el, ← et) least) p (g q);
+    pub among : (lead₀ lead : Lead) (from r : ℕ) {top low low′ : ℤ} → top ≡ lead .top → low′ ≡ low → Least top low → from < size → Searched lead₀ lead from
+        → Passed gains blocks weights rooms (getD candidates c 0) (64 * c) size k low′ from r → Among lead₀ lead r
+    among lead₀ lead from r {low′ = low′} et el least l s p = record {
+      high = p .high;
+      found = λ u. part-bit candidates c r (omega arith) ∙ p .found u;
+      leads = λ q. let e : lesser (64 * c + from) (64 * c + size) ≡ 64 * c + from = omega arith in
+          passed-leads low′ from r lead (omega arith) (rw (el, ← et) least) p (subst (λ (i : ℕ). Leads lead (bestBefore i)) e (s .leads q));
+    }
+
+  pub searched-none : (lead : Lead) → Searched lead lead 0
+  searched-none lead = let e : lesser (64 * c + 0) (64 * c + size) ≡ 64 * c = omega arith in record { high = omega arith; leads = λ q. rw e q }
+
+  -- the candidate found has been weighed
+  pub searched-more : (lead₀ old lead : Lead) (j : ℕ) → j < size → Among lead₀ old j
+      → ((b : Best) → Leads old b → Leads lead (bestInRow (gainIn gains) (λ b. mayGo (getD loads (b - 1) 0) (getD blocks (64 * c + j) 0) (getD weights (64 * c + j) 0) (getD ceilings (b - 1) 0) b) (64 * c + j + 1) k b))
+      → Searched lead₀ lead (j + 1)
+  searched-more lead₀ old lead j l a w =
+      let e : lesser (64 * c + j) (64 * c + size) ≡ 64 * c + j = omega arith in
+      let d : 64 * c + j + 1 ≡ lesser (64 * c + (j + 1)) (64 * c + size) = omega arith in
+      record {
+        high = omega (arith, a .high);
+        leads = λ q. subst (λ (i : ℕ). Leads lead (bestBefore i)) d
+            (subst (Leads lead) (candidate-more candidates blocks weights loads ceilings (gainIn gains) size k (64 * c + j) (a .found l)) (w _ (subst (λ (i : ℕ). Leads old (bestBefore i)) e (a .leads q))));
       }
 
-      pub among-begins : lead₀ ≡ lead → Passed gains blocks weights rooms (getD candidates c 0) (64 * c) size k low′ 0 r → Among lead₀ lead r
-      among-begins e p = let z : 64 * c + 0 ≡ 64 * c = omega arith in among 0 (omega arith) p (λ q. rw (z, ← e) q)
+  -- no candidate was found
+  pub searched-past : (lead₀ lead : Lead) (j : ℕ) → size ≤ j → Among lead₀ lead j → Searched lead₀ lead (j + 1)
+  searched-past lead₀ lead j l a =
+      let e : lesser (64 * c + j) (64 * c + size) ≡ lesser (64 * c + (j + 1)) (64 * c + size) = omega arith in
+      record { high = omega (arith, a .high); leads = λ q. subst (λ (i : ℕ). Leads lead (bestBefore i)) e (a .leads q) }
 
-      pub among-more : (old : Lead) (j : ℕ) → j < size → Among lead₀ old j
-          → ((b : Best) → Leads old b → Leads lead (bestInRow (gainIn gains) (λ b. mayGo (getD loads (b - 1) 0) (getD blocks (64 * c + j) 0) (getD weights (64 * c + j) 0) (getD ceilings (b - 1) 0) b) (64 * c + j + 1) k b))
-          → Passed gains blocks weights rooms (getD candidates c 0) (64 * c) size k low′ (j + 1) r → Among lead₀ lead r
-      among-more old j l a w p =
-          let e : lesser (64 * c + j) (64 * c + size) ≡ 64 * c + j = omega arith in
-          let d : 64 * c + j + 1 ≡ 64 * c + (j + 1) = omega arith in
-          among (j + 1) (omega arith) p (λ q. subst (λ (i : ℕ). Leads lead (bestBefore i)) d
-          (subst (Leads lead) (candidate-more candidates blocks weights loads ceilings (gainIn gains) size k (64 * c + j) (a .found l)) (w _ (subst (λ (i : ℕ). Leads old (bestBefore i)) e (a .leads q)))))
-
-  pub among-ends : (lead₀ lead : Lead) (j : ℕ) → size ≤ j → Among lead₀ lead j → Leads lead₀ (bestBefore (64 * c)) → Leads lead (bestBefore (64 * c + size))
-  among-ends lead₀ lead j l a q =
-      let e : lesser (64 * c + j) (64 * c + size) ≡ 64 * c + size = omega arith in
-      subst (λ (i : ℕ). Leads lead (bestBefore i)) e (a .leads q)
+  pub searched-ends : (lead₀ lead : Lead) (from : ℕ) → size ≤ from → Searched lead₀ lead from → Leads lead₀ (bestBefore (64 * c)) → Leads lead (bestBefore (64 * c + size))
+  searched-ends lead₀ lead from l s q =
+      let e : lesser (64 * c + from) (64 * c + size) ≡ 64 * c + size = omega arith in
+      subst (λ (i : ℕ). Leads lead (bestBefore i)) e (s .leads q)

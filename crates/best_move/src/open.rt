@@ -195,42 +195,34 @@ fn best_among(
     let first = 64 * c;
     let word = candidates[c];
     let mut best = before;
-    let mut j = next_rising(
-        gains,
-        blocks,
-        weights,
-        rooms,
-        word,
-        first,
-        0,
-        size,
-        k,
-        least_better(best.top),
-    );
-    while j < size {
-        best = best_with(
-            gains,
-            index,
-            blocks,
-            weights,
-            loads,
-            ceilings,
-            first + j,
-            k,
-            best,
-        );
-        j = next_rising(
+    let mut from: usize = 0;
+    while from < size {
+        let j = next_rising(
             gains,
             blocks,
             weights,
             rooms,
             word,
             first,
-            j + 1,
+            from,
             size,
             k,
             least_better(best.top),
         );
+        if j < size {
+            best = best_with(
+                gains,
+                index,
+                blocks,
+                weights,
+                loads,
+                ceilings,
+                first + j,
+                k,
+                best,
+            );
+        }
+        from = j + 1;
     }
     best
 }

@@ -1,5 +1,5 @@
 // Which candidates may have a pair better than the best one so far. Most have none, and most of a search's time goes into telling that: so
-// four gains are tested at a time, with no branch between them, and only a candidate that passes is weighed. Vertices and blocks count from 0,
+// four gains are tested at a time, or all 16, with no branch between them, and only a candidate that passes is weighed. Vertices and blocks count from 0,
 // a vertex's own block from 1.
 use crate::numbers::both;
 use crate::numbers::either;
@@ -91,6 +91,24 @@ fn four_rise(
     )
 }
 
+// The same of one of all 16 blocks, with no branch between them: which of them is the first to pass can't be predicted. Places past the last
+// block may pass too; then the row is opened for nothing.
+fn any_rises(gains: &[i32], rooms: &[u32; 16], row: usize, low: i32, weight: u32, own: u32) -> bool
+    requires { ⌜ row + 16 ≤ length (now gains) ⌝ }
+    ensures { λ r. ⌜ (r ≡ false → (j : ℕ) → j < 16 → NotBetter (now (gains .entry)) (now (rooms .entry)) row low weight own j) ⌝ }
+{
+    either(
+        either(
+            four_rise(gains, rooms, row, 0, low, weight, own),
+            four_rise(gains, rooms, row, 4, low, weight, own),
+        ),
+        either(
+            four_rise(gains, rooms, row, 8, low, weight, own),
+            four_rise(gains, rooms, row, 12, low, weight, own),
+        ),
+    )
+}
+
 // The same of one of the `k` blocks.
 fn rises(
     gains: &[i32],
@@ -104,14 +122,10 @@ fn rises(
     requires { ⌜ (row + 16 ≤ length (now gains)) × (k ≤ 16) ⌝ }
     ensures { λ r. ⌜ (r ≡ false → (j : ℕ) → j < k → NotBetter (now (gains .entry)) (now (rooms .entry)) row low weight own j) ⌝ }
 {
-    let mut b: usize = 0;
-    while b < k {
-        if four_rise(gains, rooms, row, b, low, weight, own) {
-            return true;
-        }
-        b += 4;
+    if k <= 4 {
+        return four_rise(gains, rooms, row, 0, low, weight, own);
     }
-    false
+    any_rises(gains, rooms, row, low, weight, own)
 }
 
 // The first set bit of `word` from bit `from` on whose vertex may have a better pair; `size` or more where there is none. Bit j stands for the

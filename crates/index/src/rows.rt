@@ -6,7 +6,7 @@ use crate::rank::rank_row;
 use crate::sort::settle;
 ghost use mathlib.Core.Path.{_≡_};
 ghost use mathlib.Core.Bool.{true};
-ghost use Prim.Native.Nat.{_+_, _*_, _≤_, _<_};
+ghost use Prim.Native.Nat.{_+_, _≤_, _<_};
 ghost use lib.ListN.{length, getD};
 ghost use Rattle.index.specs.Row.{Holds, Written, RowsOk};
 ghost use Rattle.index.specs.Indexed.{rowFor, TablesOk, RightBetween, Indexed};

@@ -16,7 +16,7 @@ use Rattle.laws.specs.Choice.{one}
 use Rattle.laws.specs.Place.{place}
 use Rattle.laws.specs.Integer.{eq-by}
 use Rattle.model.specs.Catalogue.{Hypergraph}
-use Rattle.model.specs.Measure.{Contraction, above}
+use Rattle.model.specs.Measure.{Contraction}
 use Rattle.guarantees.specs.Ranks.{ranked-ext}
 use Rattle.incidence.specs.On.{on}
 use Rattle.index.specs.Row.{gainAt, Holds, rowAt}

@@ -10,7 +10,7 @@ use lib.IntN.{ℤ}
 use Rattle.model.specs.Catalogue.{Hypergraph}
 use Rattle.model.specs.Measure.{Contraction}
 use Rattle.incidence.specs.On.{on, Next}
-use Rattle.connectivity.specs.Listed.{has, has-in, vertexAt}
+use Rattle.connectivity.specs.Listed.{has-in, vertexAt}
 use Rattle.best_move.specs.Peak.{Under, Higher}
 use Rattle.operations.specs.Tables.{Tables, Sound}
 use Rattle.operations.specs.Move.{Open, own-block, on-board, in-range}

@@ -1,5 +1,4 @@
 use borrow.Author.Needs.{needs}
-use native.Mathlib.Omega.{arith}
 use Rattle.call_list.specs.Course.{answer-room}
 use Rattle.call_list.proofs.step.Statement.{statement}
 use Rattle.call_list.proofs.step.Tie as tie

@@ -1,5 +1,4 @@
 use borrow.Author.Needs.{needs}
-use denote.Ref.{now}
 use mathlib.Core.Path.{refl}
 use Rattle.any_call.specs.Kinds.{is-M, is-B, is-W, is-P, called-as}
 use Rattle.any_call.proofs.performing.moving.Statement.{statement}

@@ -1,7 +1,7 @@
 -- `in_order`: the first j places hold other blocks in order, and `last` is the number of the last of them.
 use native.Mathlib.Omega.{arith}
 use mathlib.Core.Path.{_≡_, sym, _∙_, ap}
-use Prim.Native.Nat.{_-_, _≤_, _<_}
+use Prim.Native.Nat.{_-_, _<_}
 use mathlib.Core.Path.{subst}
 use mathlib.Core.Bool.{true≢false}
 use borrow.Author.Tests.{not-false, eqb-true}
@@ -11,11 +11,6 @@ use denote.Ref.{now}
 use borrow.Author.Needs.{needs}
 use Rattle.index.proofs.order.in_order.Statement.{statement}
 use Rattle.index.proofs.order.in_order.Tie as tie
-use Rattle.index.proofs.order.in_order.Reads as reads
-use Rattle.index.proofs.order.in_order.Lts as lts
-use Rattle.index.proofs.keys.key_of.Reads as key-of-reads
-use Rattle.index.proofs.numbers.wide.Reads as wide-reads
-use Rattle.index.proofs.order.is_other.Reads as is-other-reads
 
 abbrev Inv-loop : tie.InvT-loop
 Inv-loop index gains x own k row last₀ j₀ last j = (j < k) × OrderedTo (gainAt gains x) own k index x j × Last (gainAt gains x) own k index x j last

@@ -1,14 +1,10 @@
 -- `is_other`: the three tests.
 use native.Mathlib.Omega.{arith}
-use mathlib.Core.Path.{_≡_, sym, _∙_, ap}
-use denote.Ref.{now}
+use mathlib.Core.Path.{sym}
 use mathlib.Core.Bool.{true≢false}
 use borrow.Author.Tests.{eqb-false, not-true}
-use borrow.Author.Needs.{needs}
 use Rattle.index.proofs.order.is_other.Statement.{statement}
 use Rattle.index.proofs.order.is_other.Tie as tie
-use Rattle.index.proofs.order.is_other.Reads as reads
-use Rattle.index.proofs.order.is_other.Lts as lts
 
 returns : tie.Need-returns
 returns c = λ e. absurd (true≢false (sym e))

@@ -1,6 +1,6 @@
 -- `is_right`: on the board, and in order.
 use native.Mathlib.Omega.{arith}
-use mathlib.Core.Path.{_≡_, sym, _∙_, ap}
+use mathlib.Core.Path.{sym, _∙_, ap}
 use mathlib.Core.Bool.{true≢false}
 use lib.ListN.{getD}
 use Rattle.index.specs.Indexed.{row-on}
@@ -8,10 +8,6 @@ use denote.Ref.{now}
 use borrow.Author.Needs.{needs}
 use Rattle.index.proofs.rows.is_right.Statement.{statement}
 use Rattle.index.proofs.rows.is_right.Tie as tie
-use Rattle.index.proofs.rows.is_right.Reads as reads
-use Rattle.index.proofs.rows.is_right.Lts as lts
-use Rattle.index.proofs.numbers.wide.Reads as wide-reads
-use Rattle.index.proofs.order.in_order.Reads as in-order-reads
 
 mul-wide : tie.Need-mul-wide
 mul-wide c = search needs

@@ -1,16 +1,10 @@
 -- `next_wrong`: the rows from `from` on and before x are right.
 use native.Mathlib.Omega.{arith}
-use mathlib.Core.Path.{_≡_, sym, _∙_, ap}
 use Prim.Native.Nat.{_-_}
 use borrow.Author.Tests.{not-false}
 use Rattle.index.specs.Indexed.{RightBetween, between-none, between-more}
-use denote.Ref.{now}
-use borrow.Author.Needs.{needs}
 use Rattle.index.proofs.rows.next_wrong.Statement.{statement}
 use Rattle.index.proofs.rows.next_wrong.Tie as tie
-use Rattle.index.proofs.rows.next_wrong.Reads as reads
-use Rattle.index.proofs.rows.next_wrong.Lts as lts
-use Rattle.index.proofs.rows.is_right.Reads as is-right-reads
 
 abbrev Inv-loop : tie.InvT-loop
 Inv-loop index gains blocks from n k x₀ x = RightBetween gains blocks k index from x

@@ -1,16 +1,11 @@
 -- `put_all_right`: the rows of the vertices below x are right.
 use native.Mathlib.Omega.{arith}
-use mathlib.Core.Path.{_≡_, sym, _∙_, ap}
 use Prim.Native.Nat.{_+_, _-_}
 use Rattle.index.specs.Indexed.{RightTo, right-none, right-more, right-on, right-all}
 use denote.Ref.{now}
 use borrow.Author.Needs.{needs}
 use Rattle.index.proofs.rows.put_all_right.Statement.{statement}
 use Rattle.index.proofs.rows.put_all_right.Tie as tie
-use Rattle.index.proofs.rows.put_all_right.Reads as reads
-use Rattle.index.proofs.rows.put_all_right.Lts as lts
-use Rattle.index.proofs.rows.next_wrong.Reads as next-wrong-reads
-use Rattle.index.proofs.rows.set_row.Reads as set-row-reads
 
 abbrev Inv-loop : tie.InvT-loop
 Inv-loop index₀ gains blocks n k x₀ index x = RightTo gains blocks n k index₀ index x
@@ -35,8 +30,10 @@ add-next-wrong c = omega arith
 
 next-wrong-requires-2 : tie.Need-next-wrong-requires-2 Inv-loop μ-loop
 next-wrong-requires-2 c κs =
-    let s = c .before .before .before .before .before .before .before .before .before .before .before in
-    record { n-to = s .pre .n-to; k-to = s .pre .k-to; in-index = omega (arith, c .before .before .before .set-row .ensures .len, c .before .before .before .before .before .before .loop .inv .kept .len, s .pre .in-index); in-gains = s .pre .in-gains; in-blocks = s .pre .in-blocks; blocks-to = s .pre .blocks-to }
+    let at-set-row = c .before .before .before in
+    let at-loop = at-set-row .before .before .before in
+    let s = at-loop .before .before .before .before .before in
+    record { n-to = s .pre .n-to; k-to = s .pre .k-to; in-index = omega (arith, at-set-row .set-row .ensures .len, at-loop .loop .inv .kept .len, s .pre .in-index); in-gains = s .pre .in-gains; in-blocks = s .pre .in-blocks; blocks-to = s .pre .blocks-to }
 
 loop-less : tie.Need-loop-less Inv-loop μ-loop
 loop-less c = omega (arith, c .next-wrong2 .ensures .ahead)

@@ -1,15 +1,8 @@
 -- `put_right`: nothing to do, or a row set.
-use native.Mathlib.Omega.{arith}
-use mathlib.Core.Path.{_≡_, sym, _∙_, ap}
 use Rattle.index.specs.Row.{rewritten-none}
-use denote.Ref.{now}
 use borrow.Author.Needs.{needs}
 use Rattle.index.proofs.rows.put_right.Statement.{statement}
 use Rattle.index.proofs.rows.put_right.Tie as tie
-use Rattle.index.proofs.rows.put_right.Reads as reads
-use Rattle.index.proofs.rows.put_right.Lts as lts
-use Rattle.index.proofs.rows.is_right.Reads as is-right-reads
-use Rattle.index.proofs.rows.set_row.Reads as set-row-reads
 
 is-right-requires : tie.Need-is-right-requires
 is-right-requires c κs = search needs

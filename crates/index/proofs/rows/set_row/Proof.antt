@@ -1,6 +1,6 @@
 -- `set_row`: off the board, on it and put in order, or ranked anew.
 use native.Mathlib.Omega.{arith}
-use mathlib.Core.Path.{_≡_, sym, _∙_, ap}
+use mathlib.Core.Path.{sym, _∙_}
 use Rattle.guarantees.specs.Ranked.{rankedBy}
 use Rattle.index.specs.Row.{gainAt, touched-holds, rewritten-then, written-as}
 use Rattle.index.specs.Indexed.{row-off, row-on}
@@ -8,12 +8,6 @@ use denote.Ref.{now}
 use borrow.Author.Needs.{needs}
 use Rattle.index.proofs.rows.set_row.Statement.{statement}
 use Rattle.index.proofs.rows.set_row.Tie as tie
-use Rattle.index.proofs.rows.set_row.Reads as reads
-use Rattle.index.proofs.rows.set_row.Lts as lts
-use Rattle.index.proofs.numbers.wide.Reads as wide-reads
-use Rattle.index.proofs.rank.clear_row.Reads as clear-row-reads
-use Rattle.index.proofs.rank.rank_row.Reads as rank-row-reads
-use Rattle.index.proofs.sort.settle.Reads as settle-reads
 
 mul-wide : tie.Need-mul-wide
 mul-wide c = search needs
@@ -65,9 +59,11 @@ same-length-3 c =
 
 returns-3 : tie.Need-returns-3
 returns-3 c =
-    let a = c .before .before .before .before .before .before .before .before .before .before .before .before .before .before .args in
-    written-as (sym (row-on (now (a .gains)) (now (a .blocks)) (a .k) (a .x) _ (c .before .before .before .before .before .before .before .before .before .before .wide .ensures) (c .before .before .before .before .before .before .before .before .before .if1 .left)))
-    (rewritten-then (c .before .before .before .before .before .before .before .settle .ensures .touched) (c .before .before .rank-row .ensures))
+    let at-settle = c .before .before .before .before .before .before .before in
+    let at-if1 = at-settle .before .before in
+    let a = at-if1 .before .before .before .before .before .args in
+    written-as (sym (row-on (now (a .gains)) (now (a .blocks)) (a .k) (a .x) _ (at-if1 .before .wide .ensures) (at-if1 .if1 .left)))
+    (rewritten-then (at-settle .settle .ensures .touched) (c .before .before .rank-row .ensures))
 
 pub set-row-spec : {M : Type 1} → statement M
 set-row-spec =
