@@ -26,7 +26,7 @@ use Rattle.operations.specs.Move.{back, Open, own-block, own-weight, in-range}
 use Rattle.index.specs.Indexed.{TablesOk}
 use Rattle.best_move.specs.Open.{SearchOk, IndexOk, mayGo, roomFor, isCandidate, openIn}
 use Rattle.best_move.specs.OpenLink.{Holds}
-use Rattle.search_moves.specs.Marks.{candidateBit, NetsOk, near, near-yes, near-no}
+use Rattle.search_moves.specs.Marks.{candidateBit, PinsOk, NetsOk, near, near-yes, near-no}
 
 module _ {h : Hypergraph} {cs : List Contraction} {block : ℕ → ℕ} {T : Tables} (s : Sound h cs block T) where
   -- ---- pins
@@ -63,16 +63,19 @@ module _ {h : Hypergraph} {cs : List Contraction} {block : ℕ → ℕ} {T : Tab
   unfolding adjacent
   near-on u x q = let w = any-at (h .nets) noNet (λ e. pin cs e u && pin cs e x) q in pin-on (w .0) x (and-right (pin cs (netAt h (w .0)) u) (pin cs (netAt h (w .0)) x) (w .2))
 
+  pub pins-ok : (e : ℕ) → e < T .m → PinsOk (T .pins) (getD (T .firsts) e 0) (getD (T .sizes) e 0)
+  pins-ok e le = record {
+    fit = s .follows .world .lists .nets e le .pins-fit;
+    vertices = λ j lj. let r = s .follows .world .lists .nets e le .in-range j lj in (r .0, omega (arith, r .1, s .follows .room .few-vertices));
+  }
+
   pub nets-ok : (u : ℕ) → u < T .n → NetsOk (T .bits) (T .pins) (T .firsts) (T .sizes) (T .m) u
   nets-ok u lu = record {
     bits-fit = omega (arith, s .follows .room .bits-fit);
     few = s .follows .room .few-nets;
     firsts-fit = s .follows .room .firsts-fit;
     sizes-fit = s .follows .room .sizes-fit;
-    nets = λ e le. record {
-      fit = s .follows .world .lists .nets e le .pins-fit;
-      vertices = λ j lj. let r = s .follows .world .lists .nets e le .in-range j lj in (r .0, omega (arith, r .1, s .follows .room .few-vertices));
-    };
+    nets = pins-ok;
   }
 
   -- ---- the best open pair

@@ -1,3 +1,5 @@
-// A move of a search: the candidates that it marks, and the peaks that it raises, so that they are still above all gains.
+// A move of a search: the candidates that it marks, the rows of nets by which it marks large ones, and the peaks that it raises, so that they are
+// still above all gains.
 pub mod marks;
 pub mod peaks;
+pub mod rows;
