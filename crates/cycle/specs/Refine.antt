@@ -1,6 +1,7 @@
 -- A's way back on sound tables: contractions are undone, the last one first, each with a walk from the parted pair. What one of them and the
 -- loop of them ask and do, with the laws that the proofs of the code cite. No fixed vertex left the board by them, so that the marks of who is
--- fixed hold all along. Rests on operations's Join, walk's Steps and guarantees' Fixed. Assumes nothing.
+-- fixed hold all along, and the rows of the nets are made right after each undo. Rests on operations's Join, search_moves's Parted, walk's Steps and
+-- guarantees' Fixed. Assumes nothing.
 use Prim.Native.Nat.{ℕ, _+_, _-_, _<_, _≤_}
 use native.Mathlib.Omega.{arith}
 use mathlib.Core.Path.{_≡_, refl, sym, ap, ap₂, _∙_, subst}
@@ -24,6 +25,8 @@ use Rattle.operations.specs.Tables.{Tables, Sound, Keeps}
 use Rattle.operations.specs.Move.{own-block, in-range}
 use Rattle.operations.specs.Join.{Split}
 use Rattle.operations.specs.Keeping.{keeps-none, keeps-more}
+use Rattle.search_moves.specs.Rows.{RowsAre}
+use Rattle.search_moves.specs.Parted.{PartedTo, PartRowsOk, part-rows-ok, rows-parted}
 use Rattle.walk.specs.Steps.{WalkOk, Walks, Ended}
 
 -- ---- one of them
@@ -69,6 +72,17 @@ parts {u = u} {v = v} qn qm qk qf ql p w = record {
   is = λ h ceiling cs block q f s. w .is h ceiling cs (uncontract block (join u v)) q f (p .sound h cs block s);
   keeps = keeps-more qn qm qk qf ql (p .keeps) (w .keeps);
 }
+
+-- the rows of the nets, made right after the undo
+module _ {T T′ : Tables} {fixedmarks rows : List ℕ} {u v : ℕ} (qn : T′ .n ≡ T .n) (qm : T′ .m ≡ T .m) (o : PartOk T fixedmarks u v) (p : Split T T′ u v) (r : RowsAre rows (T .pins) (T .firsts) (T .sizes) (T .m)) where
+  undone : Sound (o .h) (o .cs) (uncontract (o .block) (join u v)) T′
+  undone = p .sound (o .h) (o .cs) (o .block) (o .sound)
+
+  pub rows-ask : PartRowsOk rows (T′ .bits) (T .m) u v
+  rows-ask = part-rows-ok u v (o .sound) undone qn qm r
+
+  pub rows-hold : {rows′ : List ℕ} → PartedTo rows (T′ .bits) u v (T .m) rows′ → RowsAre rows′ (T′ .pins) (T′ .firsts) (T′ .sizes) (T′ .m)
+  rows-hold q = rows-parted u v (o .sound) undone qn qm r q
 
 -- a walk's numbers are small
 pub parts-few : {T T′ : Tables} {ceilings fixedmarks : List ℕ} {u v tried kept : ℕ} → PartOk T fixedmarks u v → Parts T ceilings fixedmarks u v T′ tried kept → (tried ≤ 1024) × (kept ≤ tried)

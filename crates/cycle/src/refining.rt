@@ -4,11 +4,14 @@ ghost use lib.ListN.{length};
 ghost use mathlib.Core.Path.{_≡_};
 ghost use Rattle.index.specs.Indexed.{Kept};
 ghost use Rattle.operations.specs.Tables.{tables};
+ghost use Rattle.search_moves.specs.Rows.{RowsAre};
 ghost use Rattle.cycle.specs.Refine.{PartOk, Parts, RefineOk, Refines};
 use crate::numbers::counted;
 use crate::numbers::place_of;
 use operations::joins::split;
 use operations::pairs::Stack;
+use search_moves::rows::fill_rows;
+use search_moves::rows::part_rows;
 use walk::walks::Walked;
 use walk::walks::walk;
 
@@ -31,7 +34,8 @@ fn add_walk(f: Fine, w: Walked) -> Fine
     }
 }
 
-// Splits `v` from `u`, into which it was contracted last, and walks from the two.
+// Splits `v` from `u`, into which it was contracted last, and walks from the two. In the walk nets with more than 12 pins are marked by their
+// rows: about so many single marks take the time of a row.
 fn refine_once(
     counts: &mut [u16],
     visited: &mut [u16],
@@ -47,6 +51,7 @@ fn refine_once(
     netweights: &[u16],
     firsts: &[u16],
     loadedsizes: &[u16],
+    rows: &mut [u64; 16384],
     ceilings: &[u64; 16],
     fixedmarks: [u64; 48],
     n: usize,
@@ -60,12 +65,14 @@ fn refine_once(
         (tables (now counts) (now visited) (now gains) (now presentpins) (now presentsizes) (now bits) (now blocks) (now weights) (now aboves) (now loads) (now netweights) (now firsts) (now loadedsizes) n m k total)
         fixedmarks u v ⌝ }
     requires { ⌜ 16 * n ≤ length (now index) ⌝ }
+    requires { ⌜ RowsAre (now rows) (now presentpins) (now firsts) (now presentsizes) m ⌝ }
     ensures { λ r. ⌜ Parts
         (tables (now (counts .entry)) (now (visited .entry)) (now (gains .entry)) (now (presentpins .entry)) (now (presentsizes .entry)) (now (bits .entry)) (now (blocks .entry)) (now (weights .entry)) (now (aboves .entry)) (now (loads .entry)) (now (netweights .entry)) (now (firsts .entry)) (now (loadedsizes .entry)) n m k total)
         (now (ceilings .entry)) fixedmarks u v
         (tables (now (counts .exit)) (now (visited .exit)) (now (gains .exit)) (now (presentpins .exit)) (now (presentsizes .exit)) (now (bits .exit)) (now (blocks .exit)) (now (weights .exit)) (now (aboves .exit)) (now (loads .exit)) (now (netweights .exit)) (now (firsts .exit)) (now (loadedsizes .exit)) n m k (r .total))
         (r .tried) (r .kept) ⌝ }
     ensures { λ _. ⌜ Kept n k (now (index .entry)) (now (index .exit)) ⌝ }
+    ensures { λ _. ⌜ RowsAre (now (rows .exit)) (now (presentpins .exit)) (now (firsts .exit)) (now (presentsizes .exit)) m ⌝ }
 {
     split(
         counts,
@@ -87,6 +94,7 @@ fn refine_once(
         u,
         v,
     );
+    part_rows(rows, bits, m, u, v);
     walk(
         counts,
         visited,
@@ -100,6 +108,8 @@ fn refine_once(
         weights,
         netweights,
         firsts,
+        rows,
+        12,
         ceilings,
         fixedmarks,
         n,
@@ -111,7 +121,7 @@ fn refine_once(
     )
 }
 
-// Undoes all contractions of the stack.
+// Undoes all contractions of the stack. The rows of the nets are made once, for all walks.
 pub fn refine(
     counts: &mut [u16],
     visited: &mut [u16],
@@ -151,6 +161,8 @@ pub fn refine(
         kept: 0,
         total: total,
     };
+    let mut rows = [0u64; 16384];
+    fill_rows(&mut rows, presentpins, firsts, presentsizes, m);
     let mut i = stack.len;
     while 0 < i {
         i -= 1;
@@ -171,6 +183,7 @@ pub fn refine(
             netweights,
             firsts,
             loadedsizes,
+            &mut rows,
             ceilings,
             fixedmarks,
             n,

@@ -36,7 +36,7 @@ pub struct PolishTurn {
     pub total: u32,
 }
 
-// W,u,v.
+// W,u,v. One walk marks each net at most once, and to make the net's row takes as long: so it has no rows, and no net has more pins than 65,535.
 pub fn call_walk(
     counts: &mut [u16],
     visited: &mut [u16],
@@ -81,6 +81,7 @@ pub fn call_walk(
         };
     }
     let cleared = journal.clear();
+    let no_rows = [0u64; 1];
     let w = walk(
         counts,
         visited,
@@ -94,6 +95,8 @@ pub fn call_walk(
         weights,
         netweights,
         firsts,
+        &no_rows,
+        65535,
         ceilings,
         fixedmarks,
         n,

@@ -211,13 +211,13 @@ beside-nets : {l l′ : List ℕ} {e v : ℕ} → Changed l l′ 2 e v → (r x 
 beside-nets c r x kr k = ap (λ (z : ℕ). eqb z 1) (c .elsewhere r x k (λ q _. omega arith))
 
 -- the pins of a net are marked, and the net is put into row 2
-module _ (pins firsts sizes : List ℕ) {l l₁ l₂ : List ℕ} (e f s : ℕ) (qf : f ≡ getD firsts e 0) (qs : s ≡ getD sizes e 0) (a : Marked l l₁ (has pins f s)) (b : Changed l₁ l₂ 2 e 1) where
+module _ (pins firsts sizes : List ℕ) {l l₁ l₂ : List ℕ} (e : ℕ) (a : Marked l l₁ (has pins (getD firsts e 0) (getD sizes e 0))) (b : Changed l₁ l₂ 2 e 1) where
   pub net-marked : Marked l l₂ (has pins (getD firsts e 0) (getD sizes e 0))
-  net-marked = marked-ext (has pins (getD firsts e 0) (getD sizes e 0)) (record {
+  net-marked = record {
     len = b .len ∙ a .len;
     moved = λ x k. beside-nets b 1 x (omega arith) k ∙ a .moved x k;
     marks = λ x k. beside-nets b 0 x (omega arith) k ∙ a .marks x k;
-  }) (λ x k. ap₂ (λ (i j : ℕ). has pins i j x) qf qs)
+  }
 
   pub net-more : SameNets l l₁ → MoreNets l l₂
   net-more n = record { more = λ e′ k o. go e′ k o (ℕ-discrete e′ e) }

@@ -18,6 +18,7 @@ ghost use Rattle.best_move.specs.Open.{SearchOk, IndexOk, Chosen, gainIn};
 ghost use Rattle.best_move.specs.Peak.{Peaked};
 ghost use Rattle.walk.specs.Back.{RewindOk, Rewinds};
 ghost use Rattle.search_moves.specs.Lent.{lent};
+ghost use Rattle.search_moves.specs.Rows.{RowsPast};
 ghost use Rattle.walk.specs.Steps.{locals, nextOf, TakeOk, Took, TurnOk, Turned, WalkOk, Walks};
 
 // What W answers: how many moves were made, the length of the kept prefix, and the metric after it.
@@ -93,6 +94,8 @@ fn make_move(
     weights: &[u32],
     netweights: &[u16],
     firsts: &[u16],
+    rows: &[u64],
+    limit: u16,
     n: usize,
     m: usize,
     k: usize,
@@ -104,6 +107,7 @@ fn make_move(
         (lent (now counts) (now visited) (now gains) (now blocks) (now loads) (now presentpins) (now presentsizes) (now bits) (now weights) (now netweights) (now firsts) n m k (s .total))
         (locals (now marks) (now movers) (now origins) (s .tried) (s .kept) (s .low) (s .heaviest)) (s .spent) v b ⌝ }
     requires { ⌜ Peaked (now gains) (now peaks) n k ⌝ }
+    requires { ⌜ RowsPast (now rows) (now presentpins) (now firsts) (now presentsizes) limit m ⌝ }
     ensures { λ r. ⌜ ((aboves loadedsizes : List ℕ) → Took
         (lent (now (counts .entry)) (now (visited .entry)) (now (gains .entry)) (now (blocks .entry)) (now (loads .entry)) (now (presentpins .entry)) (now (presentsizes .entry)) (now (bits .entry)) (now (weights .entry)) (now (netweights .entry)) (now (firsts .entry)) n m k (s .total) aboves loadedsizes)
         (locals (now (marks .entry)) (now (movers .entry)) (now (origins .entry)) (s .tried) (s .kept) (s .low) (s .heaviest)) (s .spent) v b
@@ -136,7 +140,17 @@ fn make_move(
         x,
         b,
     );
-    spread(marks, bits, presentpins, firsts, presentsizes, m, x);
+    spread(
+        marks,
+        bits,
+        rows,
+        limit,
+        presentpins,
+        firsts,
+        presentsizes,
+        m,
+        x,
+    );
     let heavy = heaviest(loads, k);
     let p = keep(made, total, heavy, s.kept, s.low, s.heaviest);
     Steps {
@@ -167,6 +181,8 @@ fn advance(
     weights: &[u32],
     netweights: &[u16],
     firsts: &[u16],
+    rows: &[u64],
+    limit: u16,
     ceilings: &[u64; 16],
     n: usize,
     m: usize,
@@ -178,6 +194,7 @@ fn advance(
         (locals (now marks) (now movers) (now origins) (s .tried) (s .kept) (s .low) (s .heaviest)) (s .spent) ⌝ }
     requires { ⌜ Peaked (now gains) (now peaks) n k ⌝ }
     requires { ⌜ 16 * n ≤ length (now index) ⌝ }
+    requires { ⌜ RowsPast (now rows) (now presentpins) (now firsts) (now presentsizes) limit m ⌝ }
     ensures { λ r. ⌜ ((aboves loadedsizes : List ℕ) → Turned
         (lent (now (counts .entry)) (now (visited .entry)) (now (gains .entry)) (now (blocks .entry)) (now (loads .entry)) (now (presentpins .entry)) (now (presentsizes .entry)) (now (bits .entry)) (now (weights .entry)) (now (netweights .entry)) (now (firsts .entry)) n m k (s .total) aboves loadedsizes)
         (locals (now (marks .entry)) (now (movers .entry)) (now (origins .entry)) (s .tried) (s .kept) (s .low) (s .heaviest)) (now (ceilings .entry)) (s .spent)
@@ -224,6 +241,8 @@ fn advance(
             weights,
             netweights,
             firsts,
+            rows,
+            limit,
             n,
             m,
             k,
@@ -292,7 +311,8 @@ fn rewind(
     t
 }
 
-// W,u,v. Vertices count from 0. A fixed vertex is marked in `fixedmarks` as if it had moved, so that it is passed over.
+// W,u,v. Vertices count from 0. A fixed vertex is marked in `fixedmarks` as if it had moved, so that it is passed over. Nets with more pins than
+// `limit` have their pins in `rows`.
 pub fn walk(
     counts: &mut [u16],
     visited: &mut [u16],
@@ -306,6 +326,8 @@ pub fn walk(
     weights: &[u32],
     netweights: &[u16],
     firsts: &[u16],
+    rows: &[u64],
+    limit: u16,
     ceilings: &[u64; 16],
     fixedmarks: [u64; 48],
     n: usize,
@@ -319,6 +341,7 @@ pub fn walk(
         (lent (now counts) (now visited) (now gains) (now blocks) (now loads) (now presentpins) (now presentsizes) (now bits) (now weights) (now netweights) (now firsts) n m k total)
         fixedmarks u v ⌝ }
     requires { ⌜ 16 * n ≤ length (now index) ⌝ }
+    requires { ⌜ RowsPast (now rows) (now presentpins) (now firsts) (now presentsizes) limit m ⌝ }
     ensures { λ r. ⌜ ((aboves loadedsizes : List ℕ) → Walks
         (lent (now (counts .entry)) (now (visited .entry)) (now (gains .entry)) (now (blocks .entry)) (now (loads .entry)) (now (presentpins .entry)) (now (presentsizes .entry)) (now (bits .entry)) (now (weights .entry)) (now (netweights .entry)) (now (firsts .entry)) n m k total aboves loadedsizes)
         (now (ceilings .entry)) fixedmarks u v
@@ -359,6 +382,8 @@ pub fn walk(
             weights,
             netweights,
             firsts,
+            rows,
+            limit,
             ceilings,
             n,
             m,

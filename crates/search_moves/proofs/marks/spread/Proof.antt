@@ -15,7 +15,7 @@ mark-nets-requires c κs = search (needs, covered-then)
 returns : tie.Need-returns
 returns c =
     let at-take = c .before .before .before .before in
-    let start = at-take .before .before .before .before .before .before in
+    let start = at-take .before .before .before .before .before .before .before in
     (spread-law (start .args .u) (at-take .take .ensures) (c .before .before .put .ensures) (c .mark-nets .ensures .0), c .mark-nets .ensures .1)
 
 pub spread-spec : {M : Type 1} → statement M

@@ -8,11 +8,11 @@ use Rattle.walk.proofs.walks.advance.Tie as tie
 
 next-move-requires : tie.Need-next-move-requires
 next-move-requires c κs =
-    let start′ = c .before .before .before .before .before .before .before .before .before .before .before .before .before .before .before .before in
-    let start = c .before .before .before .before .before .before .before .before .before .before .before .before .before .before .before .before .pre in
+    let start′ = c .before .before .before .before .before .before .before .before .before .before .before .before .before .before .before .before .before in
+    let start = c .before .before .before .before .before .before .before .before .before .before .before .before .before .before .before .before .before .pre in
     let ok = start .0 in (
       (ok .at .kept-to, omega (arith, ok .tried-to, ok .turn-to, ok .at .sound .follows .room .few-vertices), search-ok (ok .at .sound) (now (start′ .args .marks)) (omega (arith, ok .at .marks-fit))),
-      (start .1 .0, index-ok (ok .at .sound) _ (now (start′ .args .marks)) (start .1 .1) (chosen-on (ok .at))),
+      (start .1 .0, index-ok (ok .at .sound) _ (now (start′ .args .marks)) (start .1 .1 .0) (chosen-on (ok .at))),
     )
 
 enum-told : tie.Need-enum-told
@@ -25,9 +25,9 @@ make-move-requires : tie.Need-make-move-requires
 make-move-requires c κs =
     let at-vertex = c .before .before .before .before .before .before .before .before .before .before in
     let at-next-move = at-vertex .before .before .before .before in
-    let start-2 = at-next-move .before .before .before .before .before .before .before .before .before .before .before .before .before .before .before .before .before in
+    let start-2 = at-next-move .before .before .before .before .before .before .before .before .before .before .before .before .before .before .before .before .before .before in
     let start = start-2 .pre in
-    (take-asks (now (start-2 .args .ceilings)) (start .0) _ _ (at-next-move .next-move .ensures .0) (at-vertex .vertex .given .1), start .1 .0)
+    (take-asks (now (start-2 .args .ceilings)) (start .0) _ _ (at-next-move .next-move .ensures .0) (at-vertex .vertex .given .1), (start .1 .0, start .1 .1 .1))
 
 same-length : tie.Need-same-length
 same-length c = search needs
@@ -37,7 +37,7 @@ same-length-2 c = search needs
 
 returns : tie.Need-returns
 returns c =
-    let start-2 = c .before .before .before .before .before .before .before .before .before .before .before .before .before .before .before .before .before .before .before .before .before in
+    let start-2 = c .before .before .before .before .before .before .before .before .before .before .before .before .before .before .before .before .before .before .before .before .before .before in
     let start = start-2 .pre in
     let moved = c .before .before .before .before .next-move .ensures in
     (λ aboves loaded. turn-none _ _ _ _ (start .0 .turn-to) (start .0 .tried-to) (moved .0) (c .enum-told .given .1), (start .1 .0, moved .1))
@@ -59,7 +59,7 @@ returns-2 c =
     let at-make-move = c .before .before .before .before .before .before .before in
     let at-vertex = at-make-move .before .before .before .before .before .before .before .before .before .before .before in
     let at-next-move = at-vertex .before .before .before .before in
-    let start = at-next-move .before .before .before .before .before .before .before .before .before .before .before .before .before .before .before .before .before in
+    let start = at-next-move .before .before .before .before .before .before .before .before .before .before .before .before .before .before .before .before .before .before in
     let ok = start .pre .0 in
     let moved = at-make-move .make-move .ensures in
     (λ aboves loaded. turn-move _ _ _ _ _ (ok .turn-to) (ok .tried-to) (at-next-move .next-move .ensures .0) (at-vertex .vertex .given .1) (moved .0 aboves loaded), (moved .1, at-next-move .next-move .ensures .1))

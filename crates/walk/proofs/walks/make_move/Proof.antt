@@ -11,22 +11,22 @@ index-requires c κs = search needs
 
 sub-x : tie.Need-sub-x
 sub-x c =
-    let start = c .before .before .before .before .before .before .before .before .before .before in
+    let start = c .before .before .before .before .before .before .before .before .before .before .before in
     omega (arith, start .pre .0 .v-from, c .index .ensures)
 
 add-made : tie.Need-add-made
 add-made c =
-    let start = c .before .before .before .before .before .before .before .before .before .before in
+    let start = c .before .before .before .before .before .before .before .before .before .before .before in
     let ok = start .pre .0 in omega (arith, ok .tried-to, ok .turn-to, ok .at .sound .follows .room .few-vertices)
 
 mul-movers : tie.Need-mul-movers
 mul-movers c =
-    let start = c .before .before .before .before .before .before .before .before .before .before in
+    let start = c .before .before .before .before .before .before .before .before .before .before .before in
     let ok = start .pre .0 in omega (arith, ok .tried-to, ok .turn-to, ok .at .sound .follows .room .few-vertices)
 
 element-write-movers : tie.Need-element-write-movers
 element-write-movers c =
-    let start = c .before .before .before .before .before .before .before .before .before .before in
+    let start = c .before .before .before .before .before .before .before .before .before .before .before in
     let ok = start .pre .0 in omega (arith, ok .tried-to, ok .turn-to, ok .at .sound .follows .room .few-vertices)
 
 mul-origins : tie.Need-mul-origins
@@ -34,43 +34,44 @@ mul-origins c = omega arith
 
 slice-read-origins : tie.Need-slice-read-origins
 slice-read-origins c =
-    let start = c .before .before .before .before .before .before .before .before .before .before .before in
+    let start = c .before .before .before .before .before .before .before .before .before .before .before .before in
     let ok = start .pre .0 in
     omega (arith, ok .open-pair .u-in, ok .at .sound .follows .world .lists .blocks-fit, c .before .index .ensures)
 
 mul-origins-2 : tie.Need-mul-origins-2
 mul-origins-2 c =
-    let start = c .before .before .before .before .before .before .before .before .before .before .before in
+    let start = c .before .before .before .before .before .before .before .before .before .before .before .before in
     let ok = start .pre .0 in omega (arith, ok .tried-to, ok .turn-to, ok .at .sound .follows .room .few-vertices)
 
 element-write-origins : tie.Need-element-write-origins
 element-write-origins c =
-    let start = c .before .before .before .before .before .before .before .before .before .before .before in
+    let start = c .before .before .before .before .before .before .before .before .before .before .before .before in
     let ok = start .pre .0 in omega (arith, ok .tried-to, ok .turn-to, ok .at .sound .follows .room .few-vertices)
 
 shift-requires : tie.Need-shift-requires
 shift-requires c κs =
     let at-index = c .before .before .before .before .before .before .before in
-    let start-2 = at-index .before .before .before .before .before .before .before .before .before .before in
+    let start-2 = at-index .before .before .before .before .before .before .before .before .before .before .before in
     let start = start-2 .pre in
-    (take-goes (start .0) (at-index .index .result - 1) (ap (λ (z : ℕ). z - 1) (at-index .index .ensures)), start .1)
+    (take-goes (start .0) (at-index .index .result - 1) (ap (λ (z : ℕ). z - 1) (at-index .index .ensures)), start .1 .0)
 
 spread-requires : tie.Need-spread-requires
 spread-requires c κs =
     let at-index = c .before .before .before .before .before .before .before .before .before .before .before .before .before .before .before .before in
-    let start = at-index .before .before .before .before .before .before .before .before .before .before in
+    let start = at-index .before .before .before .before .before .before .before .before .before .before .before in
     let ok = start .pre .0 in
     let is = at-index .index in (
       ok .at .marks-fit,
       omega (arith, ok .open-pair .u-in, ok .at .sound .follows .room .few-vertices, is .ensures),
       take-nets ok (is .result - 1) (ap (λ (z : ℕ). z - 1) (is .ensures)),
       ok .at .covered,
+      start .pre .1 .1,
     )
 
 heaviest-requires : tie.Need-heaviest-requires
 heaviest-requires c κs =
     let at-shift = c .before .before .before .before .before .before .before .before .before .before in
-    let start = at-shift .before .before .before .before .before .before .before .before .before .before .before .before .before .before .before .before .before .before in
+    let start = at-shift .before .before .before .before .before .before .before .before .before .before .before .before .before .before .before .before .before .before .before in
     let ok = start .pre .0 in
     let moved = at-shift .shift .ensures in
     (moved .0 (ok .aboves) (ok .loaded) .sound (ok .h) (ok .cs) (ok .walk .block) (ok .at .sound) .loads-fit, ok .at .sound .follows .world .frame .few)
@@ -78,9 +79,9 @@ heaviest-requires c κs =
 keep-requires : tie.Need-keep-requires
 keep-requires c κs = search needs
 
-add-t28 : tie.Need-add-t28
-add-t28 c =
-    let start = c .before .before .before .before .before .before .before .before .before .before .before .before .before .before .before .before .before .before .before .before .before .before .before .before .before .before .before .before .before .before .before in
+add-t30 : tie.Need-add-t30
+add-t30 c =
+    let start = c .before .before .before .before .before .before .before .before .before .before .before .before .before .before .before .before .before .before .before .before .before .before .before .before .before .before .before .before .before .before .before .before in
     let ok = start .pre .0 in omega (arith, ok .turn-to, ok .at .sound .follows .room .few-vertices)
 
 same-length : tie.Need-same-length
@@ -99,7 +100,7 @@ returns : tie.Need-returns
 returns c =
     let at-spread = c .before .before .before .before in
     let at-shift = at-spread .before .before .before .before .before .before .before .before .before in
-    let start = at-shift .before .before .before .before .before .before .before .before .before .before .before .before .before .before .before .before .before .before in
+    let start = at-shift .before .before .before .before .before .before .before .before .before .before .before .before .before .before .before .before .before .before .before in
     let ok = start .pre .0 in
     let is = c .before .before .before .before .before .before .before .before .before .before .before .before .before .before .before .before .before .before .before .before .before .index in
     let moved = at-shift .shift .ensures in
@@ -134,7 +135,7 @@ make-move-spec =
     spread-requires
     heaviest-requires
     keep-requires
-    add-t28
+    add-t30
     same-length
     same-length-2
     same-length-3

@@ -14,7 +14,7 @@ use Rattle.walk.proofs.walks.walk.Statement.{statement}
 use Rattle.walk.proofs.walks.walk.Tie as tie
 
 abbrev Inv-loop : tie.InvT-loop
-Inv-loop counts₀ visited₀ gains₀ index₀ blocks₀ loads₀ pins sizes bits weights netweights firsts ceilings n m k total u v marks₀ peaks₀ movers₀ origins₀ s₀ counts visited gains index blocks loads marks peaks movers origins s =
+Inv-loop counts₀ visited₀ gains₀ index₀ blocks₀ loads₀ pins sizes bits weights netweights firsts rows limit ceilings n m k total u v marks₀ peaks₀ movers₀ origins₀ s₀ counts visited gains index blocks loads marks peaks movers origins s =
     (s .spent ≤ n) × (s .tried ≤ s .spent)
     × HasWalk (lent counts₀ visited₀ gains₀ blocks₀ loads₀ pins sizes bits weights netweights firsts n m k total)
     (locals marks₀ movers₀ origins₀ (s₀ .tried) (s₀ .kept) (s₀ .low) (s₀ .heaviest))
@@ -28,35 +28,35 @@ Inv-loop counts₀ visited₀ gains₀ index₀ blocks₀ loads₀ pins sizes bi
     × Kept n k index₀ index
 
 abbrev μ-loop : tie.MeasureT-loop
-μ-loop counts₀ visited₀ gains₀ index₀ blocks₀ loads₀ pins sizes bits weights netweights firsts ceilings n m k total u v marks₀ peaks₀ movers₀ origins₀ s₀ counts visited gains index blocks loads marks peaks movers origins s = n - s .spent
+μ-loop counts₀ visited₀ gains₀ index₀ blocks₀ loads₀ pins sizes bits weights netweights firsts rows limit ceilings n m k total u v marks₀ peaks₀ movers₀ origins₀ s₀ counts visited gains index blocks loads marks peaks movers origins s = n - s .spent
 
 mark-vertex-requires : tie.Need-mark-vertex-requires Inv-loop μ-loop
 mark-vertex-requires c κs =
-    let ok = c .before .before .before .before .before .before .before .before .before .before .before .pre .0 in
+    let ok = c .before .before .before .before .before .before .before .before .before .before .before .before .pre .0 in
     (ok .fixed .len, omega (arith, ok .u-in, ok .sound .follows .room .few-vertices))
 
 mark-vertex-requires-2 : tie.Need-mark-vertex-requires-2 Inv-loop μ-loop
 mark-vertex-requires-2 c κs =
-    let ok = c .before .before .before .before .before .before .before .before .before .before .before .before .before .pre .0 in
+    let ok = c .before .before .before .before .before .before .before .before .before .before .before .before .before .before .pre .0 in
     (c .before .mark-vertex .ensures .0 .len ∙ ok .fixed .len, omega (arith, ok .v-in, ok .sound .follows .room .few-vertices))
 
 survey-requires : tie.Need-survey-requires Inv-loop μ-loop
 survey-requires c κs =
-    let start = c .before .before .before .before .before .before .before .before .before .before .before .before .before .before .before .before in
+    let start = c .before .before .before .before .before .before .before .before .before .before .before .before .before .before .before .before .before in
     let frame = start .pre .0 .sound .follows .world .frame in
     (length-replicate {A = ℤ} 16 (pos 0), frame .few-vertices, frame .few, frame .gains-fit)
 
 heaviest-requires : tie.Need-heaviest-requires Inv-loop μ-loop
 heaviest-requires c κs =
-    let ok = c .before .before .before .before .before .before .before .before .before .before .before .before .before .before .before .before .before .before .pre .0 in
+    let ok = c .before .before .before .before .before .before .before .before .before .before .before .before .before .before .before .before .before .before .before .pre .0 in
     (ok .sound .loads-fit, ok .sound .follows .world .frame .few)
 
 loop-holds : tie.Need-loop-holds Inv-loop μ-loop
 loop-holds c =
     let at-mark-vertex2 = c .before .before .before .before .before in
     let at-mark-vertex = at-mark-vertex2 .before .before in
-    let a = c .before .before .before .before .before .before .before .before .before .before .before .before .before .before .before .before .before .before .before .args in
-    let ok = c .before .before .before .before .before .before .before .before .before .before .before .before .before .before .before .before .before .before .before .pre .0 in
+    let a = c .before .before .before .before .before .before .before .before .before .before .before .before .before .before .before .before .before .before .before .before .args in
+    let ok = c .before .before .before .before .before .before .before .before .before .before .before .before .before .before .before .before .before .before .before .before .pre .0 in
     let one = at-mark-vertex .mark-vertex .ensures in
     let two = at-mark-vertex2 .mark-vertex2 .ensures in
     let fit = length-replicate {A = ℕ} 1024 0 in (
@@ -76,21 +76,21 @@ advance-requires : tie.Need-advance-requires Inv-loop μ-loop
 advance-requires c κs =
     let at-if1 = c .before .before .before .before .before .before .before .before .before .before in
     let at-loop = at-if1 .before .before in
-    let start = at-loop .before .before .before .before .before .before .before .before .before .before .before .before .before .before .before .before .before .before .before .before in
+    let start = at-loop .before .before .before .before .before .before .before .before .before .before .before .before .before .before .before .before .before .before .before .before .before in
     let l = at-loop .loop in
-    (turn-asks (l .inv .2) (l .inv .3) (at-if1 .if1 .taken) (l .inv .1), (l .inv .4, omega (arith, start .pre .1, l .inv .9 .len)))
+    (turn-asks (l .inv .2) (l .inv .3) (at-if1 .if1 .taken) (l .inv .1), (l .inv .4, (omega (arith, start .pre .1 .0, l .inv .9 .len), start .pre .1 .1)))
 
 loop-less : tie.Need-loop-less Inv-loop μ-loop
 loop-less c =
     let at-advance = c .before .before .before .before .before .before .before .before .before in
     let at-if1 = at-advance .before .before .before .before .before .before .before .before .before .before .before in
-    let ok = c .before .before .before .before .before .before .before .before .before .before .before .before .before .before .before .before .before .before .before .before .before .before .before .before .before .before .before .before .before .before .before .before .before .before .before .before .before .before .before .before .before .before .pre .0 in
+    let ok = c .before .before .before .before .before .before .before .before .before .before .before .before .before .before .before .before .before .before .before .before .before .before .before .before .before .before .before .before .before .before .before .before .before .before .before .before .before .before .before .before .before .before .before .pre .0 in
     omega (arith, at-advance .advance .ensures .0 (ok .aboves) (ok .loaded) .on, at-if1 .if1)
 
 loop-again : tie.Need-loop-again Inv-loop μ-loop
 loop-again c =
     let at-advance = c .before .before .before .before .before .before .before .before .before in
-    let ok = c .before .before .before .before .before .before .before .before .before .before .before .before .before .before .before .before .before .before .before .before .before .before .before .before .before .before .before .before .before .before .before .before .before .before .before .before .before .before .before .before .before .before .pre .0 in
+    let ok = c .before .before .before .before .before .before .before .before .before .before .before .before .before .before .before .before .before .before .before .before .before .before .before .before .before .before .before .before .before .before .before .before .before .before .before .before .before .before .before .before .before .before .before .pre .0 in
     let l = c .before .before .before .before .before .before .before .before .before .before .before .before .before .before .before .before .before .before .before .before .before .before .loop in
     let turned = at-advance .advance .ensures in
     let lengths = at-advance .advance .kept in
@@ -110,7 +110,7 @@ loop-again c =
 rewind-requires : tie.Need-rewind-requires Inv-loop μ-loop
 rewind-requires c κs =
     let at-loop = c .before .before .before .before .before .before .before .before .before in
-    let start = at-loop .before .before .before .before .before .before .before .before .before .before .before .before .before .before .before .before .before .before .before .before in
+    let start = at-loop .before .before .before .before .before .before .before .before .before .before .before .before .before .before .before .before .before .before .before .before .before in
     let l = at-loop .loop in end-asks (l .inv .2) (l .inv .3) (l .inv .0) (l .inv .1)
 
 same-length : tie.Need-same-length Inv-loop μ-loop
@@ -145,7 +145,7 @@ returns c =
     let at-heaviest = at-loop .before in
     let at-mark-vertex2 = at-heaviest .before .before .before .before .before in
     let at-mark-vertex = at-mark-vertex2 .before .before in
-    let start = at-heaviest .before .before .before .before .before .before .before .before .before .before .before .before .before .before .before .before .before .before .before in
+    let start = at-heaviest .before .before .before .before .before .before .before .before .before .before .before .before .before .before .before .before .before .before .before .before in
     let a = start .args in
     let ok = start .pre .0 in
     let one = at-mark-vertex .mark-vertex .ensures in
