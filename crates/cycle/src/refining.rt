@@ -35,7 +35,7 @@ fn add_walk(f: Fine, w: Walked) -> Fine
 }
 
 // Splits `v` from `u`, into which it was contracted last, and walks from the two. In the walk nets with more than 12 pins are marked by their
-// rows: about so many single marks take the time of a row.
+// rows; limits from 6 to 16 measured alike.
 fn refine_once(
     counts: &mut [u16],
     visited: &mut [u16],
