@@ -3,11 +3,10 @@
 use Prim.Native.Nat.{ℕ, zero, suc, _-_, _<_, _≤_}
 use native.Mathlib.Decide.{ℕ-discrete}
 use native.Mathlib.Omega.{arith}
-use mathlib.Core.Path.{_≡_, refl, sym, ap, _∙_, subst}
+use mathlib.Core.Path.{_≡_, refl, sym, subst}
 use mathlib.Core.List.{List, []}
 use lib.ListN.{getD}
 use Rattle.model.specs.Catalogue.{Hypergraph, vertices}
-use Rattle.model.specs.Measure.{Contraction}
 use Rattle.model.specs.Machine.{Call, Answer, State}
 use Rattle.model.specs.Lent.{Two, pairs, stackOf}
 use Rattle.guarantees.specs.Climbs.{Sound}
@@ -16,7 +15,7 @@ use Rattle.guarantees.specs.Caps.{CeilingIs}
 use Rattle.fixed.specs.Starting.{FixedIs, StackFits, FixedIn}
 use Rattle.operations.specs.Tables.{Tables}
 use Rattle.edit_calls.specs.Steps.{Runs}
-use Rattle.edit_calls.specs.Called.{Called, stack-room}
+use Rattle.edit_calls.specs.Called.{Called}
 use Rattle.search_calls.specs.Cycling.{ReadyA}
 
 -- each pair of a stack of the catalogue's vertices is a contraction of two of them
@@ -38,7 +37,7 @@ module _ {h : Hypergraph} {s : State} {T : Tables} {S J : Two} (r : Runs h s T S
 
   pub stack-fits : StackFits (S .xs) (S .ys) (S .len)
   stack-fits = record {
-    few = omega (arith, stack-room r);
+    few = r .stack-whole .short;
     into-in = λ i l. let c = pair-inside h (S .xs) (S .ys) (S .len) inside i l in (c .0, omega (arith, c .1, few));
     gone-in = λ i l. let c = pair-inside h (S .xs) (S .ys) (S .len) inside i l in (c .2, omega (arith, c .3, few));
   }

@@ -6,6 +6,7 @@ use mathlib.Core.Path.{_≡_, refl, sym, ap, ap₂, _∙_, subst}
 use mathlib.Core.List.{List, [], _∷_, _++_}
 use lib.ListN.{length, getD}
 use Rattle.model.specs.Catalogue.{Limits, Hypergraph, averageWeight, capacities, drafted}
+use Rattle.model.specs.Measure.{Contraction}
 use Rattle.model.specs.Machine.{Call, Answer, State, fresh}
 use Rattle.model.specs.Search.{callUnder, call}
 use Rattle.model.specs.Report.{refusal, answerRow}
@@ -13,11 +14,13 @@ use Rattle.model.specs.Engine.{after, answers}
 use Rattle.model.specs.Lent.{callsOf, Two}
 use Rattle.model.specs.Demand.{Accepted, Course}
 use Rattle.guarantees.specs.Caps.{CeilingIs}
+use Rattle.guarantees.specs.StateBounds.{stack-call}
 use Rattle.fixed.specs.Starting.{FixedIs}
 use Rattle.index.specs.Indexed.{TablesOk, Indexed, KeepsRight, indexed-then}
 use Rattle.fields.specs.Wrote.{Wrote}
 use Rattle.fields.proofs.Laws.{wrote-none, wrote-length, wrote-append}
 use Rattle.operations.specs.Tables.{Tables, Sound, Keeps}
+use Rattle.operations.specs.Pairs.{pairs-length}
 use Rattle.operations.specs.Keeping.{keeps-none, keeps-more}
 use Rattle.edit_calls.specs.Steps.{Runs, Stepped}
 use Rattle.edit_calls.specs.Start.{Empty, runs-fresh}
@@ -94,6 +97,7 @@ pub record Done (h : Hypergraph) (calls : List ℕ) (i : ℕ) (T₀ T : Tables) 
   pub here : RunsOn h T₀ index₀ (after h (fresh h) (callsOf i calls)) (point T index S J)
   pub begun : Point
   pub course : Course (RunsOn h T₀ index₀) h (fresh h) (callsOf i calls) begun (point T index S J)
+  pub stack-le : S .len ≤ i
   pub journal-le : J .len ≤ i
   pub wrote : Wrote out₀ out 0 (answers h (fresh h) (callsOf i calls)) at
 
@@ -107,7 +111,7 @@ pub done-none : {limits : Limits} {h : Hypergraph} {T : Tables} {average count r
 unfolding callsOf after answers
 done-none {h = h} {T = T} {index₀ = index₀} {index = index} {S = S} {J = J} out b r e f =
     let start : RunsOn h T index₀ (fresh h) (point T index S J) = record { runs = runs-fresh (b .sound) e f; keeps = keeps-none T; indexed = r; n-same = refl; m-same = refl; k-same = refl; firsts-same = refl; loaded-same = refl } in
-    record { here = start; begun = point T index S J; course = course-none (RunsOn h T index₀) h (fresh h) (point T index S J) start; journal-le = omega (arith, f .none); wrote = wrote-none out 0 }
+    record { here = start; begun = point T index S J; course = course-none (RunsOn h T index₀) h (fresh h) (point T index S J) start; stack-le = omega (arith, e .none); journal-le = omega (arith, f .none); wrote = wrote-none out 0 }
 
 module _ {limits : Limits} {h : Hypergraph} {T₀ : Tables} {average count : ℕ} {ceilings fixedmarks calls out₀ : List ℕ} (b : Begins limits h T₀ average ceilings fixedmarks calls count (length out₀)) (i : ℕ) (l : i < count)
     {T : Tables} {index₀ index : List ℕ} {S J : Two} {out : List ℕ} {at : ℕ} (d : Done h calls i T₀ T index₀ index S J out₀ out at) (x y : ℕ) (qx : x ≡ getD calls (3 * i + 1) 0) (qy : y ≡ getD calls (3 * i + 2) 0) where
@@ -135,7 +139,7 @@ module _ {limits : Limits} {h : Hypergraph} {T₀ : Tables} {average count : ℕ
   pub can-step : CanStep T S J average ceilings fixedmarks (length out) at asked
   can-step = record {
     ready = record {
-      ready = record { h = h; s = after h (fresh h) (callsOf i calls); runs = d .here .runs; room = omega (arith, d .journal-le, b .count-le) };
+      ready = record { h = h; s = after h (fresh h) (callsOf i calls); runs = d .here .runs; stack-room = omega (arith, d .stack-le, b .count-le); room = omega (arith, d .journal-le, b .count-le) };
       average-is = b .average-is;
       fixed = b .fixed-is;
     };
@@ -152,6 +156,15 @@ module _ {limits : Limits} {h : Hypergraph} {T₀ : Tables} {average count : ℕ
       let before : Indexed (T .gains) (T .blocks) (T′ .n) (T′ .k) index₀ index =
       subst (λ (z : ℕ). Indexed (T .gains) (T .blocks) z (T′ .k) index₀ index) (d .here .n-same ∙ sym qn) (subst (λ (z : ℕ). Indexed (T .gains) (T .blocks) (T .n) z index₀ index) (d .here .k-same ∙ sym qk) (d .here .indexed)) in
       let r : Indexed (T′ .gains) (T′ .blocks) (T′ .n) (T′ .k) index index′ = record { kept = w .kept; rows = w .right (before .rows) } in
+      let made : ℕ → ℕ → Contraction = λ u v. record { into = u; gone = v } in
+      let stack-called : S′ .len ≤ S .len + 1 = omega (
+        arith,
+        pairs-length made (S′ .xs) (S′ .ys) (S′ .len),
+        ap length (e .runs .stack-is),
+        stack-call h (capacities h) st asked,
+        pairs-length made (S .xs) (S .ys) (S .len),
+        ap length (d .here .runs .stack-is),
+      ) in
       let q : callsOf (i + 1) calls ≡ callsOf i calls ++ (asked ∷ []) = more .1 .more ∙ ap (λ (c : Call). callsOf i calls ++ (c ∷ [])) (sym asked-is) in
       let now : RunsOn h T₀ index₀ (after h (fresh h) (callsOf i calls ++ (asked ∷ []))) (point T′ index′ S′ J′) = record {
         runs = subst (λ (x : State). Runs h x T′ S′ J′) (sym (after-more h (fresh h) (callsOf i calls) asked)) (e .runs);
@@ -168,6 +181,7 @@ module _ {limits : Limits} {h : Hypergraph} {T₀ : Tables} {average count : ℕ
         begun = d .begun;
         course = subst (λ (cs : List Call). Course (RunsOn h T₀ index₀) h (fresh h) cs (d .begun) (point T′ index′ S′ J′)) (sym q)
             (course-more (RunsOn h T₀ index₀) h (fresh h) (callsOf i calls) asked (d .begun) (point T index S J) (point T′ index′ S′ J′) (d .course) now (λ no. same r (s .called .unchanged (subst (λ (a : Answer). 1 ≤ refusal a) (sym (e .says)) no))));
+        stack-le = omega (arith, stack-called, d .stack-le);
         journal-le = omega (arith, e .longer, d .journal-le);
         wrote = subst (λ (x : List ℕ). Wrote out₀ out′ 0 x at′) (ap (λ (a : Answer). answers h (fresh h) (callsOf i calls) ++ answerRow a) (e .says) ∙ sym (answers-more h (fresh h) (callsOf i calls) asked) ∙ ap (answers h (fresh h)) (sym q))
             (wrote-append (omega (arith, line-fits, b .spacious)) (d .wrote) (s .wrote));

@@ -16,12 +16,12 @@ use best_contraction::join::plan_join;
 use incidence::is_pin;
 use incidence::numbers::narrow;
 use operations::joins::join;
-use operations::pairs::Stack;
+use operations::pairs::LongStack;
 use operations::size::Size;
 
 // The stack, and how many vertices have still to leave the board: 0 too where no pair is left.
 pub struct Round {
-    pub stack: Stack,
+    pub stack: LongStack,
     pub left: usize,
 }
 
@@ -167,8 +167,8 @@ pub fn coarsen(
     fixedmarks: [u64; 48],
     size: Size,
     total: u32,
-    stack: Stack,
-) -> Stack
+    stack: LongStack,
+) -> LongStack
     requires { ⌜ CoarsenOk
         (λ loads loadedsizes. tables (now counts) (now visited) (now gains) (now presentpins) (now presentsizes) (now bits) (now blocks) (now weights) (now aboves) loads (now netweights) (now firsts) loadedsizes (size .n) (size .m) (size .k) total)
         fixedmarks (stack .into) (stack .gone) (stack .len) (size .average) ⌝ }

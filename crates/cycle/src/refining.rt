@@ -9,7 +9,7 @@ ghost use Rattle.cycle.specs.Refine.{PartOk, Parts, RefineOk, Refines};
 use crate::numbers::counted;
 use crate::numbers::place_of;
 use operations::joins::split;
-use operations::pairs::Stack;
+use operations::pairs::LongStack;
 use search_moves::rows::fill_rows;
 use search_moves::rows::part_rows;
 use walk::walks::Walked;
@@ -143,7 +143,7 @@ pub fn refine(
     m: usize,
     k: usize,
     total: u32,
-    stack: Stack,
+    stack: LongStack,
 ) -> Fine
     requires { ⌜ RefineOk
         (tables (now counts) (now visited) (now gains) (now presentpins) (now presentsizes) (now bits) (now blocks) (now weights) (now aboves) (now loads) (now netweights) (now firsts) (now loadedsizes) n m k total)

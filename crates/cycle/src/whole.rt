@@ -7,7 +7,7 @@ ghost use Rattle.cycle.specs.Whole.{CycleOk, Levels, Does};
 use crate::numbers::counted;
 use crate::refining::refine;
 use coarsening::coarsen;
-use operations::pairs::Stack;
+use operations::pairs::LongStack;
 use operations::size::Size;
 use polish::polishing::polish;
 
@@ -75,7 +75,7 @@ fn descend(
         fixedmarks,
         size,
         total,
-        Stack::new(),
+        LongStack::new(),
     );
     let f = refine(
         counts,

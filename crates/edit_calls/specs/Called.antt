@@ -5,13 +5,11 @@ use mathlib.Core.Path.{_≡_, refl, sym, ap, _∙_, subst}
 use mathlib.Core.List.{List}
 use lib.ListN.{length, set}
 use Rattle.model.specs.Catalogue.{Hypergraph}
-use Rattle.model.specs.Measure.{Contraction}
 use Rattle.model.specs.Machine.{Call, Answer, State, Step, settle}
 use Rattle.model.specs.Search.{callUnder}
 use Rattle.model.specs.Report.{refusal}
 use Rattle.model.specs.Lent.{Two}
-use Rattle.guarantees.specs.StateBounds.{stack-le}
-use Rattle.operations.specs.Pairs.{pairs-length, Pushed}
+use Rattle.operations.specs.Pairs.{Pushed}
 use Rattle.operations.specs.Tables.{Tables, Keeps}
 use Rattle.edit_calls.specs.Steps.{Whole, Runs, Ready, told, Stepped, Moves, runs-call}
 
@@ -73,17 +71,6 @@ unfolding settle
 settle-yes zero s done e = refl
 settle-yes (suc q) s done e = absurd (omega arith)
 
--- ---- the stack has a place left
-pub stack-room : {h : Hypergraph} {s : State} {T : Tables} {S J : Two} → Runs h s T S J → S .len < 1024
-stack-room {h} {s} {S = S} r = omega (
-  arith,
-  pairs-length {A = Contraction} (λ u v. record { into = u; gone = v }) (S .xs) (S .ys) (S .len),
-  ap length (r .stack-is),
-  stack-le h (s .stack) (r .legal .sound) (r .legal .inside),
-  r .sound .follows .room .few-vertices,
-  r .sound .follows .says .all-vertices,
-)
-
 -- what the code reads and writes lies within the tables, and the stack and the journal
 pub record Roomy (T : Tables) (S J : Two) : Type 0 where
   pub blocks-fit : T .n ≤ length (T .blocks)
@@ -92,8 +79,8 @@ pub record Roomy (T : Tables) (S J : Two) : Type 0 where
   pub loads-fit : length (T .loads) ≡ 16
   pub few-blocks : T .k ≤ 16
   pub few-vertices : T .n ≤ 1024
-  pub stack-short : S .len < 1024
-  pub journal-short : J .len < 1024
+  pub stack-short : S .len < 512
+  pub journal-short : J .len < 512
   pub stack-whole : Whole S
   pub journal-whole : Whole J
 
@@ -105,7 +92,7 @@ roomy g = record {
   loads-fit = g .runs .sound .loads-fit;
   few-blocks = g .runs .sound .follows .world .frame .few;
   few-vertices = g .runs .sound .follows .world .frame .few-vertices;
-  stack-short = stack-room (g .runs);
+  stack-short = g .stack-room;
   journal-short = g .room;
   stack-whole = g .runs .stack-whole;
   journal-whole = g .runs .journal-whole;

@@ -1,5 +1,5 @@
 -- J and S: what their operations need, and that their functions' results are the machine's. Rests on Called and Refusal. Assumes nothing.
-use Prim.Native.Nat.{ℕ, zero, suc, _+_, _-_, _≤_}
+use Prim.Native.Nat.{ℕ, zero, suc, _+_, _-_, _≤_, _<_}
 use native.Mathlib.Omega.{arith}
 use mathlib.Core.Path.{_≡_, refl, sym, ap, ap₂, _∙_, subst}
 use mathlib.Core.Bool.{not, _&&_}
@@ -24,7 +24,7 @@ use Rattle.operations.specs.Join.{Pair, Joined, Splits, Split}
 use Rattle.operations.specs.Keeping.{keeps-none}
 use Rattle.edit_calls.specs.Refusal.{known, here, refusalJ, refusalJ-is, known-range}
 use Rattle.edit_calls.specs.Steps.{Whole, Runs, Ready, told}
-use Rattle.edit_calls.specs.Called.{Called, Popped, Cleared, stepped, refused, settle-no, settle-yes, stack-room}
+use Rattle.edit_calls.specs.Called.{Called, Popped, Cleared, stepped, refused, settle-no, settle-yes}
 
 pub above-none : (x : ℕ) → (x ≡ 0 → ⊥) → 1 ≤ x
 above-none zero n = absurd (n refl)
@@ -34,15 +34,16 @@ pub emptied : {J J′ : Two} → Cleared J J′ → journalOf (J′ .xs) (J′ .
 emptied {J′ = J′} c = ap (journalOf (J′ .xs) (J′ .ys)) (c .len-is) ∙ pairs-none (λ v b. record { vertex = v; from = b }) (J′ .xs) (J′ .ys)
 
 pub cleared-whole : {J J′ : Two} → Cleared J J′ → Whole J → Whole J′
-cleared-whole c w = record { xs-whole = ap length (c .xs-same) ∙ w .xs-whole; ys-whole = ap length (c .ys-same) ∙ w .ys-whole }
+cleared-whole c w = record { xs-whole = ap length (c .xs-same) ∙ w .xs-whole; ys-whole = ap length (c .ys-same) ∙ w .ys-whole; short = omega (arith, c .len-is) }
 
 pub popped-whole : {S S′ : Two} → Popped S S′ → Whole S → Whole S′
-popped-whole c w = record { xs-whole = ap length (c .xs-same) ∙ w .xs-whole; ys-whole = ap length (c .ys-same) ∙ w .ys-whole }
+popped-whole c w = record { xs-whole = ap length (c .xs-same) ∙ w .xs-whole; ys-whole = ap length (c .ys-same) ∙ w .ys-whole; short = omega (arith, c .len-is, w .short) }
 
-pub pushed-whole : {S S′ : Two} {x y : ℕ} → Pushed (S .xs) (S .ys) (S .len) x y (S′ .xs) (S′ .ys) (S′ .len) → Whole S → Whole S′
-pushed-whole {S} {x = x} {y = y} p w = record {
+pub pushed-whole : {S S′ : Two} {x y : ℕ} → S .len < 512 → Pushed (S .xs) (S .ys) (S .len) x y (S′ .xs) (S′ .ys) (S′ .len) → Whole S → Whole S′
+pushed-whole {S} {x = x} {y = y} room p w = record {
   xs-whole = ap length (p .xs-are) ∙ length-set (S .xs) (S .len) x ∙ w .xs-whole;
   ys-whole = ap length (p .ys-are) ∙ length-set (S .ys) (S .len) y ∙ w .ys-whole;
+  short = omega (arith, room, p .len-is);
 }
 
 -- ---- J
@@ -75,7 +76,7 @@ refused-J {h} T u v q w e n = record {
 }
 
 module _ (h : Hypergraph) (T T′ : Tables) (S S′ J J′ : Two) (u v : ℕ) (e : refusalJ (T .blocks) (T .n) u v ≡ 0) (same-n : T′ .n ≡ T .n) (j : Joined T T′ (u - 1) (v - 1))
-    (p : Pushed (S .xs) (S .ys) (S .len) u v (S′ .xs) (S′ .ys) (S′ .len)) (c : Cleared J J′) where
+    (room : S .len < 512) (p : Pushed (S .xs) (S .ys) (S .len) u v (S′ .xs) (S′ .ys) (S′ .len)) (c : Cleared J J′) where
   ok : ((1 ≤ u) × (1 ≤ v)) × Pair (T .blocks) (T .n) (u - 1) (v - 1)
   ok = pair-of (T .blocks) (T .n) u v e
 
@@ -98,7 +99,7 @@ module _ (h : Hypergraph) (T T′ : Tables) (S S′ J J′ : Two) (u v : ℕ) (e
 
     stack-J : stackOf (S′ .xs) (S′ .ys) (S′ .len) ≡ record { into = u; gone = v } ∷ s .stack
     stack-J =
-        pairs-push (λ x y. record { into = x; gone = y }) (omega (arith, stack-room r, r .stack-whole .xs-whole)) (omega (arith, stack-room r, r .stack-whole .ys-whole)) p
+        pairs-push (λ x y. record { into = x; gone = y }) (omega (arith, room, r .stack-whole .xs-whole)) (omega (arith, room, r .stack-whole .ys-whole)) p
         ∙ ap (λ (l : List Contraction). record { into = u; gone = v } ∷ l) (r .stack-is)
 
   pub accepted-J : {ceiling : ℕ → ℕ} (w : ℕ) → w ≡ getD (T′ .weights) (u - 1) 0 → Called h ceiling T T′ S S′ J J′ (callJ u v) (saysJ w)
@@ -108,7 +109,7 @@ module _ (h : Hypergraph) (T T′ : Tables) (S S′ J J′ : Two) (u v : ℕ) (e
       sound = sound-J s r;
       stack-is = stack-J s r;
       journal-is = emptied c;
-      stack-whole = pushed-whole p (r .stack-whole);
+      stack-whole = pushed-whole room p (r .stack-whole);
       journal-whole = cleared-whole c (r .journal-whole);
     }) (ap saysJ (q ∙ weight-J s r)) (omega (arith, c .len-is));
     keeps = λ s r. j .keeps h (s .stack) (s .block) (r .sound);

@@ -69,7 +69,7 @@ refused-M {h} {ceiling} T ceilings fixedmarks u t q f d total qc qx e n = record
 }
 
 module _ (h : Hypergraph) (T T′ : Tables) (S J J′ : Two) (ceilings fixedmarks : List ℕ) (u t b f : ℕ) (e : refusalM (T .blocks) (T .loads) ceilings fixedmarks (T .weights) (T .n) (T .k) u t ≡ 0) (qb : b ≡ t) (w : Went T T′ (u - 1) b)
-    (room : J .len < 1024) (qf : f ≡ getD (T .blocks) (u - 1) 0) (p : Pushed (J .xs) (J .ys) (J .len) u f (J′ .xs) (J′ .ys) (J′ .len)) where
+    (room : J .len < 512) (qf : f ≡ getD (T .blocks) (u - 1) 0) (p : Pushed (J .xs) (J .ys) (J .len) u f (J′ .xs) (J′ .ys) (J′ .len)) where
   ok : (1 ≤ u) × Open (T .blocks) (T .n) (T .k) (u - 1) t
   ok = open-of (T .blocks) (T .loads) ceilings fixedmarks (T .weights) (T .n) (T .k) u t e
 
@@ -107,7 +107,7 @@ module _ (h : Hypergraph) (T T′ : Tables) (S J J′ : Two) (ceilings fixedmark
           stack-is = r .stack-is;
           journal-is = journal-M s r;
           stack-whole = r .stack-whole;
-          journal-whole = pushed-whole p (r .journal-whole);
+          journal-whole = pushed-whole room p (r .journal-whole);
         }) (says-M s r q) (omega (arith, p .len-is));
     keeps = λ s r. w .keeps;
     unchanged = λ l. absurd (omega arith);

@@ -31,4 +31,4 @@ runs-fresh {h} {S = S} {J = J} s e f = record {
 }
 
 pub ready-fresh : {h : Hypergraph} {T : Tables} {S J : Two} → Sound h [] (drafted h) T → Empty S → Empty J → Ready T S J
-ready-fresh {h} s e f = record { h = h; s = fresh h; runs = runs-fresh s e f; room = omega (arith, f .none) }
+ready-fresh {h} s e f = record { h = h; s = fresh h; runs = runs-fresh s e f; stack-room = omega (arith, e .none); room = omega (arith, f .none) }

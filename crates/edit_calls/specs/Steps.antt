@@ -12,10 +12,11 @@ use Rattle.guarantees.specs.StateBounds.{Listed, listed-call}
 use Rattle.guarantees.specs.Reversals.{Apart, apart-call}
 use Rattle.operations.specs.Tables.{Tables, Sound}
 
--- the arrays' lengths
+-- the arrays' lengths, and that no more of them is in use
 pub record Whole (S : Two) : Type 0 where
-  pub xs-whole : length (S .xs) ≡ 1024
-  pub ys-whole : length (S .ys) ≡ 1024
+  pub xs-whole : length (S .xs) ≡ 512
+  pub ys-whole : length (S .ys) ≡ 512
+  pub short : S .len ≤ 512
 
 -- the tables T, the stack S and the journal J stand for the state s
 pub record Runs (h : Hypergraph) (s : State) (T : Tables) (S J : Two) : Type 0 where
@@ -28,12 +29,13 @@ pub record Runs (h : Hypergraph) (s : State) (T : Tables) (S J : Two) : Type 0 w
   pub stack-whole : Whole S
   pub journal-whole : Whole J
 
--- what a call's function needs: some state, and a place left on the journal
+-- what a call's function needs: some state, and a place left on the stack and on the journal
 pub record Ready (T : Tables) (S J : Two) : Type 0 where
   pub h : Hypergraph
   pub s : State
   pub runs : Runs h s T S J
-  pub room : J .len < 1024
+  pub stack-room : S .len < 512
+  pub room : J .len < 512
 
 -- an answer, by the number of its refusal
 abbrev pub told : ℕ → Answer → Answer

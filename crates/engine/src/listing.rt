@@ -4,8 +4,8 @@ ghost use Rattle.model.specs.Catalogue.{mainLimits};
 ghost use Rattle.model.specs.Lent.{lists, lent, memory, two};
 ghost use Rattle.model.specs.ListEntry.{returned, Idle, ListServes};
 use lengths::is_long;
-use operations::pairs::Journal;
-use operations::pairs::Stack;
+use operations::pairs::LongJournal;
+use operations::pairs::LongStack;
 use sale_list::ListRan;
 use sale_list::list_refusal;
 use sale_list::work_list;
@@ -14,8 +14,8 @@ use sale_list::work_list;
 fn refused_list(code: u32) -> ListRan
     ensures { λ r. ⌜ (r .code ≡ code) × (r .written ≡ 0) × Idle (returned (r .code) (r .written) (r .total) (two (r .stack .into) (r .stack .gone) (r .stack .len)) (two (r .journal .vertices) (r .journal .blocks) (r .journal .len))) ⌝ }
 {
-    let none = Stack::new();
-    let unmoved = Journal::new();
+    let none = LongStack::new();
+    let unmoved = LongJournal::new();
     ListRan {
         code: code,
         written: 0,

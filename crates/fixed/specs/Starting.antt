@@ -36,7 +36,7 @@ pub record FixedMarked (column : List ℕ) (n : ℕ) (marks : List ℕ) : Type 0
 
 -- two arrays whose first `len` entries are vertices
 pub record StackFits (into gone : List ℕ) (len : ℕ) : Type 0 where
-  pub few : len ≤ 1024
+  pub few : len ≤ 512
   pub into-in : (i : ℕ) → i < len → (1 ≤ getD into i 0) × (getD into i 0 ≤ 1024)
   pub gone-in : (i : ℕ) → i < len → (1 ≤ getD gone i 0) × (getD gone i 0 ≤ 1024)
 

@@ -46,7 +46,7 @@ fn join_fixed(marks: &mut [u64; 48], into: u16, gone: u16)
 }
 
 // The marks of a catalogue with the contractions of a stack, from its marks with none.
-pub fn fixed_in(marks: [u64; 48], into: &[u16; 1024], gone: &[u16; 1024], len: usize) -> [u64; 48]
+pub fn fixed_in(marks: [u64; 48], into: &[u16; 512], gone: &[u16; 512], len: usize) -> [u64; 48]
     requires { ⌜ (length marks ≡ 48) × StackFits (now into) (now gone) len ⌝ }
     ensures { λ r. ⌜ FixedIn marks (now (into .entry)) (now (gone .entry)) len r ⌝ }
 {

@@ -1,5 +1,6 @@
--- How large the machine's state gets: the stack is at most one less than the vertices (stack-le), the journal no longer than the list of
--- calls (journal-le), and its moves are of vertices that there are (journal-in). Rests on Calls. Assumes nothing.
+-- How large the machine's state gets: the stack is at most one less than the vertices (stack-le), and a call adds at most one to it (stack-call);
+-- the journal is no longer than the list of calls (journal-le), and its moves are of vertices that there are (journal-in). Rests on Calls.
+-- Assumes nothing.
 use Prim.Native.Nat.{ℕ, zero, suc, _+_, _-_, _≤_}
 use native.Mathlib.Omega.{arith}
 use mathlib.Core.Path.{_≡_, refl, ap, subst}
@@ -33,6 +34,33 @@ module _ (h : Hypergraph) where
   pub stack-le : (cs : List Contraction) → Sound cs → AllInside h cs → length cs ≤ vertices h - 1
   stack-le [] s a = omega arith
   stack-le (c ∷ cs) s a = omega (arith, board-stack (c ∷ cs) s a, board-some cs c s (a .0))
+
+  -- ---- one call
+
+  stack-settled : (q : ℕ) (s : State) (done : Step) → length (done .state .stack) ≤ length (s .stack) + 1 → length (settle q s done .state .stack) ≤ length (s .stack) + 1
+  unfolding settle
+  stack-settled zero s done l = l
+  stack-settled (suc q) s done l = omega arith
+
+  stack-S : (s : State) (cs : List Contraction) → s .stack ≡ cs → length (doesS s cs .state .stack) ≤ length (s .stack) + 1
+  unfolding doesS
+  stack-S s [] q = omega arith
+  stack-S s (c ∷ cs) q = omega (arith, ap length q)
+
+  stack-B : (s : State) (ms : List Move) → length (doesB h s ms .state .stack) ≤ length (s .stack) + 1
+  unfolding doesB
+  stack-B s [] = omega arith
+  stack-B s (m ∷ ms) = omega arith
+
+  pub stack-call : (ceiling : ℕ → ℕ) (s : State) (c : Call) → length (callUnder h ceiling s c .state .stack) ≤ length (s .stack) + 1
+  unfolding callUnder doesJ contract doesM doesW doesP doesA
+  stack-call ceiling s (callJ u v) = stack-settled (refusesJ h s u v) s (doesJ h s u v) (omega arith)
+  stack-call ceiling s callS = stack-S s (s .stack) refl
+  stack-call ceiling s (callM v t) = stack-settled (refusesM h ceiling s v t) s (doesM h s v t) (omega arith)
+  stack-call ceiling s callB = stack-B s (s .journal)
+  stack-call ceiling s (callW u v) = stack-settled (refusesW h s u v) s (doesW h ceiling s u v) (omega arith)
+  stack-call ceiling s callP = omega arith
+  stack-call ceiling s callA = stack-settled (refusesA h s (s .stack)) s (doesA h ceiling s) (omega arith)
 
   -- ---- the journal: what holds of an empty one, is kept by an accepted M and by dropping the last move, holds after each call
   module _ (Q : ℕ → List Move → Type 0) (empty : (n : ℕ) → Q n []) (later : (n : ℕ) (ms : List Move) → Q n ms → Q (suc n) ms)

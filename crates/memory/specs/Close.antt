@@ -2,21 +2,19 @@
 -- closing report fit into the 60,000 bytes lent. Rests on edit_calls's Steps, on report's Closing and on guarantees' ReportFits. Assumes nothing.
 use Prim.Native.Nat.{ℕ, _+_, _<_, _≤_}
 use native.Mathlib.Omega.{arith}
-use mathlib.Core.Path.{_≡_, sym, ap, _∙_}
+use mathlib.Core.Path.{_≡_, sym, ap}
 use mathlib.Core.List.{List, [], _∷_, _++_}
 use lib.IntN.{ℤ}
 use lib.ListN.{length, length-append}
 use Rattle.model.specs.Catalogue.{Limits, Hypergraph, drafted}
-use Rattle.model.specs.Measure.{Contraction, metric}
+use Rattle.model.specs.Measure.{metric}
 use Rattle.model.specs.Machine.{Call, State, fresh}
 use Rattle.model.specs.Search.{call}
 use Rattle.model.specs.Report.{answerRow, closing}
 use Rattle.model.specs.Engine.{after, answers, run}
 use Rattle.model.specs.Lent.{Two}
 use Rattle.model.specs.Demand.{Accepted}
-use Rattle.guarantees.specs.StateBounds.{stack-le}
 use Rattle.guarantees.specs.ReportFits.{report-fits}
-use Rattle.operations.specs.Pairs.{pairs-length}
 use Rattle.operations.specs.Tables.{Tables, tables, Sound}
 use Rattle.edit_calls.specs.Steps.{Runs}
 use Rattle.report.specs.Closing.{Ended}
@@ -50,7 +48,7 @@ module _ {counts visited pins sizes bits blocks weights aboves loads netWeights 
     sound = r .sound;
     into = S .xs;
     stack-is = sym (r .stack-is);
-    stack-fits = let f = r .sound .follows in omega (arith, pairs-length {A = Contraction} (λ u v. record { into = u; gone = v }) (S .xs) (S .ys) (S .len), ap length (r .stack-is), stack-le h (s .stack) (f .says .sound) (r .sound .inside), f .says .all-vertices, f .world .frame .few-vertices);
+    stack-fits = r .stack-whole .short;
     draft-is = q;
   }
 

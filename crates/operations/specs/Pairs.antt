@@ -1,12 +1,12 @@
 -- The contraction stack and the move journal as two arrays and a length: one pair more or less, and zeros from the length on. Rests on
 -- model's Lent. Assumes nothing.
 use Prim.Native.Nat.{ℕ, zero, suc, _+_, _-_, _<_, _≤_}
-use native.Mathlib.Decide.{ℕ-discrete, decLt}
+use native.Mathlib.Decide.{ℕ-discrete}
 use native.Mathlib.Numerals.{add-one}
 use native.Mathlib.Omega.{arith}
 use mathlib.Core.Path.{_≡_, refl, sym, ap, ap₂, _∙_}
 use mathlib.Core.List.{List, [], _∷_}
-use lib.ListN.{length, getD, set, replicate, length-set, length-replicate, List·getD-eq-default}
+use lib.ListN.{length, getD, set, replicate, length-set, length-replicate}
 use lib.Seq.{getD-set-same, getD-set-other}
 use Rattle.laws.specs.Fold.{zeros-get}
 use Rattle.model.specs.Lent.{Two, pairs, ZeroPast}
@@ -46,49 +46,34 @@ unfolding pairs
 pairs-length make xs ys zero = refl
 pairs-length make xs ys (suc i) = ap suc (pairs-length make xs ys i)
 
--- ---- zeros past the length
--- the first n entries of an array, and zeros past them
-pub record Zeroed (n : ℕ) (l l′ : List ℕ) : Type 0 where
-  pub len : length l′ ≡ length l
+-- ---- as the list's entry returns them
+-- the first n entries of a short array, and zeros past them
+pub record Lengthened (n : ℕ) (l l′ : List ℕ) : Type 0 where
+  pub len : length l′ ≡ 1024
   pub kept : (i : ℕ) → i < n → getD l′ i 0 ≡ getD l i 0
   pub zeros : (i : ℕ) → n ≤ i → getD l′ i 0 ≡ 0
 
--- the entries from n on to i are zeros
-pub record ZeroedTo (i n : ℕ) (l l′ : List ℕ) : Type 0 where
-  pub begun : n ≤ i
-  pub len : length l′ ≡ length l
-  pub kept : (j : ℕ) → j < n → getD l′ j 0 ≡ getD l j 0
-  pub zeros : (j : ℕ) → n ≤ j → j < i → getD l′ j 0 ≡ 0
+pub lengthened-none : (l : List ℕ) → Lengthened 0 l (replicate 1024 0)
+lengthened-none l = record { len = length-replicate {A = ℕ} 1024 0; kept = λ i q. absurd (omega arith); zeros = λ i q. zeros-get 1024 i }
 
-pub zeroed-none : (n : ℕ) (l : List ℕ) → ZeroedTo n n l l
-zeroed-none n l = record { begun = omega arith; len = refl; kept = λ j q. refl; zeros = λ j q r. absurd (omega arith) }
-
-pub zeroed-more : {i n : ℕ} {l l′ : List ℕ} → i < length l → ZeroedTo i n l l′ → ZeroedTo (i + 1) n l (set l′ i 0)
-zeroed-more {i} {n} {l} {l′} q z = record {
-  begun = omega (arith, z .begun);
-  len = length-set l′ i 0 ∙ z .len;
-  kept = λ j r. getD-set-other l′ i j 0 0 (λ e. omega (arith, z .begun)) ∙ z .kept j r;
-  zeros = λ j r s. go j r s (ℕ-discrete j i);
+pub lengthened-more : {n : ℕ} {l l′ : List ℕ} (x : ℕ) → n < 1024 → x ≡ getD l n 0 → Lengthened n l l′ → Lengthened (n + 1) l (set l′ n x)
+lengthened-more {n} {l} {l′} x q e z = record {
+  len = length-set l′ n x ∙ z .len;
+  kept = λ i r. go i r (ℕ-discrete i n);
+  zeros = λ i r. getD-set-other l′ n i x 0 (λ d. omega arith) ∙ z .zeros i (omega arith);
 }
   where
-    go : (j : ℕ) → n ≤ j → j < i + 1 → Dec (j ≡ i) → getD (set l′ i 0) j 0 ≡ 0
-    go j r s (yes e) = ap (λ (k : ℕ). getD (set l′ i 0) k 0) e ∙ getD-set-same l′ i 0 0 (omega (arith, z .len))
-    go j r s (no e) = getD-set-other l′ i j 0 0 e ∙ z .zeros j r (omega arith)
-
-pub zeroed-all : {i n : ℕ} {l l′ : List ℕ} → length l ≤ i → ZeroedTo i n l l′ → Zeroed n l l′
-zeroed-all {i} {n} {l} {l′} q z = record { len = z .len; kept = z .kept; zeros = λ j r. go j r (decLt j i) }
-  where
-    go : (j : ℕ) → n ≤ j → Dec (j < i) → getD l′ j 0 ≡ 0
-    go j r (yes s) = z .zeros j r s
-    go j r (no s) = List·getD-eq-default l′ 0 (omega (arith, z .len))
+    go : (i : ℕ) → i < n + 1 → Dec (i ≡ n) → getD (set l′ n x) i 0 ≡ getD l i 0
+    go i r (yes d) = ap (λ (k : ℕ). getD (set l′ n x) k 0) d ∙ getD-set-same l′ n x 0 (omega (arith, z .len)) ∙ e ∙ ap (λ (k : ℕ). getD l k 0) (sym d)
+    go i r (no d) = getD-set-other l′ n i x 0 d ∙ z .kept i (omega arith)
 
 -- a struct so returned stands for the same pairs
-pub zeroed-pairs : {A : Type 0} (make : ℕ → ℕ → A) {S S′ : Two} → Zeroed (S .len) (S .xs) (S′ .xs) → Zeroed (S .len) (S .ys) (S′ .ys) → S′ .len ≡ S .len
+pub long-pairs : {A : Type 0} (make : ℕ → ℕ → A) {S S′ : Two} → Lengthened (S .len) (S .xs) (S′ .xs) → Lengthened (S .len) (S .ys) (S′ .ys) → S′ .len ≡ S .len
     → pairs make (S′ .xs) (S′ .ys) (S′ .len) ≡ pairs make (S .xs) (S .ys) (S .len)
-zeroed-pairs make {S} {S′} x y e = ap (pairs make (S′ .xs) (S′ .ys)) e ∙ pairs-ext make (S .xs) (S′ .xs) (S .ys) (S′ .ys) (S .len) (λ j l. (x .kept j l, y .kept j l))
+long-pairs make {S} {S′} x y e = ap (pairs make (S′ .xs) (S′ .ys)) e ∙ pairs-ext make (S .xs) (S′ .xs) (S .ys) (S′ .ys) (S .len) (λ j l. (x .kept j l, y .kept j l))
 
-pub zero-past : {S S′ : Two} → length (S .xs) ≡ 1024 → length (S .ys) ≡ 1024 → Zeroed (S .len) (S .xs) (S′ .xs) → Zeroed (S .len) (S .ys) (S′ .ys) → S′ .len ≡ S .len → ZeroPast S′
-zero-past lx ly x y e = record { xs-long = x .len ∙ lx; ys-long = y .len ∙ ly; xs-zero = λ i q. x .zeros i (omega (arith, e)); ys-zero = λ i q. y .zeros i (omega (arith, e)) }
+pub zero-past : {S S′ : Two} → Lengthened (S .len) (S .xs) (S′ .xs) → Lengthened (S .len) (S .ys) (S′ .ys) → S′ .len ≡ S .len → ZeroPast S′
+zero-past x y e = record { xs-long = x .len; ys-long = y .len; xs-zero = λ i q. x .zeros i (omega (arith, e)); ys-zero = λ i q. y .zeros i (omega (arith, e)) }
 
 -- as it is made
 pub zero-new : {S : Two} → S .xs ≡ replicate 1024 0 → S .ys ≡ replicate 1024 0 → ZeroPast S

@@ -1,34 +1,47 @@
-// The contraction stack and the move journal: structs by value, whose methods return the new state.
+// The contraction stack and the move journal: structs by value, whose methods return the new state. A list has at most 512 calls, so a call's have
+// 512 entries; the long ones, of 1,024, are A's own contractions and what the list's entry returns.
 ghost use Prim.Native.Nat.{_+_, _-_, _<_, _≤_};
 ghost use mathlib.Core.Path.{_≡_};
 ghost use lib.ListN.{length, replicate};
-ghost use Rattle.operations.specs.Pairs.{Pushed, Zeroed};
+ghost use Rattle.operations.specs.Pairs.{Pushed, Lengthened};
 
 // The joins that stand, the latest last: `gone[i]` was contracted into `into[i]`.
-#[repr(C)]
 pub struct Stack {
+    pub into: [u16; 512],
+    pub gone: [u16; 512],
+    pub len: usize,
+}
+
+// The moves on the record, the latest last: `vertices[i]` left `blocks[i]`.
+pub struct Journal {
+    pub vertices: [u16; 512],
+    pub blocks: [u16; 512],
+    pub len: usize,
+}
+
+#[repr(C)]
+pub struct LongStack {
     pub into: [u16; 1024],
     pub gone: [u16; 1024],
     pub len: usize,
 }
 
-// The moves on the record, the latest last: `vertices[i]` left `blocks[i]`.
 #[repr(C)]
-pub struct Journal {
+pub struct LongJournal {
     pub vertices: [u16; 1024],
     pub blocks: [u16; 1024],
     pub len: usize,
 }
 
 // The first n entries, and zeros past them.
-fn zeroed_from(xs: [u16; 1024], n: usize) -> [u16; 1024]
-    requires { ⌜ length xs ≡ 1024 ⌝ }
-    ensures { λ r. ⌜ Zeroed n xs r ⌝ }
+fn lengthened(xs: [u16; 512], n: usize) -> [u16; 1024]
+    requires { ⌜ (length xs ≡ 512) × (n ≤ 512) ⌝ }
+    ensures { λ r. ⌜ Lengthened n xs r ⌝ }
 {
-    let mut ys = xs;
-    let mut i = n;
-    while i < 1024 {
-        ys[i] = 0;
+    let mut ys = [0u16; 1024];
+    let mut i: usize = 0;
+    while i < n {
+        ys[i] = xs[i];
         i += 1;
     }
     ys
@@ -36,10 +49,10 @@ fn zeroed_from(xs: [u16; 1024], n: usize) -> [u16; 1024]
 
 impl Stack {
     pub fn new() -> Stack
-        ensures { λ r. ⌜ (length (r .into) ≡ 1024) × (length (r .gone) ≡ 1024) × (r .len ≡ 0) × (r .into ≡ replicate 1024 0) × (r .gone ≡ replicate 1024 0) ⌝ }
+        ensures { λ r. ⌜ (length (r .into) ≡ 512) × (length (r .gone) ≡ 512) × (r .len ≡ 0) ⌝ }
     {
-        let into = [0u16; 1024];
-        let gone = [0u16; 1024];
+        let into = [0u16; 512];
+        let gone = [0u16; 512];
         Stack {
             into: into,
             gone: gone,
@@ -49,7 +62,7 @@ impl Stack {
 
     // With the contraction of `v` into `u` on top.
     pub fn push(self, u: u16, v: u16) -> Stack
-        requires { ⌜ (self .len < 1024) × (length (self .into) ≡ 1024) × (length (self .gone) ≡ 1024) ⌝ }
+        requires { ⌜ (self .len < 512) × (length (self .into) ≡ 512) × (length (self .gone) ≡ 512) ⌝ }
         ensures { λ r. ⌜ Pushed (self .into) (self .gone) (self .len) u v (r .into) (r .gone) (r .len) ⌝ }
     {
         let mut s = self;
@@ -70,17 +83,17 @@ impl Stack {
         s
     }
 
-    // With zeros past its length.
-    pub fn zeroed(self) -> Stack
-        requires { ⌜ (length (self .into) ≡ 1024) × (length (self .gone) ≡ 1024) ⌝ }
-        ensures { λ r. ⌜ Zeroed (self .len) (self .into) (r .into) × Zeroed (self .len) (self .gone) (r .gone) × (r .len ≡ self .len) ⌝ }
+    // As the list's entry returns it, with zeros past its length.
+    pub fn long(self) -> LongStack
+        requires { ⌜ (length (self .into) ≡ 512) × (length (self .gone) ≡ 512) × (self .len ≤ 512) ⌝ }
+        ensures { λ r. ⌜ Lengthened (self .len) (self .into) (r .into) × Lengthened (self .len) (self .gone) (r .gone) × (r .len ≡ self .len) ⌝ }
     {
         let len = self.len;
         let u = self.into;
         let v = self.gone;
-        let into = zeroed_from(u, len);
-        let gone = zeroed_from(v, len);
-        Stack {
+        let into = lengthened(u, len);
+        let gone = lengthened(v, len);
+        LongStack {
             into: into,
             gone: gone,
             len: len,
@@ -90,10 +103,10 @@ impl Stack {
 
 impl Journal {
     pub fn new() -> Journal
-        ensures { λ r. ⌜ (length (r .vertices) ≡ 1024) × (length (r .blocks) ≡ 1024) × (r .len ≡ 0) × (r .vertices ≡ replicate 1024 0) × (r .blocks ≡ replicate 1024 0) ⌝ }
+        ensures { λ r. ⌜ (length (r .vertices) ≡ 512) × (length (r .blocks) ≡ 512) × (r .len ≡ 0) ⌝ }
     {
-        let vertices = [0u16; 1024];
-        let blocks = [0u16; 1024];
+        let vertices = [0u16; 512];
+        let blocks = [0u16; 512];
         Journal {
             vertices: vertices,
             blocks: blocks,
@@ -103,7 +116,7 @@ impl Journal {
 
     // With the move of `v` out of block `b` on top.
     pub fn push(self, v: u16, b: u16) -> Journal
-        requires { ⌜ (self .len < 1024) × (length (self .vertices) ≡ 1024) × (length (self .blocks) ≡ 1024) ⌝ }
+        requires { ⌜ (self .len < 512) × (length (self .vertices) ≡ 512) × (length (self .blocks) ≡ 512) ⌝ }
         ensures { λ r. ⌜ Pushed (self .vertices) (self .blocks) (self .len) v b (r .vertices) (r .blocks) (r .len) ⌝ }
     {
         let mut j = self;
@@ -124,17 +137,17 @@ impl Journal {
         j
     }
 
-    // With zeros past its length.
-    pub fn zeroed(self) -> Journal
-        requires { ⌜ (length (self .vertices) ≡ 1024) × (length (self .blocks) ≡ 1024) ⌝ }
-        ensures { λ r. ⌜ Zeroed (self .len) (self .vertices) (r .vertices) × Zeroed (self .len) (self .blocks) (r .blocks) × (r .len ≡ self .len) ⌝ }
+    // As the list's entry returns it, with zeros past its length.
+    pub fn long(self) -> LongJournal
+        requires { ⌜ (length (self .vertices) ≡ 512) × (length (self .blocks) ≡ 512) × (self .len ≤ 512) ⌝ }
+        ensures { λ r. ⌜ Lengthened (self .len) (self .vertices) (r .vertices) × Lengthened (self .len) (self .blocks) (r .blocks) × (r .len ≡ self .len) ⌝ }
     {
         let len = self.len;
         let v = self.vertices;
         let b = self.blocks;
-        let vertices = zeroed_from(v, len);
-        let blocks = zeroed_from(b, len);
-        Journal {
+        let vertices = lengthened(v, len);
+        let blocks = lengthened(b, len);
+        LongJournal {
             vertices: vertices,
             blocks: blocks,
             len: len,
@@ -148,5 +161,46 @@ impl Journal {
         let mut j = self;
         j.len = 0;
         j
+    }
+}
+
+impl LongStack {
+    pub fn new() -> LongStack
+        ensures { λ r. ⌜ (length (r .into) ≡ 1024) × (length (r .gone) ≡ 1024) × (r .len ≡ 0) × (r .into ≡ replicate 1024 0) × (r .gone ≡ replicate 1024 0) ⌝ }
+    {
+        let into = [0u16; 1024];
+        let gone = [0u16; 1024];
+        LongStack {
+            into: into,
+            gone: gone,
+            len: 0,
+        }
+    }
+
+    // With the contraction of `v` into `u` on top.
+    pub fn push(self, u: u16, v: u16) -> LongStack
+        requires { ⌜ (self .len < 1024) × (length (self .into) ≡ 1024) × (length (self .gone) ≡ 1024) ⌝ }
+        ensures { λ r. ⌜ Pushed (self .into) (self .gone) (self .len) u v (r .into) (r .gone) (r .len) ⌝ }
+    {
+        let mut s = self;
+        let at = s.len;
+        s.into[at] = u;
+        s.gone[at] = v;
+        s.len = at + 1;
+        s
+    }
+}
+
+impl LongJournal {
+    pub fn new() -> LongJournal
+        ensures { λ r. ⌜ (length (r .vertices) ≡ 1024) × (length (r .blocks) ≡ 1024) × (r .len ≡ 0) × (r .vertices ≡ replicate 1024 0) × (r .blocks ≡ replicate 1024 0) ⌝ }
+    {
+        let vertices = [0u16; 1024];
+        let blocks = [0u16; 1024];
+        LongJournal {
+            vertices: vertices,
+            blocks: blocks,
+            len: 0,
+        }
     }
 }

@@ -43,7 +43,7 @@ pub record Vertices (h : Hypergraph) (s : State) (blocks aboves gone : List ℕ)
   pub blocks-fit : n ≤ length blocks
   pub into : List ℕ
   pub stack-is : s .stack ≡ stackOf into gone depth
-  pub stack-fits : depth ≤ 1024
+  pub stack-fits : depth ≤ 512
 
 -- v is a vertex of some state that the tables show
 pub record VertexIn (blocks aboves gone : List ℕ) (v depth : ℕ) : Type 0 where
@@ -91,7 +91,7 @@ pub record Ended (h : Hypergraph) (s : State) (blocks aboves visited gone : List
   pub sound : Sound h (s .stack) (s .block) (tables counts visited gains pins sizes bits blocks weights aboves loads netWeights firsts loaded n m k total)
   pub into : List ℕ
   pub stack-is : s .stack ≡ stackOf into gone depth
-  pub stack-fits : depth ≤ 1024
+  pub stack-fits : depth ≤ 512
   pub draft-is : draft ≡ metric h [] (fresh h .block)
 
 -- the closing report fits

@@ -27,8 +27,8 @@ fn number(i: usize) -> u32
 
 // The place of the join of `v` on the stack, whose latest join has place 1. The first `depth` entries of `gone` are the vertices that were joined
 // into others, the latest last. For a vertex on the board it is `depth`.
-fn join_place(gone: &[u16; 1024], depth: usize, v: usize) -> usize
-    requires { ⌜ depth ≤ 1024 ⌝ }
+fn join_place(gone: &[u16; 512], depth: usize, v: usize) -> usize
+    requires { ⌜ depth ≤ 512 ⌝ }
     ensures { λ r. ⌜ ((into : List ℕ) → r ≡ joinPlace (stackOf into (now (gone .entry)) depth) v) ⌝ }
 {
     let mut i = depth;
@@ -57,7 +57,7 @@ fn representative(aboves: &[u16], v: usize, steps: usize) -> usize
 }
 
 // The block of the vertex that stands for `v`. Each vertex above another was joined later, so the place of its join bounds the climb.
-fn block_of(blocks: &[u16], aboves: &[u16], gone: &[u16; 1024], v: usize, depth: usize) -> u32
+fn block_of(blocks: &[u16], aboves: &[u16], gone: &[u16; 512], v: usize, depth: usize) -> u32
     requires { ⌜ VertexIn (now blocks) (now aboves) (now gone) v depth ⌝ }
     ensures { λ r. ⌜ ((h : Hypergraph) (s : State) (n : ℕ) → Vertices h s (now (blocks .entry)) (now (aboves .entry)) (now (gone .entry)) n depth → v ≤ n
         → r ≡ s .block (standsFor (s .stack) v)) ⌝ }
@@ -82,7 +82,7 @@ fn put_lots(
     at: usize,
     blocks: &[u16],
     aboves: &[u16],
-    gone: &[u16; 1024],
+    gone: &[u16; 512],
     n: usize,
     depth: usize,
 ) -> usize
@@ -138,7 +138,7 @@ pub fn put_closing(
     blocks: &[u16],
     aboves: &[u16],
     visited: &[u16],
-    gone: &[u16; 1024],
+    gone: &[u16; 512],
     n: usize,
     m: usize,
     depth: usize,

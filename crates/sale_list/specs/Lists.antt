@@ -28,7 +28,7 @@ use Rattle.loader.specs.declared.Loaded.{Loaded}
 use Rattle.loader.specs.declared.Loaded.the-variants.{Accepted, Refused}
 use Rattle.loader.specs.Tables.{graph, seen, Loads}
 use Rattle.fields.specs.Wrote.{Wrote}
-use Rattle.operations.specs.Pairs.{Zeroed, zeroed-pairs, zero-past, zero-new}
+use Rattle.operations.specs.Pairs.{Lengthened, long-pairs, zero-past, zero-new}
 use Rattle.sale.specs.Sale.{Listed as ListedCalls, Sold}
 use Rattle.sale.specs.Reported.{written-all}
 
@@ -141,12 +141,12 @@ idle {S = S} {J = J} s sx sy j jx jy t = record { no-joins = s; no-moves = j; ze
 module _ (list out : List ℕ) (counts : List ℕ) (gains : List ℤ) (index visited : List ℕ) {limits : Limits} {file : List ℕ} {old new : Lists} {nw lo calls : List ℕ} {r : Loaded} (l : Loads limits file r old new nw lo calls) where
   -- the catalogue is accepted; the stack and the journal are returned with zeros past their lengths
   pub list-worked : {z : Sizes} (e : r ≡ Accepted z) {new′ : Lent} {out′ : List ℕ} {S S′ J J′ : Two} {n m draft total at : ℕ} → Sold limits (graph z new nw lo) (listCalls list) (lent old counts gains index visited) new′ out out′ S J n m draft total at
-      → Zeroed (S .len) (S .xs) (S′ .xs) × Zeroed (S .len) (S .ys) (S′ .ys) × (S′ .len ≡ S .len)
-      → Zeroed (J .len) (J .xs) (J′ .xs) × Zeroed (J .len) (J .ys) (J′ .ys) × (J′ .len ≡ J .len)
+      → Lengthened (S .len) (S .xs) (S′ .xs) × Lengthened (S .len) (S .ys) (S′ .ys) × (S′ .len ≡ S .len)
+      → Lengthened (J .len) (J .xs) (J′ .xs) × Lengthened (J .len) (J .ys) (J′ .ys) × (J′ .len ≡ J .len)
       → ListWorked limits (parse limits file) (listCalls list) (memory out (lent old counts gains index visited)) (memory out′ new′) (returned 0 at total S′ J′)
   list-worked {z} e {new′} {out′} {S} {S′} {J} {J′} {total = total} {at = at} s zs zj =
-      let stack-same = sym (zeroed-pairs {A = Contraction} (λ u v. record { into = u; gone = v }) {S = S} {S′ = S′} (zs .0) (zs .1) (zs .2)) in
-      let journal-same = sym (zeroed-pairs {A = Move} (λ v b. record { vertex = v; from = b }) {S = J} {S′ = J′} (zj .0) (zj .1) (zj .2)) in
+      let stack-same = sym (long-pairs {A = Contraction} (λ u v. record { into = u; gone = v }) {S = S} {S′ = S′} (zs .0) (zs .1) (zs .2)) in
+      let journal-same = sym (long-pairs {A = Move} (λ v b. record { vertex = v; from = b }) {S = J} {S′ = J′} (zj .0) (zj .1) (zj .2)) in
       subst (λ (x : Reading). ListWorked limits x (listCalls list) (memory out (lent old counts gains index visited)) (memory out′ new′) (returned 0 at total S′ J′)) (ap (λ (x : Loaded). seen (l .estimated) x new nw lo calls) (sym e) ∙ l .says)
       (record {
         code-is = refl;
@@ -157,8 +157,8 @@ module _ (list out : List ℕ) (counts : List ℕ) (gains : List ℤ) (index vis
         first-is-best = s .first-is-best;
         every-count = every-count limits (graph z new nw lo) (s .demand .accepted) (listCalls list);
         output = written-all (s .wrote);
-        stack-whole = zero-past {S = S} {S′ = S′} (s .stack-whole .xs-whole) (s .stack-whole .ys-whole) (zs .0) (zs .1) (zs .2);
-        journal-whole = zero-past {S = J} {S′ = J′} (s .journal-whole .xs-whole) (s .journal-whole .ys-whole) (zj .0) (zj .1) (zj .2);
+        stack-whole = zero-past {S = S} {S′ = S′} (zs .0) (zs .1) (zs .2);
+        journal-whole = zero-past {S = J} {S′ = J′} (zj .0) (zj .1) (zj .2);
       })
 
   -- it is refused

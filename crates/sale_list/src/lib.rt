@@ -11,8 +11,8 @@ ghost use Rattle.sale.specs.Files.{Long};
 use any_call::kinds::is_contracting;
 use any_call::kinds::is_moving;
 use loader::Loaded;
-use operations::pairs::Journal;
-use operations::pairs::Stack;
+use operations::pairs::LongJournal;
+use operations::pairs::LongStack;
 use sale::closing::refuse;
 use sale::sell;
 
@@ -22,8 +22,8 @@ pub struct ListRan {
     pub code: u32,
     pub written: usize,
     pub total: u32,
-    pub stack: Stack,
-    pub journal: Journal,
+    pub stack: LongStack,
+    pub journal: LongJournal,
 }
 
 // Is this the letter of a call.
@@ -123,8 +123,8 @@ pub fn work_list(
         Loaded::Refused(q, line) => {
             let end = refuse(output, q, line);
             let number = q as u32;
-            let none = Stack::new();
-            let unmoved = Journal::new();
+            let none = LongStack::new();
+            let unmoved = LongJournal::new();
             ListRan {
                 code: number,
                 written: end,
@@ -156,8 +156,8 @@ pub fn work_list(
             );
             let joins = s.stack;
             let moves = s.journal;
-            let stack = joins.zeroed();
-            let journal = moves.zeroed();
+            let stack = joins.long();
+            let journal = moves.long();
             ListRan {
                 code: 0,
                 written: s.at,

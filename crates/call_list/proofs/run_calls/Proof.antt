@@ -35,7 +35,7 @@ new-requires-2 : tie.Need-new-requires-2 Inv-loop μ-loop
 new-requires-2 c κs = search needs
 
 loop-holds : tie.Need-loop-holds Inv-loop μ-loop
-loop-holds c = (λ limits h first r b. done-none _ b r (record { whole = record { xs-whole = c .before .new .ensures .0; ys-whole = c .before .new .ensures .1 }; none = c .before .new .ensures .2 }) (record { whole = record { xs-whole = c .new2 .ensures .0; ys-whole = c .new2 .ensures .1 }; none = c .new2 .ensures .2 }), refl, refl, refl, refl, refl, refl, refl, refl, refl, refl, refl, omega arith)
+loop-holds c = (λ limits h first r b. done-none _ b r (record { whole = record { xs-whole = c .before .new .ensures .0; ys-whole = c .before .new .ensures .1; short = omega (arith, c .before .new .ensures .2) }; none = c .before .new .ensures .2 }) (record { whole = record { xs-whole = c .new2 .ensures .0; ys-whole = c .new2 .ensures .1; short = omega (arith, c .new2 .ensures .2) }; none = c .new2 .ensures .2 }), refl, refl, refl, refl, refl, refl, refl, refl, refl, refl, refl, omega arith)
 
 mul-at : tie.Need-mul-at Inv-loop μ-loop
 mul-at c =

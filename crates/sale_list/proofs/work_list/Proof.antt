@@ -63,8 +63,8 @@ sell-requires c κs =
       listed = list-listed _ (start .pre .1) (long .spacious);
     }
 
-zeroed-requires : tie.Need-zeroed-requires
-zeroed-requires c κs =
+long-requires : tie.Need-long-requires
+long-requires c κs =
     let at-sell = c .before .before .before .before .before .before .before .before .before .before .before .before .before .before .before .before .before .before .before .before .before in
     let at-z = at-sell .before .before .before .before .before .before .before .before .before .before .before .before .before .before .before .before in
     let at-load = at-z .before .before .before .before .before .before .before .before .before .before .before .before .before .before .before .before .before .before .before .before .before in
@@ -73,10 +73,10 @@ zeroed-requires c κs =
     let loads = at-load .load .ensures in
     let accepted = at-z .z .given .1 in
     let sold = (at-sell .sell .ensures _ _ _ _ _ (catalogued long loads accepted) (list-listed _ (start .pre .1) (long .spacious))) in
-    (sold .stack-whole .xs-whole, sold .stack-whole .ys-whole)
+    (sold .stack-whole .xs-whole, sold .stack-whole .ys-whole, sold .stack-whole .short)
 
-zeroed-requires-2 : tie.Need-zeroed-requires-2
-zeroed-requires-2 c κs =
+long-requires-2 : tie.Need-long-requires-2
+long-requires-2 c κs =
     let at-sell = c .before .before .before .before .before .before .before .before .before .before .before .before .before .before .before .before .before .before .before .before .before .before in
     let at-z = at-sell .before .before .before .before .before .before .before .before .before .before .before .before .before .before .before .before in
     let at-load = at-z .before .before .before .before .before .before .before .before .before .before .before .before .before .before .before .before .before .before .before .before .before in
@@ -85,7 +85,7 @@ zeroed-requires-2 c κs =
     let loads = at-load .load .ensures in
     let accepted = at-z .z .given .1 in
     let sold = (at-sell .sell .ensures _ _ _ _ _ (catalogued long loads accepted) (list-listed _ (start .pre .1) (long .spacious))) in
-    (sold .journal-whole .xs-whole, sold .journal-whole .ys-whole)
+    (sold .journal-whole .xs-whole, sold .journal-whole .ys-whole, sold .journal-whole .short)
 
 same-length : tie.Need-same-length
 same-length c = search needs
@@ -206,7 +206,7 @@ returns-2 c =
     let long = start .pre .0 in
     let loads = at-load .load .ensures in
     let accepted = at-z .z .given .1 in
-    list-worked (now (start .args .list)) _ _ _ _ _ loads accepted (at-sell .sell .ensures _ _ _ _ _ (catalogued long loads accepted) (list-listed _ (start .pre .1) (long .spacious))) (c .before .zeroed .ensures) (c .zeroed2 .ensures)
+    list-worked (now (start .args .list)) _ _ _ _ _ loads accepted (at-sell .sell .ensures _ _ _ _ _ (catalogued long loads accepted) (list-listed _ (start .pre .1) (long .spacious))) (c .before .long .ensures) (c .long2 .ensures)
 
 pub work-list-spec : {M : Type 1} → statement M
 work-list-spec =
@@ -222,8 +222,8 @@ work-list-spec =
     enum-known-z
     slice-aggregate-sell
     sell-requires
-    zeroed-requires
-    zeroed-requires-2
+    long-requires
+    long-requires-2
     same-length
     same-length-2
     same-length-3

@@ -150,7 +150,7 @@ returns-2 c =
     let at-if1 = at-narrow .before in
     let at-refuses-join = at-if1 .before in
     let start = at-refuses-join .before .before .before .before .before .before .before .before .before .before .before .before .before in
-    (λ loads loaded h ceiling. accepted-J h _ _ _ _ _ _ (start .args .u) (start .args .v) (sym (at-refuses-join .refuses-join .ensures) ∙ at-if1 .if1 .left) refl (at-join .join .ensures loads loaded) (pushed-as (at-push .push .ensures) (at-narrow .narrow .ensures) (at-narrow2 .narrow2 .ensures)) (record { xs-same = at-clear .clear .ensures .0; ys-same = at-clear .clear .ensures .1; len-is = at-clear .clear .ensures .2 }) _ refl, right-J (start .pre .0 .ready .runs .sound) ((pair-of (now (start .args .blocks)) (start .args .n) (start .args .u) (start .args .v) (sym (at-refuses-join .refuses-join .ensures) ∙ at-if1 .if1 .left)) .1) (at-join .join .ensures (start .pre .0 .loads) (start .pre .0 .loaded)) (at-put-two-right .put-two-right .ensures))
+    (λ loads loaded h ceiling. accepted-J h _ _ _ _ _ _ (start .args .u) (start .args .v) (sym (at-refuses-join .refuses-join .ensures) ∙ at-if1 .if1 .left) refl (at-join .join .ensures loads loaded) (start .pre .0 .ready .stack-room) (pushed-as (at-push .push .ensures) (at-narrow .narrow .ensures) (at-narrow2 .narrow2 .ensures)) (record { xs-same = at-clear .clear .ensures .0; ys-same = at-clear .clear .ensures .1; len-is = at-clear .clear .ensures .2 }) _ refl, right-J (start .pre .0 .ready .runs .sound) ((pair-of (now (start .args .blocks)) (start .args .n) (start .args .u) (start .args .v) (sym (at-refuses-join .refuses-join .ensures) ∙ at-if1 .if1 .left)) .1) (at-join .join .ensures (start .pre .0 .loads) (start .pre .0 .loaded)) (at-put-two-right .put-two-right .ensures))
 
 pub call-join-spec : {M : Type 1} → statement M
 call-join-spec =
