@@ -18,7 +18,7 @@ part-under : (gains peaks : List ℤ) (n k c v b : ℕ) → Peaked gains peaks n
     → ltZ (getD peaks c (pos 0)) (gainIn gains v b) ≡ false
 part-under gains peaks n k c v b p l u lb ub =
     let e : (v - 1) / 64 ≡ c = omega arith in
-    subst (λ (x : ℕ). ltZ (getD peaks x (pos 0)) (gainIn gains v b) ≡ false) e (p .under (v - 1) (b - 1) (omega arith) (omega arith))
+    subst (λ (x : ℕ). ltZ (getD peaks x (pos 0)) (gainIn gains v b) ≡ false) e (p .under (v - 1) (b - 1) (omega arith) (omega arith) .0)
 
 pub passed-over : (may : ℕ → ℕ → Bool) (gains peaks : List ℤ) (n k c : ℕ) (lead : Lead) → Peaked gains peaks n k → 64 * c < n → mag (getD peaks c (pos 0)) < 2 ^ 31
     → ltZ (lead .top) (getD peaks c (pos 0)) ≡ false → Leads lead (bestTo may (gainIn gains) k (64 * c)) → Leads lead (bestTo may (gainIn gains) k (lesser (64 * c + 64) n))

@@ -23,11 +23,13 @@ pub record Rooms (loads ceilings : List ℕ) (k : ℕ) (rooms : List ℕ) : Type
 abbrev pub Least : ℤ → ℤ → Type 0
 Least top low = (gain : ℤ) → mag gain < 2 ^ 31 → leZ low gain ≡ false → ltZ top gain ≡ false
 
--- the gain to block b is below `low`, or the block has no room for the weight, or it is the vertex's own
+-- the gain to block b is not above a number that is below `low`, or the block has no room for the weight, or it is the vertex's own
 pub record NotBetter (gains : List ℤ) (rooms : List ℕ) (row : ℕ) (low : ℤ) (weight own b : ℕ) : Type 0 where
-  pub fits : mag (getD gains (row + b) (pos 0)) < 2 ^ 31
+  pub bound : ℤ
+  pub fits : mag bound < 2 ^ 31
+  pub under : ltZ bound (getD gains (row + b) (pos 0)) ≡ false
   pub light : weight < 2 ^ 32
-  pub shut : (leZ low (getD gains (row + b) (pos 0)) && (leb weight (getD rooms b 0) && not (eqb own (b + 1)))) ≡ false
+  pub shut : (leZ low bound && (leb weight (getD rooms b 0) && not (eqb own (b + 1)))) ≡ false
 
 -- what the search of one part asks of the tables' lengths
 pub record PartOk (gains blocks weights first size k : ℕ) : Type 0 where

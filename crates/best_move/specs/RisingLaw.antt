@@ -1,6 +1,6 @@
 -- What a failed test of a vertex's gains says: none of its pairs is better than the best one so far. Rests on Rising and OpenLaw.
 -- Assumes nothing.
-use mathlib.Core.Path.{_≡_, refl, sym, ap, _∙_, subst}
+use mathlib.Core.Path.{_≡_, refl, sym, ap, ap₂, _∙_, subst}
 use mathlib.Core.Bool.{Bool, true, false, not, _&&_, _||_, true≢false}
 use mathlib.Core.List.{List}
 use mathlib.Core.Logic.{⊎-elim}
@@ -14,7 +14,7 @@ use lib.IntN.{ℤ, pos, negsuc, _+ℤ_}
 use lib.Signed.{mag, ltZ, leZ}
 use mir.Syntax.{w32, w64}
 use mir.Val.{SFits, ofZ, toZ}
-use borrow.Author.Tests.{leb-true, leb-false, le-leb, eqb-true}
+use borrow.Author.Tests.{ltb-true, leb-true, leb-false, le-leb, eqb-true}
 use Rattle.laws.specs.Bit.{bit}
 use Rattle.laws.specs.Choice.{and-left, and-right, or-none}
 use Rattle.laws.specs.Integer.{up, dn, add-is, pos-is, abs-is, lt-test, lt-test-no, le-test-no, one-zero, read32}
@@ -24,7 +24,7 @@ use Rattle.best_move.specs.declared.open.Lead.{Lead}
 use Rattle.model.specs.Search.{Best}
 use Rattle.best_move.specs.Open.{gainIn, mayGo, openIn, bestInRow, bestTo, Leads}
 use Rattle.best_move.specs.OpenLaw.{read64, Topped, lead-rests, candidate-more}
-use Rattle.best_move.specs.Peak.{lesser}
+use Rattle.best_move.specs.Peak.{lesser, not-below, not-itself}
 use Rattle.best_move.specs.Rising.{RoomFor, Rooms, Least, NotBetter, Passed}
 
 -- ---- rooms
@@ -90,10 +90,24 @@ module _ (top : ℤ) (f : mag top < 2 ^ 63) (lo : ltZ (toZ w64 (ofZ w64 top)) (n
 
 -- ---- one vertex
 
--- the test of a block failed: the vertex may not go there, or gains no more than the best
-not-better-stays : (gains : List ℤ) (loads ceilings rooms : List ℕ) (k row weight own b : ℕ) (top low : ℤ) → b < k → Rooms loads ceilings k rooms → Least top low → NotBetter gains rooms row low weight own b
-    → mayGo (getD loads b 0) own weight (getD ceilings b 0) (b + 1) ≡ true → ltZ top (getD gains (row + b) (pos 0)) ≡ false
-not-better-stays gains loads ceilings rooms k row weight own b top low l h least s may = least (getD gains (row + b) (pos 0)) (s .fits) (go (leZ low (getD gains (row + b) (pos 0))) refl)
+less-not : (low peak : ℤ) → ltZ peak low ≡ true → leZ low peak ≡ false
+less-not (pos a) (pos b) t = go (leb a b) refl
+  where
+    go : (d : Bool) → leb a b ≡ d → leb a b ≡ false
+    go true e = absurd (omega (arith, ltb-true b a t, leb-true a b e))
+    go false e = e
+less-not (pos a) (negsuc b) t = refl
+less-not (negsuc a) (pos b) t = absurd (true≢false (sym t))
+less-not (negsuc a) (negsuc b) t = go (leb b a) refl
+  where
+    go : (d : Bool) → leb b a ≡ d → leb b a ≡ false
+    go true e = absurd (omega (arith, ltb-true a b t, leb-true b a e))
+    go false e = e
+
+-- the test of a block failed: the vertex may not go there, or what bounds its gain is no more than the best
+not-better-stays : (gains : List ℤ) (loads ceilings rooms : List ℕ) (k row weight own b : ℕ) (top low : ℤ) → b < k → Rooms loads ceilings k rooms → Least top low → (s : NotBetter gains rooms row low weight own b)
+    → mayGo (getD loads b 0) own weight (getD ceilings b 0) (b + 1) ≡ true → ltZ top (s .bound) ≡ false
+not-better-stays gains loads ceilings rooms k row weight own b top low l h least s may = least (s .bound) (s .fits) (go (leZ low (s .bound)) refl)
   where
     other : not (eqb own (b + 1)) ≡ true
     other = and-left (not (eqb own (b + 1))) (leb (getD loads b 0 + weight) (getD ceilings b 0)) may
@@ -101,14 +115,19 @@ not-better-stays gains loads ceilings rooms k row weight own b top low l h least
     room : leb weight (getD rooms b 0) ≡ true
     room = le-leb weight (getD rooms b 0) (h .fits b l weight (s .light) (leb-true _ _ (and-right (not (eqb own (b + 1))) (leb (getD loads b 0 + weight) (getD ceilings b 0)) may)))
 
-    go : (t : Bool) → leZ low (getD gains (row + b) (pos 0)) ≡ t → leZ low (getD gains (row + b) (pos 0)) ≡ false
+    go : (t : Bool) → leZ low (s .bound) ≡ t → leZ low (s .bound) ≡ false
     go true e = absurd (true≢false (sym (ap (λ (x : Bool). x && (leb weight (getD rooms b 0) && not (eqb own (b + 1)))) e ∙ ap (λ (x : Bool). x && not (eqb own (b + 1))) room ∙ other) ∙ s .shut))
     go false e = e
 
 -- a test as the code makes it, with the two gains read back from their bits
 pub not-better-told : (gains : List ℤ) (rooms : List ℕ) (row : ℕ) (low : ℤ) (weight own b : ℕ) {r s : Bool} {l g : ℤ} → mag (getD gains (row + b) (pos 0)) < 2 ^ 31 → weight < 2 ^ 32 → l ≡ low → g ≡ getD gains (row + b) (pos 0)
     → r ≡ (leZ l g && s) → s ≡ (leb weight (getD rooms b 0) && not (eqb own (b + 1))) → r ≡ false → NotBetter gains rooms row low weight own b
-not-better-told gains rooms row low weight own b f w el eg er es e = record { fits = f; light = w; shut = cc }
+not-better-told gains rooms row low weight own b f w el eg er es e = record { bound = getD gains (row + b) (pos 0); fits = f; under = not-itself (getD gains (row + b) (pos 0)); light = w; shut = cc }
+
+-- a number that no gain of the row passes is below `low`
+pub not-better-peak : (gains : List ℤ) (rooms : List ℕ) (row : ℕ) (low peak : ℤ) (weight own b : ℕ) {l p : ℤ} → mag peak < 2 ^ 31 → weight < 2 ^ 32 → l ≡ low → p ≡ peak → ltZ p l ≡ true → ltZ peak (getD gains (row + b) (pos 0)) ≡ false
+    → NotBetter gains rooms row low weight own b
+not-better-peak gains rooms row low peak weight own b f w el ep t u = record { bound = peak; fits = f; under = u; light = w; shut = ap (λ (x : Bool). x && (leb weight (getD rooms b 0) && not (eqb own (b + 1)))) (less-not low peak (sym (ap₂ ltZ ep el) ∙ t)) }
 
 -- the tests of four blocks as the code joins them
 pub not-better-four : (gains : List ℤ) (rooms : List ℕ) (row : ℕ) (low : ℤ) (weight own b : ℕ) {r s t p₀ p₁ p₂ p₃ : Bool} → (p₀ ≡ false → NotBetter gains rooms row low weight own b) → (p₁ ≡ false → NotBetter gains rooms row low weight own (b + 1))
@@ -217,10 +236,11 @@ module _ (candidates blocks weights loads ceilings rooms : List ℕ) (gains : Li
             let may = and-right (eqb (on candidates 0 (v - 1)) 1) (mayGo (getD loads (b - 1) 0) (getD blocks (v - 1) 0) (getD weights (v - 1) 0) (getD ceilings (b - 1) 0) b) o in
             let candidate : on candidates 0 (v - 1) ≡ 1 = eqb-true _ _ (and-left (eqb (on candidates 0 (v - 1)) 1) (mayGo (getD loads (b - 1) 0) (getD blocks (v - 1) 0) (getD weights (v - 1) 0) (getD ceilings (b - 1) 0) b) o) in
             let set-bit : bit (getD candidates c 0) j ≡ 1 = sym (part-bit candidates c j (omega arith)) ∙ ap (on candidates 0) e ∙ candidate in
-            let not-better = subst (λ (x : ℕ). NotBetter gains rooms (16 * x) low (getD weights x 0) (getD blocks x 0) (b - 1)) e (p .not-better j (omega arith) (omega arith) (omega arith) set-bit (b - 1) (omega arith)) in (
-              λ z. g .below z (gainIn gains v b) (not-better .fits),
-              not-better-stays gains loads ceilings rooms k (16 * (v - 1)) (getD weights (v - 1) 0) (getD blocks (v - 1) 0) (b - 1) (lead .top) low (omega arith) h least not-better
-                  (subst (λ (x : ℕ). mayGo (getD loads (b - 1) 0) (getD blocks (v - 1) 0) (getD weights (v - 1) 0) (getD ceilings (b - 1) 0) x ≡ true) (sym d) may),
+            let not-better = subst (λ (x : ℕ). NotBetter gains rooms (16 * x) low (getD weights x 0) (getD blocks x 0) (b - 1)) e (p .not-better j (omega arith) (omega arith) (omega arith) set-bit (b - 1) (omega arith)) in
+            let stays = not-better-stays gains loads ceilings rooms k (16 * (v - 1)) (getD weights (v - 1) 0) (getD blocks (v - 1) 0) (b - 1) (lead .top) low (omega arith) h least not-better
+            (subst (λ (x : ℕ). mayGo (getD loads (b - 1) 0) (getD blocks (v - 1) 0) (getD weights (v - 1) 0) (getD ceilings (b - 1) 0) x ≡ true) (sym d) may) in (
+              λ z. absurd (true≢false (sym (g .below z (not-better .bound) (not-better .fits)) ∙ stays)),
+              not-below (lead .top) (not-better .bound) (gainIn gains v b) stays (not-better .under),
             )
 
     -- `top` and `low′` are the two gains read back from their bits

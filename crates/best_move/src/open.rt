@@ -181,12 +181,14 @@ fn best_among(
     ceilings: &[u64; 16],
     rooms: &[u32; 16],
     candidates: &[u64],
+    peaks: &[i32; 1040],
     c: usize,
     size: usize,
     k: usize,
     before: Lead,
 ) -> Lead
     requires { ⌜ SearchOk (length (now gains)) (length (now blocks)) (length (now weights)) (length (now candidates)) (64 * c + size) k × (size ≤ 64) × (c < 16) ⌝ }
+    requires { ⌜ Peaked (now gains) (now peaks) (64 * c + size) k ⌝ }
     requires { ⌜ Rooms (now loads) (now ceilings) k (now rooms) ⌝ }
     requires { ⌜ IndexOk (length (now index)) (now candidates) (now blocks) (64 * c + size) k ⌝ }
     ensures { λ r. ⌜ (Leads before (bestTo (openIn (now (candidates .entry)) (now (blocks .entry)) (now (weights .entry)) (now (loads .entry)) (now (ceilings .entry))) (gainIn (now (gains .entry))) k (64 * c)) → Leads r (bestTo (openIn (now (candidates .entry)) (now (blocks .entry)) (now (weights .entry)) (now (loads .entry)) (now (ceilings .entry))) (gainIn (now (gains .entry))) k (64 * c + size))) ⌝ }
@@ -202,6 +204,7 @@ fn best_among(
             blocks,
             weights,
             rooms,
+            peaks,
             word,
             first,
             from,
@@ -238,7 +241,7 @@ fn best_in_part(
     ceilings: &[u64; 16],
     rooms: &[u32; 16],
     candidates: &[u64],
-    peaks: &[i32; 16],
+    peaks: &[i32; 1040],
     c: usize,
     n: usize,
     k: usize,
@@ -263,6 +266,7 @@ fn best_in_part(
             ceilings,
             rooms,
             candidates,
+            peaks,
             c,
             least(64, n - 64 * c),
             k,
@@ -273,7 +277,7 @@ fn best_in_part(
 }
 
 // The open pair of highest gain, then lowest vertex, then lowest block: vertices and blocks count from 1. `loads` are the blocks' weights,
-// `ceilings` the most that they may hold, `candidates` a row of bits in which vertex v is bit v - 1, `peaks` bounds on the gains of each part of 64 vertices.
+// `ceilings` the most that they may hold, `candidates` a row of bits in which vertex v is bit v - 1, `peaks` bounds on the gains of each part of 64 vertices and of each vertex.
 // The pairs come from the index, whose rows are made right as they are looked at.
 pub fn best_open(
     gains: &[i32],
@@ -283,7 +287,7 @@ pub fn best_open(
     loads: &[u64; 16],
     ceilings: &[u64; 16],
     candidates: &[u64],
-    peaks: &[i32; 16],
+    peaks: &[i32; 1040],
     n: usize,
     k: usize,
 ) -> Pick

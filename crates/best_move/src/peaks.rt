@@ -1,11 +1,11 @@
-// Peaks: for each part of 64 vertices a number that no gain of them passes. A search passes over the parts that can't hold a better pair.
-// Vertices and blocks count from 0.
+// Peaks: for each part of 64 vertices, and for each vertex, a number that no gain of them passes. A search passes over the parts and the
+// vertices that can't hold a better pair. The parts' are the first 16, that of vertex x is at 16 + x. Vertices and blocks count from 0.
 use crate::numbers::least;
 ghost use mathlib.Core.Path.{_≡_};
 ghost use Prim.Native.Nat.{ℕ, _+_, _*_, _≤_, _<_};
 ghost use lib.ListN.{length};
 ghost use Rattle.best_move.specs.Open.{RowOk};
-ghost use Rattle.best_move.specs.Peak.{Under, Peaked, Higher, Larger, RowPeak, PartPeak, FourPeak};
+ghost use Rattle.best_move.specs.Peak.{Under, Peaked, Higher, Raised, Larger, RowPeak, PartPeak, FourPeak, PartSet, Levelled};
 
 // The larger of two gains.
 fn higher(a: i32, b: i32) -> i32
@@ -81,32 +81,85 @@ fn part_peak(gains: &[i32], from: usize, to: usize, k: usize) -> i32
     peak
 }
 
-// Sets the peaks of all parts of the `n` vertices.
-pub fn survey(peaks: &mut [i32; 16], gains: &[i32], n: usize, k: usize)
-    requires { ⌜ (length (now peaks) ≡ 16) × (n ≤ 1024) × (k ≤ 16) × (16 * n ≤ length (now gains)) ⌝ }
+// Sets the peaks of the vertices from `from` on and before `to`, each by its own gains, and answers the highest.
+fn set_each(peaks: &mut [i32; 1040], gains: &[i32], from: usize, to: usize, k: usize) -> i32
+    requires { ⌜ (length (now peaks) ≡ 1040) × (from ≤ to) × (to ≤ 1024) × (k ≤ 16) × (16 * to ≤ length (now gains)) ⌝ }
+    ensures { λ r. ⌜ PartSet (now (gains .entry)) from to k (now (peaks .entry)) (now (peaks .exit)) r ⌝ }
+{
+    let mut peak: i32 = -2147483648;
+    let mut x = from;
+    while x < to {
+        let top = part_peak(gains, x, x + 1, k);
+        peaks[16 + x] = top;
+        peak = higher(peak, top);
+        x += 1;
+    }
+    peak
+}
+
+// Sets the peaks of the same vertices to `peak`.
+fn set_all(peaks: &mut [i32; 1040], from: usize, to: usize, peak: i32)
+    requires { ⌜ (length (now peaks) ≡ 1040) × (from ≤ to) × (to ≤ 1024) ⌝ }
+    ensures { λ _. ⌜ Levelled from to peak (now (peaks .entry)) (now (peaks .exit)) ⌝ }
+{
+    let mut x = from;
+    while x < to {
+        peaks[16 + x] = peak;
+        x += 1;
+    }
+}
+
+// Sets the peaks of the same vertices and answers a number that no gain of them passes. A vertex's own is worth its time only where its row is long:
+// with up to four blocks all get the highest.
+fn set_part(peaks: &mut [i32; 1040], gains: &[i32], from: usize, to: usize, k: usize) -> i32
+    requires { ⌜ (length (now peaks) ≡ 1040) × (from ≤ to) × (to ≤ 1024) × (k ≤ 16) × (16 * to ≤ length (now gains)) ⌝ }
+    ensures { λ r. ⌜ PartSet (now (gains .entry)) from to k (now (peaks .entry)) (now (peaks .exit)) r ⌝ }
+{
+    if k <= 4 {
+        let peak = part_peak(gains, from, to, k);
+        set_all(peaks, from, to, peak);
+        return peak;
+    }
+    set_each(peaks, gains, from, to, k)
+}
+
+// Sets the peaks of all parts and of all `n` vertices.
+pub fn survey(peaks: &mut [i32; 1040], gains: &[i32], n: usize, k: usize)
+    requires { ⌜ (length (now peaks) ≡ 1040) × (n ≤ 1024) × (k ≤ 16) × (16 * n ≤ length (now gains)) ⌝ }
     ensures { λ _. ⌜ Peaked (now (gains .entry)) (now (peaks .exit)) n k ⌝ }
 {
     let mut c: usize = 0;
     while 64 * c < n {
-        peaks[c] = part_peak(gains, 64 * c, least(64 * c + 64, n), k);
+        let peak = set_part(peaks, gains, 64 * c, least(64 * c + 64, n), k);
+        peaks[c] = peak;
         c += 1;
     }
 }
 
-// Raises the peak of the part of vertex `x` to what the gains of `x` need.
-pub fn raise_row(peaks: &mut [i32; 16], gains: &[i32], x: usize, k: usize)
-    requires { ⌜ RowOk (length (now gains)) x k × (length (now peaks) ≡ 16) ⌝ }
-    ensures { λ _. ⌜ Higher (now (peaks .entry)) (now (peaks .exit)) × ((b : ℕ) → b < k → Under (now (gains .entry)) (now (peaks .exit)) x b) ⌝ }
+// Raises the peak at place `i` to `gain`.
+fn raise(peaks: &mut [i32; 1040], i: usize, gain: i32)
+    requires { ⌜ (length (now peaks) ≡ 1040) × (i < 1040) ⌝ }
+    ensures { λ _. ⌜ Raised (now (peaks .entry)) (now (peaks .exit)) i gain ⌝ }
 {
-    let c = x / 64;
-    peaks[c] = row_peak(gains, x, k, peaks[c]);
+    peaks[i] = higher(peaks[i], gain);
 }
 
-// Raises the peak of the part of vertex `x` to what its gain to block `b` needs.
-pub fn raise_entry(peaks: &mut [i32; 16], gains: &[i32], x: usize, b: usize)
-    requires { ⌜ (x < 1024) × (b < 16) × (16 * (x + 1) ≤ length (now gains)) × (length (now peaks) ≡ 16) ⌝ }
+// Raises the peaks of vertex `x` and of its part to what the gains of `x` need.
+pub fn raise_row(peaks: &mut [i32; 1040], gains: &[i32], x: usize, k: usize)
+    requires { ⌜ RowOk (length (now gains)) x k × (length (now peaks) ≡ 1040) ⌝ }
+    ensures { λ _. ⌜ Higher (now (peaks .entry)) (now (peaks .exit)) × ((b : ℕ) → b < k → Under (now (gains .entry)) (now (peaks .exit)) x b) ⌝ }
+{
+    let peak = row_peak(gains, x, k, -2147483648);
+    raise(peaks, x / 64, peak);
+    raise(peaks, 16 + x, peak);
+}
+
+// Raises the same peaks to what the gain of `x` to block `b` needs.
+pub fn raise_entry(peaks: &mut [i32; 1040], gains: &[i32], x: usize, b: usize)
+    requires { ⌜ (x < 1024) × (b < 16) × (16 * (x + 1) ≤ length (now gains)) × (length (now peaks) ≡ 1040) ⌝ }
     ensures { λ _. ⌜ Higher (now (peaks .entry)) (now (peaks .exit)) × Under (now (gains .entry)) (now (peaks .exit)) x b ⌝ }
 {
-    let c = x / 64;
-    peaks[c] = higher(peaks[c], gains[16 * x + b]);
+    let gain = gains[16 * x + b];
+    raise(peaks, x / 64, gain);
+    raise(peaks, 16 + x, gain);
 }

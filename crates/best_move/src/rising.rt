@@ -7,7 +7,10 @@ use incidence::next_bit;
 ghost use mathlib.Core.Path.{_≡_};
 ghost use mathlib.Core.Bool.{false};
 ghost use Prim.Native.Nat.{ℕ, _+_, _*_, _≤_, _<_};
-ghost use lib.ListN.{length};
+ghost use lib.ListN.{length, getD};
+ghost use lib.IntN.{pos};
+ghost use lib.Signed.{ltZ};
+ghost use Rattle.best_move.specs.Peak.{Peaked};
 ghost use Rattle.best_move.specs.Rising.{Rooms, RoomFor, Least, NotBetter, PartOk, Passed};
 
 // The room that a block of weight `load` has left under its ceiling, as far as 32 bits go.
@@ -109,21 +112,26 @@ fn any_rises(gains: &[i32], rooms: &[u32; 16], row: usize, low: i32, weight: u32
     )
 }
 
-// The same of one of the `k` blocks.
+// The same of one of the `k` blocks, where `peak` is not below the gains to them. A long row whose peak is below `low` is not read: it is
+// 64 bytes, the peak four.
 fn rises(
     gains: &[i32],
     rooms: &[u32; 16],
     row: usize,
     k: usize,
+    peak: i32,
     low: i32,
     weight: u32,
     own: u32,
 ) -> bool
-    requires { ⌜ (row + 16 ≤ length (now gains)) × (k ≤ 16) ⌝ }
+    requires { ⌜ (row + 16 ≤ length (now gains)) × (k ≤ 16) × ((j : ℕ) → j < k → ltZ peak (getD (now gains) (row + j) (pos 0)) ≡ false) ⌝ }
     ensures { λ r. ⌜ (r ≡ false → (j : ℕ) → j < k → NotBetter (now (gains .entry)) (now (rooms .entry)) row low weight own j) ⌝ }
 {
     if k <= 4 {
         return four_rise(gains, rooms, row, 0, low, weight, own);
+    }
+    if peak < low {
+        return false;
     }
     any_rises(gains, rooms, row, low, weight, own)
 }
@@ -135,6 +143,7 @@ pub fn next_rising(
     blocks: &[u16],
     weights: &[u32],
     rooms: &[u32; 16],
+    peaks: &[i32; 1040],
     word: u64,
     first: usize,
     from: usize,
@@ -143,12 +152,22 @@ pub fn next_rising(
     low: i32,
 ) -> usize
     requires { ⌜ PartOk (length (now gains)) (length (now blocks)) (length (now weights)) first size k × (from ≤ 64) ⌝ }
+    requires { ⌜ Peaked (now gains) (now peaks) (first + size) k ⌝ }
     ensures { λ r. ⌜ Passed (now (gains .entry)) (now (blocks .entry)) (now (weights .entry)) (now (rooms .entry)) word first size k low from r ⌝ }
 {
     let mut j = next_bit(word, from);
     while j < size {
         let i = first + j;
-        if rises(gains, rooms, 16 * i, k, low, weights[i], blocks[i] as u32) {
+        if rises(
+            gains,
+            rooms,
+            16 * i,
+            k,
+            peaks[16 + i],
+            low,
+            weights[i],
+            blocks[i] as u32,
+        ) {
             return j;
         }
         j = next_bit(word, j + 1);

@@ -79,7 +79,7 @@ fn next_rise(
     loads: &[u64; 16],
     ceilings: &[u64; 16],
     marks: &[u64],
-    peaks: &[i32; 16],
+    peaks: &[i32; 1040],
     n: usize,
     k: usize,
 ) -> Pick
@@ -123,7 +123,7 @@ fn pass(
     blocks: &mut [u16],
     loads: &mut [u64; 16],
     marks: &[u64; 48],
-    peaks: &mut [i32; 16],
+    peaks: &mut [i32; 1040],
     presentpins: &[u16],
     presentsizes: &[u16],
     bits: &[u64],
@@ -231,7 +231,7 @@ pub fn polish(
 {
     let mut marks = fixedmarks;
     mark_board(&mut marks, blocks, n);
-    let mut peaks = [0i32; 16];
+    let mut peaks = [0i32; 1040];
     survey(&mut peaks, gains, n, k);
     let mut p = Passes {
         left: total,

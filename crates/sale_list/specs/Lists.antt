@@ -15,7 +15,7 @@ use Rattle.laws.specs.Choice.{and-left, and-right}
 use Rattle.model.specs.Catalogue.{Limits}
 use Rattle.model.specs.Measure.{Contraction}
 use Rattle.model.specs.Machine.{Move, callJ, callS, callM, callB, callW, callP, callA}
-use Rattle.model.specs.Grammar.{Reading, unread, reading, stopped, asks, nothing, callOf, parse}
+use Rattle.model.specs.Grammar.{Reading, asks, nothing, callOf, parse}
 use Rattle.model.specs.Report.{digits, row}
 use Rattle.model.specs.Engine.{outcome}
 use Rattle.model.specs.Memory.{Tables as Lent}

@@ -81,7 +81,7 @@ pub higher-then : {l l′ l″ : List ℤ} → Higher l l′ → Higher l′ l�
 higher-then a b = record { len = b .len ∙ a .len; kept = λ x c q. b .kept x c (a .kept x c q) }
 
 pub under-higher : (gains : List ℤ) {l l′ : List ℤ} (x b : ℕ) → Higher l l′ → Under gains l x b → Under gains l′ x b
-under-higher gains x b a u = a .kept _ _ u
+under-higher gains x b a u = (a .kept _ _ (u .0), a .kept _ _ (u .1))
 
 -- ---- the pins one after another
 

@@ -17,7 +17,7 @@ use Rattle.incidence.specs.On.{on}
 use Rattle.connectivity.specs.Listed.{has}
 use Rattle.levels.specs.World.{World}
 use Rattle.levels.specs.Reading.{has-pin}
-use Rattle.best_move.specs.Peak.{Under, Peaked, Higher, not-below}
+use Rattle.best_move.specs.Peak.{UnderAt, Under, Peaked, Higher, not-below}
 use Rattle.operations.specs.Tables.{Tables, tables, Sound}
 use Rattle.operations.specs.Move.{Open, own-block, on-board, in-range}
 use Rattle.search_moves.specs.Tabled.{bit-is}
@@ -40,25 +40,27 @@ module _ {weights counts counts′ visited visited′ pins blocks blocks′ firs
     (others : (y : ℕ) → y < n → (y ≡ u → ⊥) → getD blocks′ y 0 ≡ getD blocks y 0)
     {bits : List ℕ} (marked : (e : ℕ) → e < m → has pins (getD firsts e 0) (getD sizes e 0) u ≡ true → on bits u e ≡ 1)
     {peaks peaks′ : List ℤ} (p : Peaked gains peaks n k) (l : Lifted gains′ peaks peaks′ counts′ blocks′ pins firsts sizes bits m k u s t) where
-  -- if the gain of x passed the new peak, no net of u and x would be one for which the peak was lifted
-  quiet-over : (x b e : ℕ) → x < n → b < k → (x ≡ u → ⊥) → ltZ (getD peaks′ (x / 64) (pos 0)) (getD gains′ (16 * x + b) (pos 0)) ≡ true → e < m
+  -- if the gain of x passed a new peak, no net of u and x would be one for which the peaks were lifted
+  quiet-over : (x b e : ℕ) → x < n → b < k → (x ≡ u → ⊥) → (Under gains′ peaks′ x b → ⊥) → e < m
       → has pins (getD firsts e 0) (getD sizes e 0) u ≡ true → has pins (getD firsts e 0) (getD sizes e 0) x ≡ true → Quiet counts′ blocks s t x b e
   quiet-over x b e lx lb ne over le has-u has-x = (
-    λ c q. true≢false (sym over ∙ l .last e le (marked e le has-u) c x has-x (others x lx ne ∙ q) b lb),
+    λ c q. over (l .last e le (marked e le has-u) c x has-x (others x lx ne ∙ q) b lb),
     λ c q.
         let z : t - 1 ≡ b = omega arith in
-        true≢false (sym over ∙ subst (λ (i : ℕ). Under gains′ peaks′ x i) z (l .first e le (marked e le has-u) c x has-x)),
+        over (subst (λ (i : ℕ). Under gains′ peaks′ x i) z (l .first e le (marked e le has-u) c x has-x)),
   )
 
   under-other : (x b : ℕ) → x < n → b < k → (x ≡ u → ⊥) → Under gains′ peaks′ x b
-  under-other x b lx lb ne = go (ltZ (getD peaks′ (x / 64) (pos 0)) (getD gains′ (16 * x + b) (pos 0))) refl
+  under-other x b lx lb ne = (at (x / 64) (λ v. v .0) (p .under x b lx lb .0), at (16 + x) (λ v. v .1) (p .under x b lx lb .1))
     where
-      go : (d : Bool) → ltZ (getD peaks′ (x / 64) (pos 0)) (getD gains′ (16 * x + b) (pos 0)) ≡ d → Under gains′ peaks′ x b
-      go false q = q
-      go true q = l .higher .kept (getD gains′ (16 * x + b) (pos 0)) (x / 64)
-          (not-below (getD peaks (x / 64) (pos 0)) (getD gains (16 * x + b) (pos 0)) (getD gains′ (16 * x + b) (pos 0))
-          (p .under x b lx lb)
-          (falls w w′ u-in s-in t-in away from to others x b lx lb ne (λ e le. quiet-over x b e lx lb ne q le)))
+      at : (i : ℕ) → (Under gains′ peaks′ x b → UnderAt gains′ peaks′ i x b) → UnderAt gains peaks i x b → UnderAt gains′ peaks′ i x b
+      at i part before = go (ltZ (getD peaks′ i (pos 0)) (getD gains′ (16 * x + b) (pos 0))) refl
+        where
+          go : (d : Bool) → ltZ (getD peaks′ i (pos 0)) (getD gains′ (16 * x + b) (pos 0)) ≡ d → UnderAt gains′ peaks′ i x b
+          go false q = q
+          go true q = l .higher .kept (getD gains′ (16 * x + b) (pos 0)) i
+              (not-below (getD peaks i (pos 0)) (getD gains (16 * x + b) (pos 0)) (getD gains′ (16 * x + b) (pos 0)) before
+              (falls w w′ u-in s-in t-in away from to others x b lx lb ne (λ e le. quiet-over x b e lx lb ne (λ v. true≢false (sym q ∙ part v)) le)))
 
   pub peaked-world : Peaked gains′ peaks′ n k
   peaked-world = record { len = l .higher .len ∙ p .len; under = λ x b lx lb. go x b lx lb (ℕ-discrete x u) }

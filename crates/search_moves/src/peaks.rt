@@ -18,8 +18,8 @@ ghost use Rattle.search_moves.specs.Peaks.{Lifted};
 ghost use Rattle.search_moves.specs.Lifting.{PinsIn, NetIn, LiftOk, LastUnder, FirstUnder, NetUnder};
 
 // Raises the peak over `x`, of block `own`, to its gains, if that block is `s`.
-fn raise_in_block(peaks: &mut [i32; 16], gains: &[i32], x: usize, own: u16, s: u16, k: usize)
-    requires { ⌜ (length (now peaks) ≡ 16) × RowOk (length (now gains)) x k ⌝ }
+fn raise_in_block(peaks: &mut [i32; 1040], gains: &[i32], x: usize, own: u16, s: u16, k: usize)
+    requires { ⌜ (length (now peaks) ≡ 1040) × RowOk (length (now gains)) x k ⌝ }
     ensures { λ _. ⌜ Higher (now (peaks .entry)) (now (peaks .exit)) × (own ≡ s → (b : ℕ) → b < k → Under (now (gains .entry)) (now (peaks .exit)) x b) ⌝ }
 {
     if own != s {
@@ -30,7 +30,7 @@ fn raise_in_block(peaks: &mut [i32; 16], gains: &[i32], x: usize, own: u16, s: u
 
 // Raises the peaks over the pins of a net in the block `s` to their gains.
 fn raise_last(
-    peaks: &mut [i32; 16],
+    peaks: &mut [i32; 1040],
     gains: &[i32],
     blocks: &[u16],
     presentpins: &[u16],
@@ -39,7 +39,7 @@ fn raise_last(
     s: u16,
     k: usize,
 )
-    requires { ⌜ (length (now peaks) ≡ 16) × (k ≤ 16) × PinsIn (length (now gains)) (length (now blocks)) (now presentpins) first size ⌝ }
+    requires { ⌜ (length (now peaks) ≡ 1040) × (k ≤ 16) × PinsIn (length (now gains)) (length (now blocks)) (now presentpins) first size ⌝ }
     ensures { λ _. ⌜ Higher (now (peaks .entry)) (now (peaks .exit))
         × LastUnder (now (gains .entry)) (now (peaks .exit)) (now (blocks .entry)) (now (presentpins .entry)) first size s k ⌝ }
 {
@@ -53,14 +53,14 @@ fn raise_last(
 
 // Raises the peaks over the pins of a net to their gains to the block `t`.
 fn raise_first(
-    peaks: &mut [i32; 16],
+    peaks: &mut [i32; 1040],
     gains: &[i32],
     presentpins: &[u16],
     first: usize,
     size: usize,
     t: usize,
 )
-    requires { ⌜ (length (now peaks) ≡ 16) × (1 ≤ t) × (t ≤ 16) × PinsIn (length (now gains)) 1024 (now presentpins) first size ⌝ }
+    requires { ⌜ (length (now peaks) ≡ 1040) × (1 ≤ t) × (t ≤ 16) × PinsIn (length (now gains)) 1024 (now presentpins) first size ⌝ }
     ensures { λ _. ⌜ Higher (now (peaks .entry)) (now (peaks .exit)) × FirstUnder (now (gains .entry)) (now (peaks .exit)) (now (presentpins .entry)) first size t ⌝ }
 {
     let mut j: usize = 0;
@@ -72,7 +72,7 @@ fn raise_first(
 
 // Raises the peaks over the last pin of net `e` in the block left, if it has only one there.
 fn lift_last(
-    peaks: &mut [i32; 16],
+    peaks: &mut [i32; 1040],
     gains: &[i32],
     counts: &[u16],
     blocks: &[u16],
@@ -83,7 +83,7 @@ fn lift_last(
     s: u16,
     k: usize,
 )
-    requires { ⌜ (length (now peaks) ≡ 16) × NetIn (length (now counts)) e s × (k ≤ 16) × PinsIn (length (now gains)) (length (now blocks)) (now presentpins) first size ⌝ }
+    requires { ⌜ (length (now peaks) ≡ 1040) × NetIn (length (now counts)) e s × (k ≤ 16) × PinsIn (length (now gains)) (length (now blocks)) (now presentpins) first size ⌝ }
     ensures { λ _. ⌜ Higher (now (peaks .entry)) (now (peaks .exit)) × (getD (now (counts .entry)) (16 * e + (s - 1)) 0 ≡ 1
         → LastUnder (now (gains .entry)) (now (peaks .exit)) (now (blocks .entry)) (now (presentpins .entry)) first size s k) ⌝ }
 {
@@ -95,7 +95,7 @@ fn lift_last(
 
 // Raises the peaks over the pins of net `e`, if it has only one in the block reached.
 fn lift_first(
-    peaks: &mut [i32; 16],
+    peaks: &mut [i32; 1040],
     gains: &[i32],
     counts: &[u16],
     presentpins: &[u16],
@@ -104,7 +104,7 @@ fn lift_first(
     e: usize,
     t: u16,
 )
-    requires { ⌜ (length (now peaks) ≡ 16) × NetIn (length (now counts)) e t × PinsIn (length (now gains)) 1024 (now presentpins) first size ⌝ }
+    requires { ⌜ (length (now peaks) ≡ 1040) × NetIn (length (now counts)) e t × PinsIn (length (now gains)) 1024 (now presentpins) first size ⌝ }
     ensures { λ _. ⌜ Higher (now (peaks .entry)) (now (peaks .exit)) × (getD (now (counts .entry)) (16 * e + (t - 1)) 0 ≡ 1
         → FirstUnder (now (gains .entry)) (now (peaks .exit)) (now (presentpins .entry)) first size t) ⌝ }
 {
@@ -117,7 +117,7 @@ fn lift_first(
 
 // Raises the peaks over the pins of net `e` as far as the move from `s` to `t` may have raised their gains.
 fn lift_net(
-    peaks: &mut [i32; 16],
+    peaks: &mut [i32; 1040],
     gains: &[i32],
     counts: &[u16],
     blocks: &[u16],
@@ -129,7 +129,7 @@ fn lift_net(
     t: u16,
     k: usize,
 )
-    requires { ⌜ (length (now peaks) ≡ 16) × NetIn (length (now counts)) e s × NetIn (length (now counts)) e t × (k ≤ 16)
+    requires { ⌜ (length (now peaks) ≡ 1040) × NetIn (length (now counts)) e s × NetIn (length (now counts)) e t × (k ≤ 16)
         × PinsIn (length (now gains)) (length (now blocks)) (now presentpins) first size ⌝ }
     ensures { λ _. ⌜ Higher (now (peaks .entry)) (now (peaks .exit))
         × NetUnder (now (gains .entry)) (now (peaks .exit)) (now (counts .entry)) (now (blocks .entry)) (now (presentpins .entry)) first size e s t k ⌝ }
@@ -151,7 +151,7 @@ fn lift_net(
 
 // Raises the peaks as far as the move of `u` from `s` to `t` may have raised gains.
 fn lift(
-    peaks: &mut [i32; 16],
+    peaks: &mut [i32; 1040],
     gains: &[i32],
     counts: &[u16],
     blocks: &[u16],
@@ -165,7 +165,7 @@ fn lift(
     s: u16,
     t: u16,
 )
-    requires { ⌜ (length (now peaks) ≡ 16) × LiftOk (length (now gains)) (length (now counts)) (length (now blocks)) (now bits) (now presentpins) (now firsts) (now presentsizes) m k u s t ⌝ }
+    requires { ⌜ (length (now peaks) ≡ 1040) × LiftOk (length (now gains)) (length (now counts)) (length (now blocks)) (now bits) (now presentpins) (now firsts) (now presentsizes) m k u s t ⌝ }
     ensures { λ _. ⌜ Lifted (now (gains .entry)) (now (peaks .entry)) (now (peaks .exit)) (now (counts .entry)) (now (blocks .entry)) (now (presentpins .entry)) (now (firsts .entry)) (now (presentsizes .entry)) (now (bits .entry)) m k u s t ⌝ }
 {
     raise_row(peaks, gains, u, k);
@@ -195,7 +195,7 @@ pub fn shift(
     gains: &mut [i32],
     blocks: &mut [u16],
     loads: &mut [u64; 16],
-    peaks: &mut [i32; 16],
+    peaks: &mut [i32; 1040],
     presentpins: &[u16],
     presentsizes: &[u16],
     bits: &[u64],

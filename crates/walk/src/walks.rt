@@ -48,7 +48,7 @@ fn next_move(
     loads: &[u64; 16],
     ceilings: &[u64; 16],
     marks: &[u64; 48],
-    peaks: &[i32; 16],
+    peaks: &[i32; 1040],
     n: usize,
     k: usize,
     tried: usize,
@@ -85,7 +85,7 @@ fn make_move(
     blocks: &mut [u16],
     loads: &mut [u64; 16],
     marks: &mut [u64; 48],
-    peaks: &mut [i32; 16],
+    peaks: &mut [i32; 1040],
     movers: &mut [u16; 1024],
     origins: &mut [u16; 1024],
     presentpins: &[u16],
@@ -172,7 +172,7 @@ fn advance(
     blocks: &mut [u16],
     loads: &mut [u64; 16],
     marks: &mut [u64; 48],
-    peaks: &mut [i32; 16],
+    peaks: &mut [i32; 1040],
     movers: &mut [u16; 1024],
     origins: &mut [u16; 1024],
     presentpins: &[u16],
@@ -352,7 +352,7 @@ pub fn walk(
     let mut marks = fixedmarks;
     mark_vertex(&mut marks, u);
     mark_vertex(&mut marks, v);
-    let mut peaks = [0i32; 16];
+    let mut peaks = [0i32; 1040];
     survey(&mut peaks, gains, n, k);
     let mut movers = [0u16; 1024];
     let mut origins = [0u16; 1024];

@@ -13,11 +13,11 @@ use Rattle.best_move.proofs.open.best_among.Statement.{statement}
 use Rattle.best_move.proofs.open.best_among.Tie as tie
 
 abbrev Inv-loop : tie.InvT-loop
-Inv-loop gains index₀ blocks weights loads ceilings rooms candidates c size k first word best₀ from₀ index best from =
+Inv-loop gains index₀ blocks weights loads ceilings rooms candidates peaks c size k first word best₀ from₀ index best from =
     Searched candidates blocks weights loads ceilings rooms gains c size k best₀ best from × Kept (64 * c + size) k index₀ index
 
 abbrev μ-loop : tie.MeasureT-loop
-μ-loop gains index₀ blocks weights loads ceilings rooms candidates c size k first word best₀ from₀ index best from = 65 - from
+μ-loop gains index₀ blocks weights loads ceilings rooms candidates peaks c size k first word best₀ from₀ index best from = 65 - from
 
 mul-first : tie.Need-mul-first Inv-loop μ-loop
 mul-first c = omega arith
@@ -41,7 +41,7 @@ next-rising-requires c κs =
     let at-test = c .before .before in
     let start = at-test .before .before .before .before .before .before .before in
     let ok = start .pre .0 .0 in
-    (record { size-to = start .pre .0 .1; n-to = ok .n-to; k-to = ok .k-to; in-gains = ok .in-gains; in-blocks = ok .in-blocks; in-weights = ok .in-weights }, omega (arith, at-test .loop-test, start .pre .0 .1))
+    ((record { size-to = start .pre .0 .1; n-to = ok .n-to; k-to = ok .k-to; in-gains = ok .in-gains; in-blocks = ok .in-blocks; in-weights = ok .in-weights }, omega (arith, at-test .loop-test, start .pre .0 .1)), start .pre .1 .0)
 
 add-best-with : tie.Need-add-best-with Inv-loop μ-loop
 add-best-with c = omega arith
@@ -56,10 +56,10 @@ best-with-requires c κs =
     let candidate = part-bit (now (start .args .candidates)) (start .args .c) j (omega (arith, start .pre .0 .1)) ∙ at-rising .next-rising .ensures .found (omega arith) in
     record {
       row = record { i-to = omega (arith, ok .n-to); k-to = ok .k-to; in-gains = omega (arith, ok .in-gains) };
-      in-index = omega (arith, start .pre .1 .1 .in-index, at-loop .loop .inv .1 .len);
+      in-index = omega (arith, start .pre .1 .1 .1 .in-index, at-loop .loop .inv .1 .len);
       in-blocks = omega (arith, ok .in-blocks);
       in-weights = omega (arith, ok .in-weights);
-      own = start .pre .1 .1 .on-board (64 * start .args .c + j) (omega arith) candidate;
+      own = start .pre .1 .1 .1 .on-board (64 * start .args .c + j) (omega arith) candidate;
     }
 
 add-from : tie.Need-add-from Inv-loop μ-loop
@@ -78,7 +78,7 @@ loop-again c =
     let a = s .args in
     let j = p .next-rising .result in
     let better = p .before .least-better in
-    let found = among (now (a .candidates)) (now (a .blocks)) (now (a .weights)) (now (a .loads)) (now (a .ceilings)) (now (a .rooms)) (now (a .gains)) (a .c) (a .size) (a .k) (s .pre .0 .1) (s .pre .1 .0) _ (l .best) (l .from) j
+    let found = among (now (a .candidates)) (now (a .blocks)) (now (a .weights)) (now (a .loads)) (now (a .ceilings)) (now (a .rooms)) (now (a .gains)) (a .c) (a .size) (a .k) (s .pre .0 .1) (s .pre .1 .1 .0) _ (l .best) (l .from) j
     (read64 (l .best .top) (told .struct-told .given .1 .0 .1)) (read32 (better .result) (better .ok)) (better .ensures) (told .before .loop-test .taken) (l .inv .0) (p .next-rising .ensures) in
     ⊎-elim
     (λ v. rw (v .5, v .6) (

@@ -47,8 +47,11 @@ best-among-requires c κs =
     let e : c .least .result ≡ lesser 64 (s .args .n - 64 * s .args .c) = c .least .ensures in (
       (record { n-to = omega (arith, h .n-to, s .pre .1 .0 .1); k-to = h .k-to; in-gains = omega (arith, h .in-gains, s .pre .1 .0 .1); in-blocks = omega (arith, h .in-blocks, s .pre .1 .0 .1); in-weights = omega (arith, h .in-weights, s .pre .1 .0 .1); in-candidates = h .in-candidates }, omega arith, omega (arith, h .n-to, s .pre .1 .0 .1)),
       (
-        s .pre .1 .1 .0,
-        record { in-index = omega (arith, i .in-index, s .pre .1 .0 .1); on-board = λ x l. i .on-board x (omega (arith, l, s .pre .1 .0 .1)) },
+        record { len = s .pre .1 .0 .0 .len; under = λ x b l u. s .pre .1 .0 .0 .under x b (omega (arith, l, s .pre .1 .0 .1)) u },
+        (
+          s .pre .1 .1 .0,
+          record { in-index = omega (arith, i .in-index, s .pre .1 .0 .1); on-board = λ x l. i .on-board x (omega (arith, l, s .pre .1 .0 .1)) },
+        ),
       ),
     )
 

@@ -1,40 +1,42 @@
--- `raise_row`: one peak is raised to the gains of one vertex.
-use native.Mathlib.Omega.{arith}
+-- `raise_row`: two peaks are raised to the gains of one vertex.
+use mathlib.Core.Path.{_≡_, sym, subst}
+use mathlib.Core.Bool.{false}
 use denote.Ref.{now}
 use borrow.Author.Needs.{needs}
+use Prim.Native.Nat.{_+_, _*_}
+use lib.ListN.{getD}
+use lib.IntN.{ℤ, pos}
+use lib.Signed.{ltZ}
 use Rattle.laws.specs.Integer.{read32}
-use Rattle.best_move.specs.Peak.{row-raised}
+use Rattle.best_move.specs.Peak.{both-raised}
 use Rattle.best_move.proofs.peaks.raise_row.Statement.{statement}
 use Rattle.best_move.proofs.peaks.raise_row.Tie as tie
-
-mul-row-peak : tie.Need-mul-row-peak
-mul-row-peak c = search needs
-
-element-copy-out-row-peak : tie.Need-element-copy-out-row-peak
-element-copy-out-row-peak c = search needs
 
 row-peak-requires : tie.Need-row-peak-requires
 row-peak-requires c κs = search needs
 
-mul-t11 : tie.Need-mul-t11
-mul-t11 c = search needs
+raise-requires : tie.Need-raise-requires
+raise-requires c κs = search needs
 
-element-set-from-peaks : tie.Need-element-set-from-peaks
-element-set-from-peaks c = search needs
+add-raise : tie.Need-add-raise
+add-raise c = search needs
+
+raise-requires-2 : tie.Need-raise-requires-2
+raise-requires-2 c κs = search needs
 
 returns : tie.Need-returns
 returns c =
-    let s = c .before .before in
-    let a = s .args in
-    row-raised (now (a .gains)) (now (a .peaks)) (a .x) (a .k) _ _ _ (omega (arith, s .pre .0 .i-to, s .pre .1)) (read32 _ (c .before .row-peak-arg .given)) (read32 _ (c .row-peak .ok)) (c .row-peak .ensures)
+    let first = c .before .before in
+    let row = first .before .before in
+    let a = row .before .args in
+    let both = both-raised (now (a .gains)) (a .x) (first .raise .ensures) (c .raise2 .ensures) in
+    let peak = row .row-peak in (
+      both .0,
+      λ b l.
+          let own = subst (λ (z : ℤ). ltZ z (getD (now (a .gains)) (16 * a .x + b) (pos 0)) ≡ false) {x = peak .result} (sym (read32 (peak .result) (peak .ok))) (peak .ensures .above b l) in
+          both .1 b own own,
+    )
 
 pub raise-row-spec : {M : Type 1} → statement M
 raise-row-spec =
-    tie.close
-    (tie.spec
-    mul-row-peak
-    element-copy-out-row-peak
-    row-peak-requires
-    mul-t11
-    element-set-from-peaks
-    returns)
+    tie.close (tie.spec row-peak-requires raise-requires add-raise raise-requires-2 returns)

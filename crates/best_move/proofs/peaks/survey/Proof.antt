@@ -6,7 +6,7 @@ use borrow.Author.Needs.{needs}
 use Prim.Native.Nat.{_≤_, _-_, _*_}
 use lib.IntN.{ℤ}
 use Rattle.laws.specs.Integer.{read32}
-use Rattle.best_move.specs.Peak.{PartPeak, Surveyed, survey-begins, survey-rises, survey-ends}
+use Rattle.best_move.specs.Peak.{PartSet, Surveyed, survey-begins, survey-rises, survey-ends}
 use Rattle.best_move.proofs.peaks.survey.Statement.{statement}
 use Rattle.best_move.proofs.peaks.survey.Tie as tie
 
@@ -22,8 +22,8 @@ loop-holds c = (omega arith, survey-begins (now (c .args .gains)) (c .args .n) (
 mul-loop : tie.Need-mul-loop Inv-loop μ-loop
 mul-loop c = omega arith
 
-mul-part-peak : tie.Need-mul-part-peak Inv-loop μ-loop
-mul-part-peak c = omega arith
+mul-set-part : tie.Need-mul-set-part Inv-loop μ-loop
+mul-set-part c = omega arith
 
 mul-least : tie.Need-mul-least Inv-loop μ-loop
 mul-least c = omega arith
@@ -34,14 +34,16 @@ add-least c = omega arith
 least-requires : tie.Need-least-requires Inv-loop μ-loop
 least-requires c κs = search needs
 
-part-peak-requires : tie.Need-part-peak-requires Inv-loop μ-loop
-part-peak-requires c κs = omega arith
+set-part-requires : tie.Need-set-part-requires Inv-loop μ-loop
+set-part-requires c κs =
+    let l = c .before .before .before in
+    omega (arith, c .least .ensures, l .loop .inv .1 .len, l .before .pre)
 
-mul-t12 : tie.Need-mul-t12 Inv-loop μ-loop
-mul-t12 c = omega arith
+mul-peak : tie.Need-mul-peak Inv-loop μ-loop
+mul-peak c = omega arith
 
-element-set-from-peaks : tie.Need-element-set-from-peaks Inv-loop μ-loop
-element-set-from-peaks c = omega (arith, c .before .before .before .loop .inv .1 .len)
+element-set-from-peak : tie.Need-element-set-from-peak Inv-loop μ-loop
+element-set-from-peak c = omega (arith, c .before .before .before .before .loop .inv .1 .len, c .set-part .ensures .len)
 
 add-c : tie.Need-add-c Inv-loop μ-loop
 add-c c = omega arith
@@ -51,11 +53,13 @@ loop-less c = omega arith
 
 loop-again : tie.Need-loop-again Inv-loop μ-loop
 loop-again c =
-    let l = c .before .before .before in
-    let a = l .before .args in (
+    let l = c .before .before .before .before in
+    let s = l .before in
+    let a = s .args in
+    let to = c .before .least in (
       omega arith,
-      survey-rises (now (a .gains)) (a .n) (a .k) (l .loop .c) _ (l .loop .peaks) _ (omega arith) (c .before .least .ensures) (l .loop .inv .1)
-          (subst (λ (z : ℤ). PartPeak (now (a .gains)) (64 * l .loop .c) (c .before .least .result) (a .k) z) (sym (read32 _ (c .part-peak .ok))) (c .part-peak .ensures)),
+      survey-rises (now (a .gains)) (a .n) (a .k) (l .loop .c) (to .result) (l .loop .peaks) _ _ (omega arith) (omega (arith, s .pre)) (to .ensures) (l .loop .inv .1)
+          (subst (λ (z : ℤ). PartSet (now (a .gains)) (64 * l .loop .c) (to .result) (a .k) (l .loop .peaks) (c .set-part .last .0) z) (sym (read32 _ (c .set-part .ok))) (c .set-part .ensures)),
     )
 
 returns : tie.Need-returns Inv-loop μ-loop
@@ -72,13 +76,13 @@ survey-spec =
     μ-loop
     loop-holds
     mul-loop
-    mul-part-peak
+    mul-set-part
     mul-least
     add-least
     least-requires
-    part-peak-requires
-    mul-t12
-    element-set-from-peaks
+    set-part-requires
+    mul-peak
+    element-set-from-peak
     add-c
     loop-less
     loop-again

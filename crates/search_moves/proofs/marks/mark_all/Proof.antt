@@ -1,6 +1,3 @@
-use native.Mathlib.Omega.{arith}
-use mathlib.Core.Path.{_≡_}
-use denote.Ref.{now}
 use borrow.Author.Needs.{needs}
 use Rattle.search_moves.specs.Rows.{marked-by-row}
 use Rattle.search_moves.proofs.marks.mark_all.Statement.{statement}

@@ -1,7 +1,6 @@
 -- `mark_row`: the first c words of row 0 are marked.
 use native.Mathlib.Omega.{arith}
 use mathlib.Core.Path.{_≡_, refl}
-use denote.Ref.{now}
 use Prim.Native.Nat.{_≤_, _-_}
 use Rattle.search_moves.specs.Rows.{MarkedTo, marked-words-none, marked-words-more, row-marked, row-nets}
 use Rattle.search_moves.proofs.marks.mark_row.Statement.{statement}

@@ -1,6 +1,5 @@
 -- `fill_rows`: the rows of the first e nets have their pins, and the others have none.
 use native.Mathlib.Omega.{arith}
-use mathlib.Core.Path.{_≡_}
 use denote.Ref.{now}
 use borrow.Author.Needs.{needs}
 use Prim.Native.Nat.{_≤_, _-_}

@@ -44,7 +44,7 @@ survey-requires : tie.Need-survey-requires Inv-loop μ-loop
 survey-requires c κs =
     let start = c .before .before .before .before .before .before .before .before .before .before .before .before .before .before .before .before .before in
     let frame = start .pre .0 .sound .follows .world .frame in
-    (length-replicate {A = ℤ} 16 (pos 0), frame .few-vertices, frame .few, frame .gains-fit)
+    (length-replicate {A = ℤ} 1040 (pos 0), frame .few-vertices, frame .few, frame .gains-fit)
 
 heaviest-requires : tie.Need-heaviest-requires Inv-loop μ-loop
 heaviest-requires c κs =
