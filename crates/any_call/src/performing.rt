@@ -44,13 +44,6 @@ pub struct MovingTurn {
     pub answer: Answer,
 }
 
-// The same of a call that leaves the metric.
-pub struct ContractingTurn {
-    pub stack: Stack,
-    pub journal: Journal,
-    pub answer: Answer,
-}
-
 // M, B, W, or P.
 fn moving(
     counts: &mut [u16],
@@ -252,14 +245,14 @@ fn contracting(
     letter: u32,
     x: usize,
     y: usize,
-) -> ContractingTurn
+) -> Turn
     requires { ⌜ ReadyS
         (λ loads. tables (now counts) (now visited) (now gains) (now presentpins) (now presentsizes) (now bits) (now blocks) (now weights) (now aboves) loads (now netweights) (now firsts) (now loadedsizes) n m k total)
         (two (stack .into) (stack .gone) (stack .len)) (two (journal .vertices) (journal .blocks) (journal .len)) ⌝ }
     requires { ⌜ 16 * n ≤ length (now index) ⌝ }
     ensures { λ r. ⌜ ((loads : List ℕ) (h : Hypergraph) (ceiling : ℕ → ℕ) → Called h ceiling
         (tables (now (counts .entry)) (now (visited .entry)) (now (gains .entry)) (now (presentpins .entry)) (now (presentsizes .entry)) (now (bits .entry)) (now (blocks .entry)) (now (weights .entry)) (now (aboves .entry)) loads (now (netweights .entry)) (now (firsts .entry)) (now (loadedsizes .entry)) n m k total)
-        (tables (now (counts .exit)) (now (visited .exit)) (now (gains .exit)) (now (presentpins .exit)) (now (presentsizes .exit)) (now (bits .exit)) (now (blocks .exit)) (now (weights .exit)) (now (aboves .exit)) loads (now (netweights .exit)) (now (firsts .exit)) (now (loadedsizes .exit)) n m k total)
+        (tables (now (counts .exit)) (now (visited .exit)) (now (gains .exit)) (now (presentpins .exit)) (now (presentsizes .exit)) (now (bits .exit)) (now (blocks .exit)) (now (weights .exit)) (now (aboves .exit)) loads (now (netweights .exit)) (now (firsts .exit)) (now (loadedsizes .exit)) n m k (r .total))
         (two (stack .into) (stack .gone) (stack .len)) (two (r .stack .into) (r .stack .gone) (r .stack .len)) (two (journal .vertices) (journal .blocks) (journal .len)) (two (r .journal .vertices) (r .journal .blocks) (r .journal .len)) (contractingCall letter x y) (answerOf (r .answer))) ⌝ }
     ensures { λ _. ⌜ KeepsRight (now (gains .entry)) (now (blocks .entry)) (now (gains .exit)) (now (blocks .exit)) n k (now (index .entry)) (now (index .exit)) ⌝ }
 {
@@ -288,9 +281,10 @@ fn contracting(
         );
         let joins = t.stack;
         let after = t.journal;
-        return ContractingTurn {
+        return Turn {
             stack: joins,
             journal: after,
+            total: total,
             answer: answer(t.no, Answer::Contracted { weight: t.weight }),
         };
     }
@@ -317,9 +311,10 @@ fn contracting(
     );
     let joins = t.stack;
     let after = t.journal;
-    ContractingTurn {
+    Turn {
         stack: joins,
         journal: after,
+        total: total,
         answer: answer(
             t.no,
             Answer::Uncontracted {
@@ -367,7 +362,7 @@ pub fn perform(
     ensures { λ _. ⌜ KeepsRight (now (gains .entry)) (now (blocks .entry)) (now (gains .exit)) (now (blocks .exit)) (size .n) (size .k) (now (index .entry)) (now (index .exit)) ⌝ }
 {
     if is_contracting(letter) {
-        let t = contracting(
+        return contracting(
             counts,
             visited,
             gains,
@@ -391,15 +386,6 @@ pub fn perform(
             x,
             y,
         );
-        let joins = t.stack;
-        let after = t.journal;
-        let says = t.answer;
-        return Turn {
-            stack: joins,
-            journal: after,
-            total: total,
-            answer: says,
-        };
     }
     if is_moving(letter) {
         let into = stack.into;

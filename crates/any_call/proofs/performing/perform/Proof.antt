@@ -43,7 +43,7 @@ same-length-9 c = search needs
 
 returns : tie.Need-returns
 returns c =
-    let at-contracting = c .before .before .before .before .before .before .before .before .before .before .before .before .before .before .before .before .before .before .before .before .before in
+    let at-contracting = c .before .before .before .before .before .before .before .before .before .before .before .before .before .before .before .before .before .before .before in
     let at-if1 = at-contracting .before .before .before .before .before .before .before .before .before .before .before in
     let at-is-contracting = at-if1 .before in
     let start = at-is-contracting .before .before .before .before .before .before .before .before .before .before .before .before .before in
