@@ -170,7 +170,7 @@ impl Memory {
         self.pins(&self.loadedpins, false, net)
     }
 
-    /// A buyer's marks as they stand, in any order; none for a number that names no buyer.
+    /// A buyer's marks as they stand, the lowest first; none for a number that names no buyer.
     pub fn presentpins(&self, net: u32) -> &[u16] {
         self.pins(&self.presentpins, true, net)
     }

@@ -9,14 +9,16 @@ use Rattle.laws.specs.Occurrence.{occ}
 use Rattle.model.specs.Catalogue.{Hypergraph, vertices}
 use Rattle.connectivity.specs.Listed.{has-is}
 use Rattle.incidence.specs.On.{on}
+use Rattle.pins.specs.Rising.{Rising}
 use Rattle.pins.specs.Stack.{loadedPin}
 use Rattle.pins.specs.Board.{Room, board-loaded, room-kept}
 use Rattle.levels.specs.Running.{running, Follows, netAt}
 use Rattle.first_tables.specs.Prepare.{Prepared}
 
--- the loader's tables are those of the catalogue: each loaded pin stands once in its net's stretch
+-- the loader's tables are those of the catalogue: each loaded pin stands once in its net's stretch, the lowest first
 pub record Loaded (h : Hypergraph) (block : ℕ → ℕ) (weights pins blocks firsts sizes : List ℕ) (n m k : ℕ) : Type 0 where
   pub listed : (e : ℕ) → e < m → (x : ℕ) → occ pins (getD firsts e 0) (getD sizes e 0) x ≡ one (loadedPin (netAt h e) x)
+  pub rising : (e : ℕ) → e < m → Rising pins (getD firsts e 0) (getD sizes e 0)
   pub all-vertices : n ≡ vertices h
   pub all-nets : m ≡ length (h .nets)
   pub all-blocks : k ≡ h .blocks
@@ -29,7 +31,7 @@ pub prepared-follows : {h : Hypergraph} {block : ℕ → ℕ} {weights pins bloc
 prepared-follows {h} {pins = pins} {firsts = firsts} {sizes = sizes} {bits′ = bits′} {n = n} {m = m} w ro t = record {
   says = record {
     sound = tt;
-    board = board-loaded (λ e. loadedPin (netAt h e)) pins firsts sizes bits′ n m (w .listed) marked;
+    board = board-loaded (λ e. loadedPin (netAt h e)) pins firsts sizes bits′ n m (w .listed) (w .rising) marked;
     all-vertices = w .all-vertices;
     all-nets = w .all-nets;
     all-blocks = w .all-blocks;

@@ -9,24 +9,26 @@ use lib.Dec.{ltb}
 use lib.ListN.{length, getD, take}
 use lib.Seq.{length-take-le, getD-take}
 use Rattle.laws.specs.Fold.{sumOver, sumOver-le}
-use Rattle.laws.specs.Occurrence.{occ}
-use Rattle.laws.specs.Choice.{one}
+use Rattle.laws.specs.Occurrence.{occ, occ-distinct}
+use Rattle.laws.specs.Choice.{one, one-le}
 use Rattle.model.specs.Catalogue.{Limits, Hypergraph, vertices, fixedEntry, drafted, nearest, capacity, capacities}
 use Rattle.model.specs.Measure.{pin, size, weight}
 use Rattle.model.specs.Machine.{fresh}
 use Rattle.model.specs.Grammar.{Book, reading, parse}
-use Rattle.model.specs.Memory.{Filled, net, allPins, firstPlace, weightEntry, blockEntry, weightWhenGone}
+use Rattle.model.specs.Memory.{Filled, net, allPins, firstPlace, weightEntry, blockEntry, weightWhenGone, takenOut}
 use Rattle.model.specs.Lent.{callsOf, lists}
 use Rattle.guarantees.specs.Caps.{Capped}
 use Rattle.guarantees.specs.Loads.{Loaded as Good, sum-below, parsed, held-start}
 use Rattle.guarantees.specs.Splits.{board-none, above-none, weight-none}
+use Rattle.pins.specs.Rising.{Rising}
+use Rattle.pins.specs.Sorting.{start}
 use Rattle.lines.specs.Line.{book}
 use Rattle.reader.specs.Whole.{averageOf, graphOf, Fitted, FileRead, seen as told}
 use Rattle.reader.specs.declared.Outcome.{Outcome}
 use Rattle.reader.specs.declared.Outcome.the-variants.{Taken, Refused as Stopped}
 use Rattle.reader.specs.Buyers.{netsOf, Laid}
 use Rattle.reader.proofs.Loads.{average-is, capacity-is}
-use Rattle.loader.specs.Tables.{Started, Loads, sizesOf}
+use Rattle.loader.specs.Tables.{InOrder, Started, Loads, sizesOf}
 use Rattle.loader.specs.declared.Sizes.{Sizes}
 use Rattle.loader.specs.declared.Loaded.the-variants.{Accepted, Refused}
 use Rattle.loader.proofs.Fill.{filled, filled-in, filled-out, filled-as}
@@ -77,7 +79,7 @@ module _ (limits : Limits) (file : List ℕ) (l b k t m n : ℕ) (w₀ d₀ a₀
     pub small : averageOf k (take l lo) ≤ 67107855 + k
     small = small-average limits h good (omega (arith, count, fit .range .l-high)) k
 
-    module _ (fa : Filled 0 (λ i. ltb i l) (λ i. 0) a₀ a) (fp : Filled 0 (λ i. ltb i m) (λ i. getD lp i 0) pp₀ pp) (fc : Filled 0 (λ i. ltb i b) (λ i. getD c i 0) pc₀ pc) where
+    module _ (fa : Filled 0 (λ i. ltb i l) (λ i. 0) a₀ a) (fp : InOrder lp c b m pp₀ pp) (fc : Filled 0 (λ i. ltb i b) (λ i. getD c i 0) pc₀ pc) where
       weight-at : (i : ℕ) → i < l → i < length w₀ → getD w i 0 ≡ weightEntry h [] (drafted h) (suc i)
       unfolding weightEntry
       weight-at i u _ =
@@ -103,8 +105,8 @@ module _ (limits : Limits) (file : List ℕ) (l b k t m n : ℕ) (w₀ d₀ a₀
       abbrev laid : Laid b m f₀ c₀ lp₀ f c lp
       laid = fit .settled .laid
 
-      copied : (i : ℕ) → i < m → getD pp i 0 ≡ getD lp i 0
-      copied i u = filled-in m (λ i. getD lp i 0) pp₀ pp fp i u (omega (arith, laid .m-le))
+      copied : (i : ℕ) → i < m → getD (fp .copy) i 0 ≡ getD lp i 0
+      copied i u = filled-in m (λ i. getD lp i 0) pp₀ (fp .copy) (fp .copied) i u (omega (arith, laid .m-le))
 
       total : length (allPins (h .nets)) ≡ m
       total = pins-count h b m f₀ c₀ lp₀ nw f c lp refl laid wide
@@ -121,13 +123,49 @@ module _ (limits : Limits) (file : List ℕ) (l b k t m n : ℕ) (w₀ d₀ a₀
       present-at : (i : ℕ) → i < b → size h [] (net h (suc i)) ≡ getD c i 0
       present-at = present-is h b m f₀ c₀ lp₀ nw f c lp refl laid wide (good .nets-in) (good .nets-distinct)
 
-      sets-at : (e v : ℕ) → 1 ≤ e → e ≤ length (h .nets) → occ pp (firstPlace h e) (size h [] (net h e)) v ≡ one (pin [] (net h e) v)
-      sets-at zero v l u = absurd (omega arith)
-      sets-at (suc y) v l u =
+      sets-by : (q : List ℕ) → ((y v : ℕ) → y < b → occ q (getD f y 0) (getD c y 0) v ≡ one (pin [] (net h (suc y)) v))
+          → (e v : ℕ) → 1 ≤ e → e ≤ length (h .nets) → occ q (firstPlace h e) (size h [] (net h e)) v ≡ one (pin [] (net h e) v)
+      sets-by q is zero v l u = absurd (omega arith)
+      sets-by q is (suc y) v l u =
           let z : y < b = omega (arith, known) in
-          ap (λ (x : ℕ). occ pp x (size h [] (net h (suc y))) v) (sym (first-at y z))
-          ∙ ap (λ (x : ℕ). occ pp (getD f y 0) x v) (present-at y z)
-          ∙ sets-is h b m f₀ c₀ lp₀ nw f c lp refl laid wide (good .nets-in) (good .nets-distinct) pp copied y v z
+          ap (λ (x : ℕ). occ q x (size h [] (net h (suc y))) v) (sym (first-at y z))
+          ∙ ap (λ (x : ℕ). occ q (getD f y 0) x v) (present-at y z)
+          ∙ is y v z
+
+      -- a list that has the loaded marks
+      marks-in : (q : List ℕ) → ((i : ℕ) → i < m → getD q i 0 ≡ getD lp i 0) → (y v : ℕ) → y < b → occ q (getD f y 0) (getD c y 0) v ≡ one (pin [] (net h (suc y)) v)
+      marks-in q is y v z = sets-is h b m f₀ c₀ lp₀ nw f c lp refl laid wide (good .nets-in) (good .nets-distinct) q is y v z
+
+      sorted-in : (y v : ℕ) → y < b → occ pp (getD f y 0) (getD c y 0) v ≡ one (pin [] (net h (suc y)) v)
+      sorted-in y v z =
+          ap (λ (x : ℕ). occ pp x (getD c y 0) v) (laid .first-is y z)
+          ∙ fp .sorted .often y v z
+          ∙ sym (ap (λ (x : ℕ). occ (fp .copy) x (getD c y 0) v) (laid .first-is y z))
+          ∙ marks-in (fp .copy) copied y v z
+
+      rising-in : (y : ℕ) → y < b → Rising pp (getD f y 0) (getD c y 0)
+      rising-in y z = rw (laid .first-is y z) (fp .sorted .rising y z (occ-distinct (fp .copy) (start c y) (getD c y 0) (λ x. omega (
+        arith,
+        ap (λ (g : ℕ). occ (fp .copy) g (getD c y 0) x) (laid .first-is y z),
+        marks-in (fp .copy) copied y x z,
+        one-le (pin [] (net h (suc y)) x),
+      ))))
+
+      rising-at : (e i j : ℕ) → 1 ≤ e → e ≤ length (h .nets) → i < j → j < size h [] (net h e) → getD pp (firstPlace h e + i) 0 < getD pp (firstPlace h e + j) 0
+      rising-at zero i j l u ij jn = absurd (omega arith)
+      rising-at (suc y) i j l u ij jn =
+          let z : y < b = omega (arith, known) in
+          let g : firstPlace h (suc y) ≡ getD f y 0 = sym (first-at y z) in
+          rw g (rising-in y z i j ij (omega (arith, present-at y z)))
+
+      whole-at : (e : ℕ) → 1 ≤ e → e ≤ length (h .nets) → size h [] (net h e) + length (takenOut [] (net h e)) ≡ length (net h e .pins)
+      unfolding takenOut
+      whole-at zero l u = absurd (omega arith)
+      whole-at (suc y) l u = let z : y < b = omega (arith, known) in omega (arith, present-at y z, size-is h b m f₀ c₀ lp₀ nw f c lp refl laid wide y z)
+
+      none-taken : (e i : ℕ) → 1 ≤ e → e ≤ length (h .nets) → i < length (takenOut [] (net h e)) → getD pp (firstPlace h e + (size h [] (net h e) + i)) 0 ≡ getD (takenOut [] (net h e)) i 0
+      unfolding takenOut
+      none-taken e i l u k = absurd (omega arith)
 
       pub started : Started h (lists w₀ d₀ a₀ fx₀ lp₀ pp₀ f₀ c₀ pc₀) (lists w d a fx lp pp f c pc)
       started = record {
@@ -136,8 +174,15 @@ module _ (limits : Limits) (file : List ℕ) (l b k t m n : ℕ) (w₀ d₀ a₀
         aboves = filled-as l (vertices h) (λ i. 0) _ a₀ a fa (sym count) (λ i u. sym (above-none (suc i)));
         fixed = filled-as l (vertices h) _ _ fx₀ fx (filled l (λ i. fixedEntry h (suc i)) fx₀ fx fx-len fixed-at (fit .fx-past)) (sym count) (λ i u. refl);
         loadedPins = filled-as m (length (allPins (h .nets))) (λ i. getD lp i 0) _ lp₀ lp (filled m (λ i. getD lp i 0) lp₀ lp lp-len (λ i u v. refl) (laid .past)) (sym total) pin-at;
-        copiedPins = filled-as m (length (allPins (h .nets))) (λ i. getD lp i 0) _ pp₀ pp fp (sym total) pin-at;
-        presentPins = record { as-long = fp .as-long; sets = sets-at; past = λ i u v. filled-out m (λ i. getD lp i 0) pp₀ pp fp i (omega (arith, total)) v };
+        loadedOften = sets-by lp (marks-in lp (λ i u. refl));
+        presentPins = record {
+          as-long = fp .sorted .len ∙ fp .copied .as-long;
+          sets = sets-by pp sorted-in;
+          rising = rising-at;
+          whole = whole-at;
+          taken = none-taken;
+          past = λ i u v. fp .sorted .behind i (omega (arith, total, laid .m-is)) ∙ filled-out m (λ i. getD lp i 0) pp₀ (fp .copy) (fp .copied) i (omega (arith, total)) v;
+        };
         firsts = filled-as b (length (h .nets)) (λ i. getD f i 0) _ f₀ f (filled b (λ i. getD f i 0) f₀ f f-len (λ i u v. refl) (laid .f-past)) (sym known) first-at;
         loadedSizes = filled-as b (length (h .nets)) (λ i. getD c i 0) _ c₀ c (filled b (λ i. getD c i 0) c₀ c c-len (λ i u v. refl) (laid .c-past)) (sym known) (λ i u. sym (size-is h b m f₀ c₀ lp₀ nw f c lp refl laid wide i u));
         presentSizes = filled-as b (length (h .nets)) (λ i. getD c i 0) _ pc₀ pc fc (sym known) (λ i u. sym (present-at i u));

@@ -6,11 +6,14 @@ use mathlib.Core.List.{List, []}
 use lib.Dec.{ltb}
 use lib.ListN.{length, getD}
 use Rattle.model.specs.Catalogue.{Limits, Hypergraph, vertices, fixedEntry, drafted, averageWeight, capacity, capacities}
-use Rattle.model.specs.Measure.{above, size}
+use Rattle.laws.specs.Choice.{one}
+use Rattle.laws.specs.Occurrence.{occ}
+use Rattle.model.specs.Measure.{above, pin, size}
 use Rattle.model.specs.Grammar.{Reading, reading, stopped, parse}
 use Rattle.model.specs.Memory.{Filled, Column, Pins, net, allPins, firstPlace, weightEntry, blockEntry}
 use Rattle.model.specs.Lent.{Lists, callsOf}
 use Rattle.guarantees.specs.Caps.{Capped}
+use Rattle.pins.specs.Sorting.{SortedTo}
 use Rattle.lines.specs.Line.{book, InRange}
 use Rattle.reader.specs.Whole.{graphOf}
 use Rattle.loader.specs.declared.Sizes.{Sizes}
@@ -29,15 +32,20 @@ pub record LongLists (v : ℕ) (t : Lists) : Type 0 where
   pub loadedSizes : 1024 ≤ length (t .loadedSizes)
   pub presentSizes : 1024 ≤ length (t .presentSizes)
 
--- what the lists hold for a fresh machine over h; entries that h has no use for keep what they held. The present marks stand in
--- the order of the loaded ones
+-- the first m marks as loaded, then each of b buyers' put in order
+pub record InOrder (lp sizes : List ℕ) (b m : ℕ) (pp₀ pp : List ℕ) : Type 0 where
+  pub copy : List ℕ
+  pub copied : Filled 0 (λ i. ltb i m) (λ i. getD lp i 0) pp₀ copy
+  pub sorted : SortedTo copy pp sizes b
+
+-- what the lists hold for a fresh machine over h; entries that h has no use for keep what they held
 pub record Started (h : Hypergraph) (old new : Lists) : Type 0 where
   pub weights : Column (vertices h) (weightEntry h [] (drafted h)) (old .weights) (new .weights)
   pub blocks : Column (vertices h) (blockEntry h [] (drafted h)) (old .blocks) (new .blocks)
   pub aboves : Column (vertices h) (above []) (old .aboves) (new .aboves)
   pub fixed : Column (vertices h) (fixedEntry h) (old .fixed) (new .fixed)
   pub loadedPins : Filled 0 (λ i. ltb i (length (allPins (h .nets)))) (λ i. getD (allPins (h .nets)) i 0) (old .loadedPins) (new .loadedPins)
-  pub copiedPins : Filled 0 (λ i. ltb i (length (allPins (h .nets)))) (λ i. getD (allPins (h .nets)) i 0) (old .presentPins) (new .presentPins)
+  pub loadedOften : (e v : ℕ) → 1 ≤ e → e ≤ length (h .nets) → occ (new .loadedPins) (firstPlace h e) (size h [] (net h e)) v ≡ one (pin [] (net h e) v)
   pub presentPins : Pins h [] (old .presentPins) (new .presentPins)
   pub firsts : Column (length (h .nets)) (firstPlace h) (old .firsts) (new .firsts)
   pub loadedSizes : Column (length (h .nets)) (λ e. length (net h e .pins)) (old .loadedSizes) (new .loadedSizes)

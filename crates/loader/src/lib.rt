@@ -1,4 +1,5 @@
 // Loads a sale file into lent tables, or says its first refusal.
+use pins::sort_nets;
 use reader::Outcome;
 ghost use mathlib.Core.Path.{_≡_};
 ghost use Prim.Native.Nat.{_+_, _*_, _≤_};
@@ -9,7 +10,8 @@ ghost use Rattle.model.specs.Memory.{Filled};
 ghost use Rattle.model.specs.Lent.{lists};
 ghost use Rattle.lines.specs.Line.{limitsOf};
 ghost use Rattle.reader.specs.Whole.{averageOf};
-ghost use Rattle.loader.specs.Tables.{LongLists, sizesOf, Loads};
+ghost use Rattle.pins.specs.Sorting.{start as begins};
+ghost use Rattle.loader.specs.Tables.{LongLists, InOrder, sizesOf, Loads};
 
 // The sizes of an accepted catalogue: how many lots, buyers, sessions, thousandths of slack, marks and calls; ⌈W/k⌉; the cap.
 pub struct Sizes {
@@ -53,7 +55,7 @@ fn copy(from: &[u16], to: &mut [u16], n: usize)
     }
 }
 
-// No lot is joined into another, and the present marks are the loaded ones.
+// No lot is joined into another, and the present marks are the loaded ones, each buyer's in order.
 fn start(
     vertices: usize,
     nets: usize,
@@ -65,13 +67,14 @@ fn start(
     presentsizes: &mut [u16],
 )
     requires { ⌜ (vertices ≤ length (now aboves)) × (m ≤ length (now loadedpins)) × (m ≤ length (now presentpins)) × (nets ≤ length (now loadedsizes))
-        × (nets ≤ length (now presentsizes)) ⌝ }
+        × (nets ≤ length (now presentsizes)) × (begins (now loadedsizes) nets ≡ m) ⌝ }
     ensures { λ _. ⌜ Filled 0 (λ i. ltb i vertices) (λ i. 0) (now (aboves .entry)) (now (aboves .exit))
-        × Filled 0 (λ i. ltb i m) (λ i. getD (now (loadedpins .entry)) i 0) (now (presentpins .entry)) (now (presentpins .exit))
+        × InOrder (now (loadedpins .entry)) (now (loadedsizes .entry)) nets m (now (presentpins .entry)) (now (presentpins .exit))
         × Filled 0 (λ i. ltb i nets) (λ i. getD (now (loadedsizes .entry)) i 0) (now (presentsizes .entry)) (now (presentsizes .exit)) ⌝ }
 {
     clear(aboves, vertices);
     copy(loadedpins, presentpins, m);
+    sort_nets(presentpins, loadedsizes, nets);
     copy(loadedsizes, presentsizes, nets);
 }
 

@@ -21,7 +21,7 @@ use Rattle.model.specs.Catalogue.{Net, Hypergraph, vertices, drafted}
 use Rattle.model.specs.Measure.{Contraction, above, onBoard, pin, size, pinCount, gain}
 use Rattle.model.specs.Machine.{State}
 use Rattle.model.specs.Index.{ranked}
-use Rattle.model.specs.Memory.{Tables as MemoryTables, Filled, Column, Grid, Pins, Holds, net, allPins, firstPlace, weightEntry, blockEntry, gainEntry, indexEntry, mask}
+use Rattle.model.specs.Memory.{Tables as MemoryTables, Filled, Column, Grid, Pins, Holds, takenOut, net, allPins, firstPlace, weightEntry, blockEntry, gainEntry, indexEntry, mask}
 use Rattle.model.specs.Lent.{Lists, lists}
 use Rattle.guarantees.specs.Stretches.{stretch-le}
 use Rattle.guarantees.specs.Ranks.{ranked-is, ranked-ext}
@@ -30,6 +30,8 @@ use Rattle.index.specs.Indexed.{rowFor, row-off, row-on, Indexed}
 use Rattle.connectivity.specs.Raised.{at}
 use Rattle.connectivity.specs.Matrix.{KeptGains}
 use Rattle.connectivity.specs.Set.{kept-gains-trans}
+use Rattle.pins.specs.Stack.{loadedPin, past}
+use Rattle.pins.specs.Stretch.{Stretch}
 use Rattle.levels.specs.Running.{netAt}
 use Rattle.levels.specs.Reading.{Reads, reads}
 use Rattle.operations.specs.Tables.{Tables as CallTables, tables, runningOf, Sound, Keeps}
@@ -37,6 +39,7 @@ use Rattle.first_tables.specs.Prepare.{Prepared}
 use Rattle.loader.specs.Tables.{Started}
 use Rattle.loader.proofs.Fill.{filled-in, filled-out}
 use Rattle.memory.specs.Mask.{mask-is}
+use Rattle.memory.specs.Taken.{past-taken}
 
 -- the lent tables as a running sale has them; who is fixed, the loaded pins and the index stand beside its tables
 abbrev pub memoryOf : CallTables → List ℕ → List ℕ → List ℕ → MemoryTables
@@ -249,12 +252,38 @@ held {h} {s} {old} {new} {index = index′} {n = n} {m = m} {k = k} {T = T} star
     presentPins = record {
       as-long = keeps .running .lists .pins-len ∙ started .presentPins .as-long;
       sets = sets;
+      rising = rising;
+      whole = whole;
+      taken = taken;
       past = λ i l u. keeps .running .lists .pins-past i (λ e le. inr (omega (arith, ends e (omega (arith, m-all))))) ∙ started .presentPins .past i l u;
     }
       where
         sets : (e v : ℕ) → 1 ≤ e → e ≤ length (h .nets) → occ (T .pins) (firstPlace h e) (size h (s .stack) (net h e)) v ≡ one (pin (s .stack) (net h e) v)
         sets zero v l u = absurd (omega arith)
         sets (suc e) v l u = ap₂ (λ (f z : ℕ). occ (T .pins) f z v) (sym (first-at e (omega arith))) (sym (size-in sound e (omega arith))) ∙ pins-in sound e v (omega arith)
+
+        stretch : (e : ℕ) → e < length (h .nets) → Stretch (loadedPin (netAt h e)) (s .stack) (T .pins) (getD (T .firsts) e 0) (getD (T .sizes) e 0) (getD (T .loaded) e 0)
+        stretch e l = sound .follows .says .board .nets e (omega (arith, all-nets sound))
+
+        out-is : (e : ℕ) → past (loadedPin (netAt h e)) (s .stack) ≡ takenOut (s .stack) (net h (suc e))
+        out-is e = past-taken (netAt h e) (s .stack) (sound .follows .says .sound) ∙ ap (takenOut (s .stack)) (net-at h e)
+
+        rising : (e i j : ℕ) → 1 ≤ e → e ≤ length (h .nets) → i < j → j < size h (s .stack) (net h e) → getD (T .pins) (firstPlace h e + i) 0 < getD (T .pins) (firstPlace h e + j) 0
+        rising zero i j l u ij jn = absurd (omega arith)
+        rising (suc e) i j l u ij jn =
+            let g : firstPlace h (suc e) ≡ getD (T .firsts) e 0 = sym (first-at e (omega arith)) in
+            rw g (stretch e (omega arith) .rising i j ij (omega (arith, size-in sound e (omega arith))))
+
+        whole : (e : ℕ) → 1 ≤ e → e ≤ length (h .nets) → size h (s .stack) (net h e) + length (takenOut (s .stack) (net h e)) ≡ length (net h e .pins)
+        whole zero l u = absurd (omega arith)
+        whole (suc e) l u = omega (arith, stretch e (omega arith) .whole, size-in sound e (omega arith), size-at e (omega arith), ap length (out-is e))
+
+        taken : (e i : ℕ) → 1 ≤ e → e ≤ length (h .nets) → i < length (takenOut (s .stack) (net h e)) → getD (T .pins) (firstPlace h e + (size h (s .stack) (net h e) + i)) 0 ≡ getD (takenOut (s .stack) (net h e)) i 0
+        taken zero i l u k = absurd (omega arith)
+        taken (suc e) i l u k =
+            ap₂ (λ (f z : ℕ). getD (T .pins) (f + (z + i)) 0) (sym (first-at e (omega arith))) (sym (size-in sound e (omega arith)))
+            ∙ stretch e (omega arith) .after i (omega (arith, ap length (out-is e)))
+            ∙ ap (λ (l : List ℕ). getD l i 0) (out-is e)
 
         -- a stretch ends within all pins
         ends : (e : ℕ) → e < length (h .nets) → getD (new .firsts) e 0 + getD (new .loadedSizes) e 0 ≤ length (allPins (h .nets))

@@ -28,6 +28,7 @@ use Rattle.guarantees.specs.Stretches.{size-fresh, stretch-le, marks-le}
 use Rattle.incidence.specs.Word.{bit-of-zero}
 use Rattle.incidence.specs.On.{on-is}
 use Rattle.fixed.specs.Starting.{FixedIs, FixedMarked}
+use Rattle.pins.specs.Rising.{Rising}
 use Rattle.pins.specs.Stack.{loadedPin}
 use Rattle.levels.specs.Running.{netAt}
 use Rattle.lines.specs.Line.{book}
@@ -120,6 +121,9 @@ module _ {limits : Limits} {file : List ℕ} {z : Sizes} {old new : Lists} {nw l
       ∙ told .started .presentPins .sets (suc e) x (omega arith) (omega (arith, all-nets))
       ∙ ap one (pin-none (net h (suc e)) x ∙ ap (λ (n : Net). loadedPin n x) (net-number e))
 
+  rising-at : (e : ℕ) → e < z .nets → Rising (new .presentPins) (getD (new .firsts) e 0) (getD (new .presentSizes) e 0)
+  rising-at e le = rw (first-at e le, present-at e le) (λ i j ij jn. told .started .presentPins .rising (suc e) i j (omega arith) (omega (arith, all-nets)) ij jn)
+
   apart-at : (d e : ℕ) → d < z .nets → e < z .nets → d < e → getD (new .firsts) d 0 + getD (new .loadedSizes) d 0 ≤ getD (new .firsts) e 0
   apart-at d e ld le lt = omega (arith, first-at d ld, loaded-at d ld, first-at e le, stretch-before h d e lt)
 
@@ -128,7 +132,7 @@ module _ {limits : Limits} {file : List ℕ} {z : Sizes} {old new : Lists} {nw l
       → Opens h (new .presentPins) (new .blocks) (new .firsts) (new .presentSizes) (new .loadedSizes) (new .weights) nw bits counts visited gains (z .vertices) (z .nets) (z .blocks)
   opens {bits} counts-long visited-long gains-long bits-len blank = record {
     fit = record { limits = limits; narrow = narrow; short = short; ranges = ranges };
-    made = record { listed = listed-at; all-vertices = all-vertices; all-nets = all-nets; all-blocks = refl; weighs = weight-at; sits = sits };
+    made = record { listed = listed-at; rising = rising-at; all-vertices = all-vertices; all-nets = all-nets; all-blocks = refl; weighs = weight-at; sits = sits };
     room = record {
       firsts-fit = omega (arith, told .range .b-high, long .firsts, told .started .firsts .as-long);
       sizes-fit = omega (arith, told .range .b-high, long .presentSizes, told .started .presentSizes .as-long);

@@ -8,20 +8,18 @@ use lib.Dec.{ltb}
 use lib.ListN.{length, getD}
 use lib.IntN.{ℤ}
 use Rattle.laws.specs.Choice.{one}
-use Rattle.laws.specs.Occurrence.{occ, occ-ext}
+use Rattle.laws.specs.Occurrence.{occ}
 use Rattle.model.specs.Catalogue.{Limits, Hypergraph}
 use Rattle.model.specs.Measure.{Contraction, pin, size}
 use Rattle.model.specs.Machine.{State}
-use Rattle.model.specs.Memory.{Tables, Filled, Holds, net, allPins, firstPlace}
+use Rattle.model.specs.Memory.{Tables, Filled, Holds, net, firstPlace}
 use Rattle.model.specs.Lent.{Lists, lent}
 use Rattle.model.specs.Demand.{LoadedSets}
-use Rattle.guarantees.specs.Ranges.{accepted-ranges}
-use Rattle.guarantees.specs.Stretches.{stretch-le, marks-le}
 use Rattle.loader.specs.Tables.{LongLists, graph, Accepts, Loads}
 use Rattle.loader.specs.declared.Sizes.{Sizes}
 use Rattle.loader.specs.declared.Loaded.the-variants.{Accepted}
 use Rattle.loader.proofs.Fill.{filled-in}
-use Rattle.memory.specs.Open.{is-accepted, size-loaded, nets-few}
+use Rattle.memory.specs.Open.{size-loaded, nets-few}
 
 module _ {limits : Limits} {file : List ℕ} {z : Sizes} {old new : Lists} {nw lo calls : List ℕ} (narrow : limits .blockLimit ≤ 16) (short : limits .vertexLimit ≤ 1024)
     (long : LongLists (limits .vertexLimit) old) (l : Loads limits file (Accepted z) old new nw lo calls) where
@@ -30,9 +28,6 @@ module _ {limits : Limits} {file : List ℕ} {z : Sizes} {old new : Lists} {nw l
 
   told : Accepts limits z old new nw lo calls
   told = l .accepts z refl
-
-  all-le : length (allPins (h .nets)) ≤ 8192
-  all-le = marks-le limits h (accepted-ranges limits h (is-accepted narrow short long l))
 
   few : length (h .nets) ≤ 1024
   few = nets-few narrow short long l
@@ -43,12 +38,8 @@ module _ {limits : Limits} {file : List ℕ} {z : Sizes} {old new : Lists} {nw l
   -- the loaded marks, as often as they are marked
   loaded-often : (d v : ℕ) → d < length (h .nets) → occ (new .loadedPins) (firstPlace h (suc d)) (length (net h (suc d) .pins)) v ≡ one (pin [] (net h (suc d)) v)
   loaded-often d v q =
-      occ-ext (new .presentPins) (new .loadedPins) (firstPlace h (suc d)) (length (net h (suc d) .pins)) v (λ i u.
-      let inside : firstPlace h (suc d) + i < length (allPins (h .nets)) = omega (arith, stretch-le h (suc d) (omega arith) (omega arith)) in
-      filled-in (length (allPins (h .nets))) (λ i. getD (allPins (h .nets)) i 0) (old .loadedPins) (new .loadedPins) (told .started .loadedPins) (firstPlace h (suc d) + i) inside (omega (arith, all-le, long .loadedPins))
-      ∙ sym (filled-in (length (allPins (h .nets))) (λ i. getD (allPins (h .nets)) i 0) (old .presentPins) (new .presentPins) (told .started .copiedPins) (firstPlace h (suc d) + i) inside (omega (arith, all-le, long .presentPins))))
-      ∙ ap (λ (n : ℕ). occ (new .presentPins) (firstPlace h (suc d)) n v) (sym (fresh-size d q))
-      ∙ told .started .presentPins .sets (suc d) v (omega arith) (omega arith)
+      ap (λ (n : ℕ). occ (new .loadedPins) (firstPlace h (suc d)) n v) (sym (fresh-size d q))
+      ∙ told .started .loadedOften (suc d) v (omega arith) (omega arith)
 
   module _ {counts index visited : List ℕ} {gains : List ℤ} {t : Tables} {s : State} (q : Holds h s (lent old counts gains index visited) t) (same : t .loadedPins ≡ new .loadedPins) (none : s .stack ≡ []) where
     entry : {value : ℕ → ℕ} {before now : List ℕ} → Filled 0 (λ i. ltb i (length (h .nets))) value before now → 1024 ≤ length before → (d : ℕ) → d < length (h .nets) → getD now d 0 ≡ value d

@@ -115,11 +115,19 @@ Column n value old new = Filled 0 (λ i. ltb i n) (λ i. value (suc i)) old new
 abbrev pub Grid : {A : Type 0} → A → ℕ → ℕ → (ℕ → ℕ → A) → List A → List A → Type 0
 Grid none n k value old new = Filled none (λ i. ltb (i / 16) n && ltb (i % 16) k) (λ i. value (suc (i / 16)) (suc (i % 16))) old new
 
--- marks as they stand. In a buyer's stretch each present mark stands once and no other number does; their order, and the places
--- past that set within the loaded stretch, are free
+-- the marks that joins took out of a buyer's present set, the last one first: of a join between two of its marks, the lot that went
+unfoldable pub takenOut : List Contraction → Net → List ℕ
+takenOut [] e = []
+takenOut (c ∷ cs) e = cond (pin cs e (c .into) && pin cs e (c .gone)) (c .gone ∷ takenOut cs e) (takenOut cs e)
+
+-- marks as they stand. In a buyer's stretch each present mark stands once and no other number does, the lowest first; the places past that
+-- set within the loaded stretch hold the marks that joins took out
 pub record Pins (h : Hypergraph) (cs : List Contraction) (old new : List ℕ) : Type 0 where
   pub as-long : length new ≡ length old
   pub sets : (e v : ℕ) → 1 ≤ e → e ≤ length (h .nets) → occ new (firstPlace h e) (size h cs (net h e)) v ≡ one (pin cs (net h e) v)
+  pub rising : (e i j : ℕ) → 1 ≤ e → e ≤ length (h .nets) → i < j → j < size h cs (net h e) → getD new (firstPlace h e + i) 0 < getD new (firstPlace h e + j) 0
+  pub whole : (e : ℕ) → 1 ≤ e → e ≤ length (h .nets) → size h cs (net h e) + length (takenOut cs (net h e)) ≡ length (net h e .pins)
+  pub taken : (e i : ℕ) → 1 ≤ e → e ≤ length (h .nets) → i < length (takenOut cs (net h e)) → getD new (firstPlace h e + (size h cs (net h e) + i)) 0 ≡ getD (takenOut cs (net h e)) i 0
   pub past : (i : ℕ) → length (allPins (h .nets)) ≤ i → i < length old → getD new i 0 ≡ getD old i 0
 
 -- what the tables hold for a state of the machine, where `old` is what they held before the file was read

@@ -133,6 +133,12 @@ two a b x ne = go (ℕ-discrete a x) (ℕ-discrete b x)
     go (no p) (yes q) = rw (ne-eqb a x p, eq-eqb b x q) refl
     go (no p) (no q) = rw (ne-eqb a x p, ne-eqb b x q) refl
 
+rises : (p : ℕ → ℕ) → p 0 < p 1 → (i j : ℕ) → i < j → j < 2 → p i < p j
+rises p h i zero ij jn = absurd (omega arith)
+rises p h zero (suc zero) ij jn = h
+rises p h (suc i) (suc zero) ij jn = absurd (omega arith)
+rises p h i (suc (suc j)) ij jn = absurd (omega arith)
+
 frame : (cs vs : List ℕ) (g : List ℤ) → length cs ≡ 48 → length vs ≡ 3 → length g ≡ 80 → Frame netWeights cs vs g 5 3 2
 frame cs vs g c v q = record {
   counts-fit = omega arith;
@@ -151,6 +157,7 @@ opens = record {
   fit = record { limits = mainLimits; narrow = omega arith; short = omega arith; ranges = accepted-ranges mainLimits five accepted };
   made = record {
     listed = below3 _ (λ x. two 1 3 x (λ q. omega arith)) (λ x. two 2 5 x (λ q. omega arith)) (λ x. two 3 4 x (λ q. omega arith));
+    rising = below3 _ (rises (λ i. getD pins (0 + i) 0) (omega arith)) (rises (λ i. getD pins (2 + i) 0) (omega arith)) (rises (λ i. getD pins (4 + i) 0) (omega arith));
     all-vertices = refl;
     all-nets = refl;
     all-blocks = refl;

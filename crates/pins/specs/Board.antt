@@ -14,6 +14,7 @@ use Rattle.laws.specs.Occurrence.{occ}
 use Rattle.model.specs.Measure.{Contraction, above}
 use Rattle.incidence.specs.On.{on}
 use Rattle.pins.specs.Stack.{row, past, present-on}
+use Rattle.pins.specs.Rising.{Rising}
 use Rattle.pins.specs.Stretch.{Stretch}
 
 -- v contracted into u; the code counts vertices from 0
@@ -69,18 +70,19 @@ room-kept hp hs hb r = record {
 }
 
 -- ---- lists as loaded: the empty stack
-stretch-loaded : (own : ℕ → Bool) (l : List ℕ) (f n : ℕ) → ((x : ℕ) → occ l f n x ≡ one (own x)) → Stretch own [] l f n n
+stretch-loaded : (own : ℕ → Bool) (l : List ℕ) (f n : ℕ) → ((x : ℕ) → occ l f n x ≡ one (own x)) → Rising l f n → Stretch own [] l f n n
 unfolding past row above
-stretch-loaded own l f n h = record {
+stretch-loaded own l f n h up = record {
   pins = λ x. h x ∙ sym (present-on own [] x refl);
+  rising = up;
   whole = omega arith;
   after = λ i k. absurd (omega arith);
 }
 
 pub board-loaded : (own : ℕ → ℕ → Bool) (pins firsts sizes bits : List ℕ) (n m : ℕ) → ((e : ℕ) → e < m → (x : ℕ) → occ pins (getD firsts e 0) (getD sizes e 0) x ≡ one (own e x)) →
-    ((x e : ℕ) → x < n → e < m → on bits x e ≡ one (own e (x + 1))) → Board own (λ _. []) pins firsts sizes sizes bits n m
+    ((e : ℕ) → e < m → Rising pins (getD firsts e 0) (getD sizes e 0)) → ((x e : ℕ) → x < n → e < m → on bits x e ≡ one (own e (x + 1))) → Board own (λ _. []) pins firsts sizes sizes bits n m
 unfolding row
-board-loaded own pins firsts sizes bits n m h b = record {
-  nets = λ e l. stretch-loaded (own e) pins (getD firsts e 0) (getD sizes e 0) (h e l);
+board-loaded own pins firsts sizes bits n m h up b = record {
+  nets = λ e l. stretch-loaded (own e) pins (getD firsts e 0) (getD sizes e 0) (h e l) (up e l);
   marked = b;
 }

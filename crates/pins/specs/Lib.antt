@@ -1,9 +1,13 @@
 -- Pin lists and their undo.
+-- Rising   a stretch whose pins rise; a pin carried to its end, or let down to its place
+-- Sorting  loaded pins put in order
 -- Link     a pin replaced or removed in one stretch, and put back
 -- Stack    what the contraction stack says of a net: its pins, and those removed, the last removed first
 -- Stretch  one net's list against the stack
 -- Board    all nets' lists and the incidence against a stack for each net
 -- Split    a contraction undone in one net; Uncontract in all nets
+pub mod Rising
+pub mod Sorting
 pub mod Link
 pub mod Stack
 pub mod Stretch

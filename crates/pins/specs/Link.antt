@@ -6,8 +6,9 @@ use Prim.Native.Nat.{ℕ, _+_, _-_, _≤_, _<_, max}
 use native.Mathlib.Decide.{ℕ-discrete, decLt}
 use native.Mathlib.Omega.{arith}
 use lib.ListN.{length, getD, set, length-set}
-use lib.Seq.{getD-set-same, getD-set-other}
+use lib.Seq.{getD-set-other}
 use Rattle.laws.specs.Occurrence.{at, same, occ, In, Distinct, same-yes, same-no, same-le, occ-step, occ-at, occ-in, occ-set, distinct-occ, occ-distinct}
+use Rattle.pins.specs.Rising.{Rising, RisingBut, Outside, Carried, Lowered, apart, rising-distinct}
 
 -- r is a place of the stretch that holds x, or n where x is in none
 pub record Found (l : List ℕ) (f n x r : ℕ) : Type 0 where
@@ -22,22 +23,20 @@ found-in l f n x r h i = go (decLt r n)
     go (yes k) = k
     go (no k) = absurd (omega (arith, h .missing (omega (arith, h .within)), occ-at l f n (i .0) x (i .1) (i .2)))
 
--- all that is not in the stretch of n places stands as it stood
-abbrev pub Outside : List ℕ → List ℕ → ℕ → ℕ → Type 0
-Outside l l′ f n = (k : ℕ) → (k < f) ⊎ (f + n ≤ k) → getD l′ k 0 ≡ getD l k 0
-
 -- v is contracted into u: the stretch of n places of l, with v among them, is now the stretch of r places of l′
 pub record Relinked (l l′ : List ℕ) (f n r u v : ℕ) : Type 0 where
   pub counts : (x : ℕ) → occ l′ f r x + same v x ≡ max (occ l f n x) (same u x)
   pub removed : 1 ≤ occ l f n u → (r + 1 ≡ n) × (at l′ f r ≡ v)
   pub replaced : occ l f n u ≡ 0 → r ≡ n
+  pub rising : Rising l f n → Rising l′ f r
   pub outside : Outside l l′ f n
 
 -- u is split into u and v again; N places were loaded
 pub record Unlinked (l l′ : List ℕ) (f n N r u v : ℕ) : Type 0 where
-  pub restored : n < N → at l f n ≡ v → (r ≡ n + 1) × (l′ ≡ l)
+  pub restored : n < N → at l f n ≡ v → (r ≡ n + 1) × ((x : ℕ) → occ l′ f r x ≡ occ l f n x + same v x)
   pub replaced : ((n < N) × (at l f n ≡ v) → ⊥) → (r ≡ n) × ((x : ℕ) → occ l′ f n x + same u x ≡ occ l f n x + same v x)
-  pub outside : Outside l l′ f n
+  pub rising : Rising l f n → occ l f n v ≡ 0 → Rising l′ f r
+  pub outside : Outside l l′ f r
 
 -- ---- what `relink` says of sets
 
@@ -77,79 +76,101 @@ contracted l l′ f n r u v ne d h k = record {
   members = λ x. (relinked-to l l′ f n r u v ne d h k x, λ w. relinked-from l l′ f n r u v ne d h k x (w .0) (w .1) (w .2));
 }
 
--- ---- the two cases of `relink`
+-- ---- one pin for another
+-- a of the stretch has become b
+pub record Replaced (l l′ : List ℕ) (f n a b : ℕ) : Type 0 where
+  pub counts : (x : ℕ) → occ l′ f n x + same a x ≡ occ l f n x + same b x
+  pub rising : occ l f n b ≡ 0 → Rising l f n → Rising l′ f n
+  pub outside : Outside l l′ f n
+  pub len : length l′ ≡ length l
 
-apart : (f n i j : ℕ) → i < n → (j < f) ⊎ (f + n ≤ j) → j ≡ f + i → ⊥
-apart f n i j k (inl o) e = omega arith
-apart f n i j k (inr o) e = omega arith
+-- the last place is left out
+but-last : (l : List ℕ) (f n : ℕ) → RisingBut l f n (n - 1) → Rising l f (n - 1)
+but-last l f n r i j ij jn = r i j ij (omega arith) (λ q. omega arith) (λ q. omega arith)
 
-module _ (l : List ℕ) (f n u v : ℕ) (b : f + n ≤ length l) (i : ℕ) (k : i < n) (e : at l f i ≡ v) where
-  -- v's place gets y
-  pub put-counts : (y x : ℕ) → occ (set l (f + i) y) f n x + same v x ≡ occ l f n x + same y x
-  put-counts y x = omega (arith, occ-set l f n i y x k (omega arith), ap (λ (z : ℕ). same z x) e)
-
-  pub put-outside : (y : ℕ) → Outside l (set l (f + i) y) f n
-  put-outside y j o = getD-set-other l (f + i) j y 0 (apart f n i j k o)
-
-  pub replace-law : occ l f n u ≡ 0 → Relinked l (set l (f + i) u) f n n u v
-  replace-law none = record {
-    counts = λ x. go x (ℕ-discrete u x);
-    removed = λ h. absurd (omega arith);
-    replaced = λ h. refl;
-    outside = put-outside u;
-  }
-    where
-      go : (x : ℕ) → Dec (u ≡ x) → occ (set l (f + i) u) f n x + same v x ≡ max (occ l f n x) (same u x)
-      go x (yes q) = omega (arith, put-counts u x, ap (occ l f n) q, same-le u x)
-      go x (no q) = omega (arith, put-counts u x, same-no u x q)
-
-  -- v is swapped with the last place
-  unfoldable pub swapped : List ℕ
-  swapped = set (set l (f + i) (at l f (n - 1))) (f + (n - 1)) v
-
-  moved : at (set l (f + i) (at l f (n - 1))) f (n - 1) ≡ at l f (n - 1)
-  moved = go (ℕ-discrete (n - 1) i)
-    where
-      go : Dec (n - 1 ≡ i) → at (set l (f + i) (at l f (n - 1))) f (n - 1) ≡ at l f (n - 1)
-      go (yes q) = rw q (getD-set-same l (f + i) (at l f i) 0 (omega arith))
-      go (no q) = getD-set-other l (f + i) (f + (n - 1)) (at l f (n - 1)) 0 (λ z. q (omega arith))
-
-  swapped-last : at swapped f (n - 1) ≡ v
-  unfolding swapped
-  swapped-last = getD-set-same (set l (f + i) (at l f (n - 1))) (f + (n - 1)) v 0 (simp length-set (omega arith))
-
-  swapped-counts : (x : ℕ) → occ swapped f (n - 1) x + same v x ≡ occ l f n x
-  unfolding swapped
-  swapped-counts x =
-      let l₁ : List ℕ = set l (f + i) (at l f (n - 1)) in
+module _ {l l₁ : List ℕ} {f n i : ℕ} (b : f + n ≤ length l) (k : i < n) (c : Carried l l₁ f n i (n - 1)) where
+  carried-counts : (a : ℕ) → at l f i ≡ a → (x : ℕ) → occ l₁ f (n - 1) x + same a x ≡ occ l f n x
+  carried-counts a e x =
       let m : n - 1 + 1 ≡ n = omega arith in
-      omega (
-        arith,
-        put-counts (at l f (n - 1)) x,
-        occ-set l₁ f n (n - 1) v x (omega arith) (simp length-set (omega arith)),
-        ap (λ (z : ℕ). same z x) moved,
-        rw m at (occ-step swapped f (n - 1) x),
-        ap (λ (z : ℕ). same z x) swapped-last,
-      )
+      omega (arith, rw m at (occ-step l₁ f (n - 1) x), ap (λ (z : ℕ). same z x) (c .here ∙ e), c .shuffled .often x)
 
-  pub remove-law : 1 ≤ occ l f n u → Relinked l swapped f n (n - 1) u v
-  unfolding swapped
-  remove-law some = record {
+  carried-rising : Rising l f n → Rising l₁ f (n - 1)
+  carried-rising r = but-last l₁ f n (c .rising (λ p q pq qn np nq. r p q pq qn))
+
+  pub remove-law : (u v : ℕ) → at l f i ≡ v → 1 ≤ occ l f n u → Relinked l l₁ f n (n - 1) u v
+  remove-law u v e some = record {
     counts = λ x. go x (ℕ-discrete u x);
-    removed = λ h. (omega arith, swapped-last);
+    removed = λ h. (omega arith, c .here ∙ e);
     replaced = λ h. absurd (omega arith);
-    outside = λ j o. getD-set-other (set l (f + i) (at l f (n - 1))) (f + (n - 1)) j v 0 (apart f n (n - 1) j (omega arith) o) ∙ put-outside (at l f (n - 1)) j o;
+    rising = carried-rising;
+    outside = c .shuffled .outside;
   }
     where
-      go : (x : ℕ) → Dec (u ≡ x) → occ swapped f (n - 1) x + same v x ≡ max (occ l f n x) (same u x)
-      go x (yes q) = omega (arith, swapped-counts x, ap (occ l f n) q, same-le u x)
-      go x (no q) = omega (arith, swapped-counts x, same-no u x q)
+      go : (x : ℕ) → Dec (u ≡ x) → occ l₁ f (n - 1) x + same v x ≡ max (occ l f n x) (same u x)
+      go x (yes q) = omega (arith, carried-counts v e x, ap (occ l f n) q, same-le u x)
+      go x (no q) = omega (arith, carried-counts v e x, same-no u x q)
+
+  -- the place at the end gets y, which is let down
+  pub replaced-law : {l₂ : List ℕ} (a y : ℕ) → at l f i ≡ a → Lowered (set l₁ (f + (n - 1)) y) l₂ f (n - 1) → Replaced l l₂ f n a y
+  replaced-law {l₂} a y e w = record {
+    counts = counted;
+    rising = λ none r. rw m at (w .rising (rw m (distinct none (distinct-occ l f n (rising-distinct l f n r)))) (λ p q pq qn. omega (arith, kept p (omega arith), kept q qn, carried-rising r p q pq qn)));
+    outside = λ j o. (rw m at (w .shuffled .outside)) j o ∙ getD-set-other l₁ (f + (n - 1)) j y 0 (apart f n (n - 1) j (omega arith) o) ∙ c .shuffled .outside j o;
+    len = w .shuffled .len ∙ length-set l₁ (f + (n - 1)) y ∙ c .shuffled .len;
+  }
+    where
+      m : n - 1 + 1 ≡ n
+      m = omega arith
+
+      l₁′ : List ℕ
+      l₁′ = set l₁ (f + (n - 1)) y
+
+      kept : (p : ℕ) → p < n - 1 → at l₁′ f p ≡ at l₁ f p
+      kept p h = getD-set-other l₁ (f + (n - 1)) (f + p) y 0 (λ q. omega arith)
+
+      put : (x : ℕ) → occ l₁′ f n x + same a x ≡ occ l f n x + same y x
+      put x = omega (arith, occ-set l₁ f n (n - 1) y x (omega arith) (omega (arith, c .shuffled .len)), ap (λ (z : ℕ). same z x) (c .here ∙ e), c .shuffled .often x)
+
+      counted : (x : ℕ) → occ l₂ f n x + same a x ≡ occ l f n x + same y x
+      counted x = omega (arith, put x, rw m at (w .shuffled .often x))
+
+      distinct : occ l f n y ≡ 0 → ((x : ℕ) → occ l f n x ≤ 1) → Distinct l₁′ f n
+      distinct none d = occ-distinct l₁′ f n (λ x. go x (ℕ-discrete y x))
+        where
+          go : (x : ℕ) → Dec (y ≡ x) → occ l₁′ f n x ≤ 1
+          go x (yes q) = omega (arith, put x, ap (occ l f n) q, same-le y x)
+          go x (no q) = omega (arith, put x, same-no y x q, d x)
+
+pub replace-law : {l l′ : List ℕ} {f n u v : ℕ} → occ l f n u ≡ 0 → Replaced l l′ f n v u → Relinked l l′ f n n u v
+replace-law {l} {l′} {f} {n} {u} {v} none k = record {
+  counts = λ x. go x (ℕ-discrete u x);
+  removed = λ h. absurd (omega arith);
+  replaced = λ h. refl;
+  rising = k .rising none;
+  outside = k .outside;
+}
+  where
+    go : (x : ℕ) → Dec (u ≡ x) → occ l′ f n x + same v x ≡ max (occ l f n x) (same u x)
+    go x (yes q) = omega (arith, k .counts x, ap (occ l f n) q, same-le u x)
+    go x (no q) = omega (arith, k .counts x, same-no u x q)
 
 -- ---- the two cases of `unlink`
+pub regrow-law : {l l′ : List ℕ} {f n N u v : ℕ} → n < N → at l f n ≡ v → Lowered l l′ f n → Unlinked l l′ f n N (n + 1) u v
+regrow-law {l} {l′} {f} {n} {N} {u} {v} m e k = record {
+  restored = λ _ _. (refl, λ x. omega (arith, k .shuffled .often x, occ-step l f n x, ap (λ (z : ℕ). same z x) e));
+  replaced = λ h. absurd (h (m, e));
+  rising = λ r none. k .rising (occ-distinct l f (n + 1) (λ x. once r none x (ℕ-discrete v x))) r;
+  outside = k .shuffled .outside;
+}
+  where
+    once : Rising l f n → occ l f n v ≡ 0 → (x : ℕ) → Dec (v ≡ x) → occ l f (n + 1) x ≤ 1
+    once r none x (yes q) = omega (arith, occ-step l f n x, ap (occ l f n) q, same-le (at l f n) x)
+    once r none x (no q) = omega (arith, occ-step l f n x, ap (λ (z : ℕ). same z x) e, same-no v x q, distinct-occ l f n (rising-distinct l f n r) x)
 
-pub unput-law : (l : List ℕ) (f n N u v i : ℕ) → f + n ≤ length l → i < n → at l f i ≡ u → ((n < N) × (at l f n ≡ v) → ⊥) → Unlinked l (set l (f + i) v) f n N n u v
-unput-law l f n N u v i b k e not = record {
+pub unput-law : {l l′ : List ℕ} {f n N u v : ℕ} → ((n < N) × (at l f n ≡ v) → ⊥) → Replaced l l′ f n u v → Unlinked l l′ f n N n u v
+unput-law {l} {l′} {f} {n} {N} {u} {v} not k = record {
   restored = λ m q. absurd (not (m, q));
-  replaced = λ h. (refl, put-counts l f n v u b i k e v);
-  outside = put-outside l f n v u b i k e v;
+  replaced = λ h. (refl, k .counts);
+  rising = λ r none. k .rising none r;
+  outside = k .outside;
 }

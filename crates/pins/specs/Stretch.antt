@@ -12,12 +12,15 @@ use Rattle.laws.specs.Choice.{one}
 use Rattle.laws.specs.Occurrence.{at, same, occ, In, Distinct, same-yes, same-no, occ-step, occ-in, occ-ext, occ-distinct}
 use Rattle.model.specs.Measure.{Contraction, above}
 use Rattle.guarantees.specs.Climbs.{Sound}
+use Rattle.pins.specs.Rising.{Rising}
 use Rattle.pins.specs.Link.{Relinked, Unlinked}
 use Rattle.pins.specs.Stack.{row, past, present, present-on, present-le, present-gone, present-into, present-other, past-both, past-new, past-skip, past-off}
 
--- the stretch of n places from f on has each pin on the board once and nothing else; the places after it, up to N, are what was taken out
+-- the stretch of n places from f on has each pin on the board once and nothing else, the lowest first; the places after it, up to N, are what was
+-- taken out
 pub record Stretch (own : ℕ → Bool) (cs : List Contraction) (l : List ℕ) (f n N : ℕ) : Type 0 where
   pub pins : (x : ℕ) → occ l f n x ≡ present own cs x
+  pub rising : Rising l f n
   pub whole : n + length (past own cs) ≡ N
   pub after : (i : ℕ) → i < length (past own cs) → at l f (n + i) ≡ getD (past own cs) i 0
 
@@ -31,6 +34,7 @@ stretch-in own cs l f n N s x on r = occ-in l f n x (omega (arith, s .pins x, pr
 pub stretch-ext : (own : ℕ → Bool) (cs : List Contraction) (l l′ : List ℕ) (f n N : ℕ) → ((i : ℕ) → i < N → at l′ f i ≡ at l f i) → Stretch own cs l f n N → Stretch own cs l′ f n N
 stretch-ext own cs l l′ f n N h s = record {
   pins = λ x. occ-ext l l′ f n x (λ i k. h i (omega (arith, s .whole))) ∙ s .pins x;
+  rising = λ i j ij jn. omega (arith, h i (omega (arith, s .whole)), h j (omega (arith, s .whole)), s .rising i j ij jn);
   whole = s .whole;
   after = λ i k. h (n + i) (omega (arith, s .whole)) ∙ s .after i k;
 }
@@ -51,6 +55,7 @@ module _ (own : ℕ → Bool) (cs : List Contraction) (c : Contraction) (so : So
   pub skip-on : row own cs (c .gone) ≡ false → Stretch own cs l f n N → Stretch own (c ∷ cs) l f n N
   skip-on z s = record {
     pins = λ x. s .pins x ∙ sym (stretch-skip z x);
+    rising = s .rising;
     whole = rw (past-skip own cs c z) (s .whole);
     after = rw (past-skip own cs c z) (s .after);
   }
@@ -58,6 +63,7 @@ module _ (own : ℕ → Bool) (cs : List Contraction) (c : Contraction) (so : So
   pub skip-back : row own cs (c .gone) ≡ false → Stretch own (c ∷ cs) l f n N → Stretch own cs l f n N
   skip-back z s = record {
     pins = λ x. s .pins x ∙ stretch-skip z x;
+    rising = s .rising;
     whole = rw (past-skip own cs c z) at (s .whole);
     after = rw (past-skip own cs c z) at (s .after);
   }
@@ -90,6 +96,7 @@ module _ (own : ℕ → Bool) (cs : List Contraction) (c : Contraction) (so : So
           go true hu =
               let q : (r + 1 ≡ n) × (at l′ f r ≡ c .gone) = k .removed (omega (arith, s .pins (c .into), u-one hu)) in record {
                 pins = pins′;
+                rising = k .rising (s .rising);
                 whole = rw (past-both own cs c hu hv) (omega (arith, s .whole, q .0));
                 after = rw (past-both own cs c hu hv) (places q);
               }
@@ -102,21 +109,27 @@ module _ (own : ℕ → Bool) (cs : List Contraction) (c : Contraction) (so : So
           go false hu =
               let q : r ≡ n = k .replaced (omega (arith, s .pins (c .into), u-one hu)) in record {
                 pins = pins′;
+                rising = k .rising (s .rising);
                 whole = rw (past-new own cs c hu) (omega (arith, s .whole, q));
                 after = rw (past-new own cs c hu, q) (λ i h. k .outside (f + (n + i)) (inr (omega arith)) ∙ s .after i h);
               }
 
     -- ---- v is split from u again
     module _ (l′ : List ℕ) (r : ℕ) (s : Stretch own (c ∷ cs) l f n N) (k : Unlinked l l′ f n N r (c .into) (c .gone)) where
+      -- v is none of the pins
+      off : occ l f n (c .gone) ≡ 0
+      off = s .pins (c .gone) ∙ present-gone own cs c (so .0)
+
       -- u was a pin too: v stands just past the stretch
       pub split-both : row own cs (c .into) ≡ true → (r ≡ n + 1) × Stretch own cs l′ f r N
       split-both hu = (
         q .0,
-        rw (q .0, q .1) (record {
-          pins = λ x. omega (arith, occ-step l f n x, ap (λ (z : ℕ). same z x) here, s .pins x, contract-pins x, both x);
-          whole = omega (arith, full);
-          after = λ i h. let e : n + 1 + i ≡ n + suc i = omega arith in rw e (places (suc i) (omega arith));
-        }),
+        record {
+          pins = λ x. omega (arith, q .1 x, s .pins x, contract-pins x, both x);
+          rising = k .rising (s .rising) off;
+          whole = omega (arith, full, q .0);
+          after = λ i h. let e : r + i ≡ n + suc i = omega (arith, q .0) in rw e (k .outside (f + (n + suc i)) (inr (omega (arith, q .0))) ∙ places (suc i) (omega arith));
+        },
       )
         where
           full : n + suc (length (past own cs)) ≡ N
@@ -128,7 +141,7 @@ module _ (own : ℕ → Bool) (cs : List Contraction) (c : Contraction) (so : So
           here : at l f n ≡ c .gone
           here = rw add-zero at (places 0 (omega arith))
 
-          q : (r ≡ n + 1) × (l′ ≡ l)
+          q : (r ≡ n + 1) × ((x : ℕ) → occ l′ f r x ≡ occ l f n x + same (c .gone) x)
           q = k .restored (omega (arith, full)) here
 
           both : (x : ℕ) → same (c .into) x ≤ present own cs x
@@ -144,8 +157,9 @@ module _ (own : ℕ → Bool) (cs : List Contraction) (c : Contraction) (so : So
         q .0,
         rw (q .0) (record {
           pins = λ x. omega (arith, q .1 x, s .pins x, contract-pins x, alone x);
+          rising = rw (q .0) at (k .rising (s .rising) off);
           whole = full;
-          after = λ i h. k .outside (f + (n + i)) (inr (omega arith)) ∙ places i h;
+          after = λ i h. k .outside (f + (n + i)) (inr (omega (arith, q .0))) ∙ places i h;
         }),
       )
         where

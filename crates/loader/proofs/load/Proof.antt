@@ -1,5 +1,6 @@
 -- `loader::load` meets its contract.
 use native.Mathlib.Omega.{arith}
+use mathlib.Core.Path.{sym}
 use Rattle.lines.specs.Line.{limitsOf}
 use Rattle.loader.proofs.Accepting.{refused, small, accepted}
 use denote.Ref.{now}
@@ -29,7 +30,7 @@ start-requires c κs =
     let start = at-read .before .before .before .before .before .before .before .before .before .before .before .before .before .before .before .before .before .before .before .before .before in
     let p = start .pre .5 in
     let f = at-read .read .ensures .fitted (at-l .l .given .0 .0) (at-l .l .given .0 .1 .0) (at-l .l .given .0 .1 .1 .0) (at-l .l .given .0 .1 .1 .1 .0) (at-l .l .given .0 .1 .1 .1 .1 .0) (at-l .l .given .0 .1 .1 .1 .1 .1 .0) (at-l .l .given .1) in
-    (omega (arith, f .range .l-high, p .aboves), omega (arith, f .settled .laid .m-le, p .loadedPins, at-read .read .kept .1 .1 .1 .1 .1 .1 .1 .1 .1 .1 .0), omega (arith, f .settled .laid .m-le, p .presentPins), omega (arith, f .range .b-high, p .loadedSizes, at-read .read .kept .1 .1 .1 .1 .1 .1 .1 .1 .1 .0), omega (arith, f .range .b-high, p .presentSizes))
+    (omega (arith, f .range .l-high, p .aboves), omega (arith, f .settled .laid .m-le, p .loadedPins, at-read .read .kept .1 .1 .1 .1 .1 .1 .1 .1 .1 .1 .0), omega (arith, f .settled .laid .m-le, p .presentPins), omega (arith, f .range .b-high, p .loadedSizes, at-read .read .kept .1 .1 .1 .1 .1 .1 .1 .1 .1 .0), omega (arith, f .range .b-high, p .presentSizes), sym (f .settled .laid .m-is))
 
 measure-requires : tie.Need-measure-requires
 measure-requires c κs =
@@ -94,7 +95,9 @@ same-length-11 c =
     at-read .read .kept .1 .1 .1 .1 .1 .0
 
 same-length-12 : tie.Need-same-length-12
-same-length-12 c = search needs
+same-length-12 c =
+    let at-read = c .before .before .before .before .before .before .before .before .before .before .before .before .before .before .before .before .before .before .before .before .before .before .before .before .before .before .before .before .before .before .before .before in
+    at-read .read .kept .1 .1 .1 .1 .1 .1 .1 .1 .1 .1 .0
 
 same-length-13 : tie.Need-same-length-13
 same-length-13 c = search needs

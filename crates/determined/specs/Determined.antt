@@ -1,0 +1,115 @@
+-- What the tables held before loading, the catalogue and the machine's state tell every entry of lent memory: two sets of tables that hold for
+-- them are the same. Rests on model's Memory, laws' occurrences and guarantees' Stretches. Assumes nothing.
+use Prim.Native.Nat.{ℕ, zero, suc, _+_, _-_, _≤_, _<_}
+use native.Mathlib.Decide.{ℕ-discrete, decLt}
+use native.Mathlib.Omega.{arith}
+use mathlib.Core.Path.{_≡_, refl, sym, ap, _∙_}
+use mathlib.Core.Bool.{Bool}
+use mathlib.Core.List.{List}
+use lib.ListN.{length, getD}
+use lib.Seq.{ext-getD}
+use Rattle.laws.specs.Sum.{sumTo, sumTo-nil, sumTo-suc, sumTo-list}
+use Rattle.laws.specs.Occurrence.{at, same, occ, In, occ-suc, occ-at, occ-in}
+use Rattle.model.specs.Catalogue.{Hypergraph}
+use Rattle.model.specs.Measure.{Contraction, size}
+use Rattle.model.specs.Machine.{State}
+use Rattle.model.specs.Memory.{Tables, Filled, Pins, Holds, noNet, net, allPins, firstPlace, takenOut}
+use Rattle.guarantees.specs.Stretches.{pins-length}
+use Rattle.pins.specs.Rising.{Rising}
+
+-- ---- a rising stretch is told by what stands in it
+last-le : (l l′ : List ℕ) (f k : ℕ) → Rising l f (suc k) → ((x : ℕ) → occ l f (suc k) x ≡ occ l′ f (suc k) x) → at l′ f k ≤ at l f k
+last-le l l′ f k r h = go (occ-in l f (suc k) (at l′ f k) (omega (arith, h (at l′ f k), occ-at l′ f (suc k) k (at l′ f k) (omega arith) refl)))
+  where
+    go : In l f (suc k) (at l′ f k) → at l′ f k ≤ at l f k
+    go i = place (ℕ-discrete (i .0) k)
+      where
+        place : Dec (i .0 ≡ k) → at l′ f k ≤ at l f k
+        place (yes q) = omega (arith, i .2, ap (at l f) q)
+        place (no q) = omega (arith, i .2, r (i .0) k (omega (arith, i .1)) (omega arith))
+
+pub rising-same : (l l′ : List ℕ) (f n : ℕ) → Rising l f n → Rising l′ f n → ((x : ℕ) → occ l f n x ≡ occ l′ f n x) → (i : ℕ) → i < n → at l f i ≡ at l′ f i
+rising-same l l′ f zero r r′ h i k = absurd (omega arith)
+rising-same l l′ f (suc n) r r′ h i k = go (ℕ-discrete i n) (λ less. rising-same l l′ f n (λ a b ab bn. r a b ab (omega arith)) (λ a b ab bn. r′ a b ab (omega arith)) less i)
+  where
+    last : at l f n ≡ at l′ f n
+    last = omega (arith, last-le l l′ f n r h, last-le l′ l f n r′ (λ x. sym (h x)))
+
+    less : (x : ℕ) → occ l f n x ≡ occ l′ f n x
+    less x = omega (arith, h x, occ-suc l f n x, occ-suc l′ f n x, ap (λ (z : ℕ). same z x) last)
+
+    go : Dec (i ≡ n) → (((x : ℕ) → occ l f n x ≡ occ l′ f n x) → i < n → at l f i ≡ at l′ f i) → at l f i ≡ at l′ f i
+    go (yes q) ih = rw q last
+    go (no q) ih = ih less (omega arith)
+
+-- ---- a place of the mark tables is a buyer's
+record Place (g : ℕ → ℕ) (n i : ℕ) : Type 0 where
+  buyer : ℕ
+  some : 1 ≤ buyer
+  few : buyer ≤ n
+  from : sumTo (buyer - 1) g ≤ i
+  within : i < sumTo (buyer - 1) g + g buyer
+
+place-of : (g : ℕ → ℕ) (n i : ℕ) → i < sumTo n g → Place g n i
+place-of g zero i h = absurd (omega (arith, sumTo-nil zero g (λ e l u. absurd (omega arith))))
+place-of g (suc n) i h = go (decLt i (sumTo n g)) (place-of g n i)
+  where
+    down : suc n - 1 ≡ n
+    down = omega arith
+
+    go : Dec (i < sumTo n g) → (i < sumTo n g → Place g n i) → Place g (suc n) i
+    go (yes k) ih = let p = ih k in record { buyer = p .buyer; some = p .some; few = omega (arith, p .few); from = p .from; within = p .within }
+    go (no k) ih = record {
+      buyer = suc n;
+      some = omega arith;
+      few = omega arith;
+      from = rw down (omega arith);
+      within = rw down (omega (arith, sumTo-suc n g));
+    }
+
+-- ---- table by table
+filled-same : {A : Type 0} {none : A} {used : ℕ → Bool} {value : ℕ → A} {old new new′ : List A} → Filled none used value old new → Filled none used value old new′ → new ≡ new′
+filled-same {none = none} {new = new} {new′ = new′} p q = ext-getD none new new′ (p .as-long ∙ sym (q .as-long)) (λ i l. p .entries i (omega (arith, p .as-long)) ∙ sym (q .entries i (omega (arith, p .as-long))))
+
+pins-same : {h : Hypergraph} {cs : List Contraction} {old new new′ : List ℕ} → Pins h cs old new → Pins h cs old new′ → new ≡ new′
+unfolding firstPlace
+pins-same {h} {cs} {old} {new} {new′} p q = ext-getD 0 new new′ (p .as-long ∙ sym (q .as-long)) (λ i l. go i (omega (arith, p .as-long)) (decLt i (length (allPins (h .nets)))))
+  where
+    pins : ℕ → ℕ
+    pins e = length (net h e .pins)
+
+    total : sumTo (length (h .nets)) pins ≡ length (allPins (h .nets))
+    total = sumTo-list (h .nets) noNet (λ e. length (e .pins)) ∙ sym (pins-length (h .nets))
+
+    -- in a buyer's stretch: a present mark, or one taken out
+    inside : (e j : ℕ) → 1 ≤ e → e ≤ length (h .nets) → j < pins e → Dec (j < size h cs (net h e)) → getD new (firstPlace h e + j) 0 ≡ getD new′ (firstPlace h e + j) 0
+    inside e j l u k (yes s) = rising-same new new′ (firstPlace h e) (size h cs (net h e)) (λ a b. p .rising e a b l u) (λ a b. q .rising e a b l u) (λ x. p .sets e x l u ∙ sym (q .sets e x l u)) j s
+    inside e j l u k (no s) =
+        let i : ℕ = j - size h cs (net h e) in
+        let z : j ≡ size h cs (net h e) + (j - size h cs (net h e)) = omega arith in
+        let f : j - size h cs (net h e) < length (takenOut cs (net h e)) = omega (arith, p .whole e l u) in
+        rw z (p .taken e (j - size h cs (net h e)) l u f ∙ sym (q .taken e (j - size h cs (net h e)) l u f))
+
+    go : (i : ℕ) → i < length old → Dec (i < length (allPins (h .nets))) → getD new i 0 ≡ getD new′ i 0
+    go i l (no k) = p .past i (omega arith) l ∙ sym (q .past i (omega arith) l)
+    go i l (yes k) =
+        let w : Place pins (length (h .nets)) i = place-of pins (length (h .nets)) i (omega (arith, total)) in
+        let z : i ≡ sumTo (w .buyer - 1) pins + (i - sumTo (w .buyer - 1) pins) = omega (arith, w .from) in
+        rw z (inside (w .buyer) (i - sumTo (w .buyer - 1) pins) (w .some) (w .few) (omega (arith, w .from, w .within)) (decLt (i - sumTo (w .buyer - 1) pins) (size h cs (net h (w .buyer)))))
+
+pub holds-same : {h : Hypergraph} {s : State} {old new new′ : Tables} → Holds h s old new → Holds h s old new′ → new ≡ new′
+holds-same {new = new} {new′ = new′} p q = λ i. record {
+  weights = filled-same (p .weights) (q .weights) i;
+  blocks = filled-same (p .blocks) (q .blocks) i;
+  aboves = filled-same (p .aboves) (q .aboves) i;
+  fixed = filled-same (p .fixed) (q .fixed) i;
+  loadedPins = filled-same (p .loadedPins) (q .loadedPins) i;
+  presentPins = pins-same (p .presentPins) (q .presentPins) i;
+  firsts = filled-same (p .firsts) (q .firsts) i;
+  loadedSizes = filled-same (p .loadedSizes) (q .loadedSizes) i;
+  presentSizes = filled-same (p .presentSizes) (q .presentSizes) i;
+  counts = filled-same (p .counts) (q .counts) i;
+  gains = filled-same (p .gains) (q .gains) i;
+  index = filled-same (p .index) (q .index) i;
+  visited = filled-same (p .visited) (q .visited) i;
+}

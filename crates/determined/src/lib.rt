@@ -1,0 +1,1 @@
+// Laws of what lent memory tells only: see specs/.
