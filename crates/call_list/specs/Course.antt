@@ -1,5 +1,5 @@
--- A list of calls on tables as opening left them: what one step of it needs and promises, and the course that the loop over it has taken. Rests on
--- Rows, edit_calls's Called, report's Wrote and memory's Prefix and Close. Assumes nothing.
+-- A list of calls on tables as opening left them: what one step of it needs and promises, and where the loop over it stands. Rests on
+-- edit_calls's Called, report's Wrote and memory's Prefix and Close. Assumes nothing.
 use Prim.Native.Nat.{ℕ, _+_, _*_, _<_, _≤_}
 use native.Mathlib.Omega.{arith}
 use mathlib.Core.Path.{_≡_, refl, sym, ap, ap₂, _∙_, subst}
@@ -9,10 +9,10 @@ use Rattle.model.specs.Catalogue.{Limits, Hypergraph, averageWeight, capacities
 use Rattle.model.specs.Measure.{Contraction}
 use Rattle.model.specs.Machine.{Call, Answer, State, fresh}
 use Rattle.model.specs.Search.{callUnder, call}
-use Rattle.model.specs.Report.{refusal, answerRow}
+use Rattle.model.specs.Report.{answerRow}
 use Rattle.model.specs.Engine.{after, answers}
 use Rattle.model.specs.Lent.{callsOf, Two}
-use Rattle.model.specs.Demand.{Accepted, Course}
+use Rattle.model.specs.Demand.{Accepted}
 use Rattle.guarantees.specs.Caps.{CeilingIs}
 use Rattle.guarantees.specs.StateBounds.{stack-call}
 use Rattle.fixed.specs.Starting.{FixedIs}
@@ -27,10 +27,9 @@ use Rattle.edit_calls.specs.Start.{Empty, runs-fresh}
 use Rattle.edit_calls.specs.Called.{Called}
 use Rattle.search_calls.specs.Cycling.{ReadyA}
 use Rattle.any_call.specs.Kinds.{anyCall, any-is}
-use Rattle.memory.specs.Prefix.{after-more, answers-more, course-none, course-more, NextCall, callsOf-more}
+use Rattle.memory.specs.Prefix.{after-more, answers-more, NextCall, callsOf-more}
 use Rattle.memory.specs.Close.{answer-fits}
 use Rattle.search_moves.specs.Tabled.{rows-ok}
-use Rattle.call_list.specs.Rows.{same-rows}
 
 -- ---- one step
 -- what it needs: a running sale, and space for the answer's line from `at` on
@@ -92,11 +91,9 @@ pub record RunsOn (h : Hypergraph) (T₀ : Tables) (index₀ : List ℕ) (s : St
   pub firsts-same : p .tables .firsts ≡ T₀ .firsts
   pub loaded-same : p .tables .loaded ≡ T₀ .loaded
 
--- i calls are done: the sale runs in the machine's state after them, on its course from the first call on, and their answers are written
+-- i calls are done: the sale runs in the machine's state after them, and their answers are written
 pub record Done (h : Hypergraph) (calls : List ℕ) (i : ℕ) (T₀ T : Tables) (index₀ index : List ℕ) (S J : Two) (out₀ out : List ℕ) (at : ℕ) : Type 0 where
   pub here : RunsOn h T₀ index₀ (after h (fresh h) (callsOf i calls)) (point T index S J)
-  pub begun : Point
-  pub course : Course (RunsOn h T₀ index₀) h (fresh h) (callsOf i calls) begun (point T index S J)
   pub stack-le : S .len ≤ i
   pub journal-le : J .len ≤ i
   pub wrote : Wrote out₀ out 0 (answers h (fresh h) (callsOf i calls)) at
@@ -111,7 +108,7 @@ pub done-none : {limits : Limits} {h : Hypergraph} {T : Tables} {average count r
 unfolding callsOf after answers
 done-none {h = h} {T = T} {index₀ = index₀} {index = index} {S = S} {J = J} out b r e f =
     let start : RunsOn h T index₀ (fresh h) (point T index S J) = record { runs = runs-fresh (b .sound) e f; keeps = keeps-none T; indexed = r; n-same = refl; m-same = refl; k-same = refl; firsts-same = refl; loaded-same = refl } in
-    record { here = start; begun = point T index S J; course = course-none (RunsOn h T index₀) h (fresh h) (point T index S J) start; stack-le = omega (arith, e .none); journal-le = omega (arith, f .none); wrote = wrote-none out 0 }
+    record { here = start; stack-le = omega (arith, e .none); journal-le = omega (arith, f .none); wrote = wrote-none out 0 }
 
 module _ {limits : Limits} {h : Hypergraph} {T₀ : Tables} {average count : ℕ} {ceilings fixedmarks calls out₀ : List ℕ} (b : Begins limits h T₀ average ceilings fixedmarks calls count (length out₀)) (i : ℕ) (l : i < count)
     {T : Tables} {index₀ index : List ℕ} {S J : Two} {out : List ℕ} {at : ℕ} (d : Done h calls i T₀ T index₀ index S J out₀ out at) (x y : ℕ) (qx : x ≡ getD calls (3 * i + 1) 0) (qy : y ≡ getD calls (3 * i + 2) 0) where
@@ -129,12 +126,6 @@ module _ {limits : Limits} {h : Hypergraph} {T₀ : Tables} {average count : ℕ
 
   out-length : length out ≡ length out₀
   out-length = wrote-length (d .wrote) (omega (arith, line-fits, b .spacious))
-
-  -- a call that left the tables as they were left the index, too
-  same : {T′ : Tables} {index′ : List ℕ} {S′ J′ : Two} → Indexed (T′ .gains) (T′ .blocks) (T′ .n) (T′ .k) index index′ → (T′ ≡ T) × (S′ ≡ S) × (J′ ≡ J) → point T′ index′ S′ J′ ≡ point T index S J
-  same {index′ = index′} r u =
-      let rows : index′ ≡ index = same-rows (d .here .indexed) (subst (λ (t : Tables). Indexed (t .gains) (t .blocks) (t .n) (t .k) index index′) (u .0) r) in
-      λ k. point (u .0 k) (rows k) (u .1 k) (u .2 k)
 
   pub can-step : CanStep T S J average ceilings fixedmarks (length out) at asked
   can-step = record {
@@ -178,9 +169,6 @@ module _ {limits : Limits} {h : Hypergraph} {T₀ : Tables} {average count : ℕ
       } in
       record {
         here = subst (λ (cs : List Call). RunsOn h T₀ index₀ (after h (fresh h) cs) (point T′ index′ S′ J′)) (sym q) now;
-        begun = d .begun;
-        course = subst (λ (cs : List Call). Course (RunsOn h T₀ index₀) h (fresh h) cs (d .begun) (point T′ index′ S′ J′)) (sym q)
-            (course-more (RunsOn h T₀ index₀) h (fresh h) (callsOf i calls) asked (d .begun) (point T index S J) (point T′ index′ S′ J′) (d .course) now (λ no. same r (s .called .unchanged (subst (λ (a : Answer). 1 ≤ refusal a) (sym (e .says)) no))));
         stack-le = omega (arith, stack-called, d .stack-le);
         journal-le = omega (arith, e .longer, d .journal-le);
         wrote = subst (λ (x : List ℕ). Wrote out₀ out′ 0 x at′) (ap (λ (a : Answer). answers h (fresh h) (callsOf i calls) ++ answerRow a) (e .says) ∙ sym (answers-more h (fresh h) (callsOf i calls) asked) ∙ ap (answers h (fresh h)) (sym q))

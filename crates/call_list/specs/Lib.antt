@@ -1,5 +1,3 @@
 -- A list of calls on a running sale, and the lines of its answers. Assumes nothing.
--- Rows    the rows of the index between two calls
 -- Course  what a step and a list need and promise, and the list's loop
-pub mod Rows
 pub mod Course

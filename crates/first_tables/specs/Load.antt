@@ -9,7 +9,7 @@ use Rattle.laws.specs.Occurrence.{occ}
 use Rattle.model.specs.Catalogue.{Hypergraph, vertices}
 use Rattle.connectivity.specs.Listed.{has-is}
 use Rattle.incidence.specs.On.{on}
-use Rattle.pins.specs.Rising.{Rising}
+use Rattle.laws.specs.Rising.{Rising}
 use Rattle.pins.specs.Stack.{loadedPin}
 use Rattle.pins.specs.Board.{Room, board-loaded, room-kept}
 use Rattle.levels.specs.Running.{running, Follows, netAt}

@@ -68,4 +68,5 @@ pub mod Ranked
 pub mod Inserts
 pub mod Ranks
 pub mod Ready
+pub mod Determined
 pub mod Order

@@ -1,36 +1,32 @@
 -- Request M-110, the order of moves, as theorems over model alone: two calls of the list's entry whose lists end in accepted moves and leave
 -- each lot in the same session leave the same tables, joins and total (order-of-moves); two moves of different vertices, accepted in either
--- order, are such lists (either-order). Rests on Reached and Ranges. Assumes nothing.
-use Prim.Native.Nat.{ℕ, zero, suc, _+_, _-_, _*_, _≤_, _<_}
+-- order, are such lists (either-order). Rests on Reached and Determined. Assumes nothing.
+use Prim.Native.Nat.{ℕ, zero, suc, _≤_, _<_}
 use native.Mathlib.Decide.{ℕ-discrete, decLt}
 use native.Mathlib.Omega.{arith}
 use mathlib.Core.Path.{_≡_, refl, sym, ap, ap₂, _∙_, subst}
-use mathlib.Core.Bool.{Bool, true, false, not, cond, _&&_, true≢false}
+use mathlib.Core.Bool.{Bool, true, not, _&&_, true≢false}
 use mathlib.Core.List.{List, [], _∷_, _++_}
-use borrow.Author.Tests.{lt-ltb, leb-true, not-false}
-use lib.Dec.{leb, ltb}
-use lib.ListN.{length, getD, length-append, List·getD-eq-default}
-use lib.Seq.{ext-getD}
-use Rattle.laws.specs.Choice.{one, and-left, and-right, cond-zero}
-use Rattle.laws.specs.Occurrence.{occ}
+use borrow.Author.Tests.{not-false}
+use lib.ListN.{length-append}
+use Rattle.laws.specs.Choice.{and-left, cond-zero}
 use Rattle.laws.specs.Place.{place, place-off, place-swap}
 use Rattle.model.specs.Catalogue.{Limits, Hypergraph, vertices, isVertex, isBlock, capacities}
-use Rattle.model.specs.Measure.{Contraction, above, representative, pin, size, metric}
+use Rattle.model.specs.Measure.{Contraction, above, representative, metric}
 use Rattle.model.specs.Machine.{Call, callJ, callS, callM, callB, callW, callP, callA, State, fresh, settle, refusesM, doesM}
 use Rattle.model.specs.Search.{callUnder, call}
 use Rattle.model.specs.Grammar.{Reading, Book, reading, parse}
 use Rattle.model.specs.Report.{refusal}
 use Rattle.model.specs.Engine.{after}
-use Rattle.model.specs.Memory.{Tables, Memory, longLists, longTables, longMemory, Filled, Holds, net, allPins, firstPlace}
-use Rattle.model.specs.Lent.{stackOf}
+use Rattle.model.specs.Memory.{Tables, Memory, longMemory, Holds}
 use Rattle.model.specs.Demand.{Accepted, metricIn, Demand3}
 use Rattle.model.specs.ListEntry.{listRefusal, listCalls, Returned, Listed, ListServed, ListServes}
-use Rattle.model.specs.Order.{SamePins, SameTables, isMove, AcceptedMoves, sessionOf, afterMoves, SameSessions, SameLeft, OrderOfMoves, EitherOrder}
+use Rattle.model.specs.Order.{isMove, AcceptedMoves, sessionOf, afterMoves, SameSessions, SameLeft, OrderOfMoves, EitherOrder}
 use Rattle.guarantees.specs.Climbs.{representative-self}
 use Rattle.guarantees.specs.Reading.{vertex-range}
 use Rattle.guarantees.specs.Ends.{Placed}
 use Rattle.guarantees.specs.Reached.{reached}
-use Rattle.guarantees.specs.Ranges.{accepted-ranges}
+use Rattle.guarantees.specs.Determined.{holds-same}
 
 -- ---- accepted moves
 -- an accepted M places one vertex
@@ -142,65 +138,6 @@ holds-as {h} {s} {s′} {old} {t} e f x =
       visited = y .visited;
     }
 
-filled-same : {A : Type 0} {none : A} {used : ℕ → Bool} {value : ℕ → A} {old new new′ : List A} → Filled none used value old new → Filled none used value old new′ → new′ ≡ new
-filled-same {none = none} {new = new} {new′ = new′} f g = ext-getD none new′ new (g .as-long ∙ sym (f .as-long)) (λ i l. g .entries i (omega (arith, g .as-long)) ∙ sym (f .entries i (omega (arith, g .as-long))))
-
--- the lengths of the buyers' tables
-net-lengths : (limits : Limits) (t : Tables) → longTables limits t ≡ true → (1024 ≤ length (t .firsts)) × (1024 ≤ length (t .presentSizes))
-unfolding longTables longLists
-net-lengths limits t q =
-    let lots : Bool = leb (limits .vertexLimit) (length (t .weights)) && leb (limits .vertexLimit) (length (t .blocks)) && leb (limits .vertexLimit) (length (t .aboves))
-    && leb (limits .vertexLimit) (length (t .fixed)) in
-    let counts : Bool = leb 16384 (length (t .counts)) in
-    let gains : Bool = leb (16 * limits .vertexLimit) (length (t .gains)) in
-    let index : Bool = leb (16 * limits .vertexLimit) (length (t .index)) in
-    let pins : Bool = leb 8192 (length (t .loadedPins)) && leb 8192 (length (t .presentPins)) in
-    let firsts : Bool = leb 1024 (length (t .firsts)) in
-    let loaded : Bool = leb 1024 (length (t .loadedSizes)) in
-    let lists : longLists t ≡ true = and-right lots (longLists t) (and-left (lots && longLists t) counts (and-left (lots && longLists t && counts) gains
-    (and-left (lots && longLists t && counts && gains) index (and-left (lots && longLists t && counts && gains && index) (leb 1024 (length (t .visited))) q)))) in (
-      leb-true 1024 (length (t .firsts)) (and-right pins firsts (and-left (pins && firsts) loaded (and-left (pins && firsts && loaded) (leb 1024 (length (t .presentSizes))) lists))),
-      leb-true 1024 (length (t .presentSizes)) (and-right (pins && firsts && loaded) (leb 1024 (length (t .presentSizes))) lists),
-    )
-
-same-tables : (limits : Limits) (h : Hypergraph) (s : State) (old t t′ : Tables) → longTables limits old ≡ true → length (h .nets) ≤ 1024 → Holds h s old t → Holds h s old t′ → SameTables h t t′
-same-tables limits h s old t t′ long few x y = record {
-  weights = filled-same (x .weights) (y .weights);
-  blocks = filled-same (x .blocks) (y .blocks);
-  aboves = filled-same (x .aboves) (y .aboves);
-  fixed = filled-same (x .fixed) (y .fixed);
-  loadedPins = filled-same (x .loadedPins) (y .loadedPins);
-  presentPins = record {
-    as-long = y .presentPins .as-long ∙ sym (x .presentPins .as-long);
-    sets = sets;
-    past = λ i l. past i l (decLt i (length (old .presentPins)));
-  };
-  firsts = filled-same (x .firsts) (y .firsts);
-  loadedSizes = filled-same (x .loadedSizes) (y .loadedSizes);
-  presentSizes = filled-same (x .presentSizes) (y .presentSizes);
-  counts = filled-same (x .counts) (y .counts);
-  gains = filled-same (x .gains) (y .gains);
-  index = filled-same (x .index) (y .index);
-  visited = filled-same (x .visited) (y .visited);
-}
-  where
-    past : (i : ℕ) → length (allPins (h .nets)) ≤ i → Dec (i < length (old .presentPins)) → getD (t′ .presentPins) i 0 ≡ getD (t .presentPins) i 0
-    past i l (yes u) = y .presentPins .past i l u ∙ sym (x .presentPins .past i l u)
-    past i l (no u) = List·getD-eq-default (t′ .presentPins) 0 (omega (arith, y .presentPins .as-long)) ∙ sym (List·getD-eq-default (t .presentPins) 0 (omega (arith, x .presentPins .as-long)))
-
-    entry : {value : ℕ → ℕ} {before now : List ℕ} → Filled 0 (λ i. ltb i (length (h .nets))) value before now → 1024 ≤ length before → (d : ℕ) → d < length (h .nets) → getD now d 0 ≡ value d
-    entry {value} {before} f fits d u = f .entries d (omega (arith, few)) ∙ ap (λ (b : Bool). cond b (value d) (getD before d 0)) (lt-ltb d (length (h .nets)) u)
-
-    as-marked : (z : Tables) → Holds h s old z → (d v : ℕ) → d < length (h .nets) → occ (z .presentPins) (getD (z .firsts) d 0) (getD (z .presentSizes) d 0) v ≡ one (pin (s .stack) (net h (suc d)) v)
-    as-marked z q d v u =
-        ap₂ (λ (f n : ℕ). occ (z .presentPins) f n v) (entry (q .firsts) (net-lengths limits old long .0) d u) (entry (q .presentSizes) (net-lengths limits old long .1) d u)
-        ∙ q .presentPins .sets (suc d) v (omega arith) (omega arith)
-
-    sets : (e v : ℕ) → 1 ≤ e → e ≤ length (h .nets)
-        → occ (t′ .presentPins) (getD (t′ .firsts) (e - 1) 0) (getD (t′ .presentSizes) (e - 1) 0) v ≡ occ (t .presentPins) (getD (t .firsts) (e - 1) 0) (getD (t .presentSizes) (e - 1) 0) v
-    sets zero v l u = absurd (omega arith)
-    sets (suc d) v l u = let down : suc d - 1 ≡ d = omega arith in rw down (as-marked t′ y d v (omega arith) ∙ sym (as-marked t x d v (omega arith)))
-
 -- ---- two calls of the list's entry
 -- an accepted catalogue, and a list that is not refused, in memory that is long enough
 pub listed-in : (limits : Limits) (file list : List ℕ) (k : Book) (old new : Memory) (r : Returned) (calls : List Call) → parse limits file ≡ reading k → longMemory limits old ≡ true → listRefusal list ≡ 0 → listCalls list ≡ calls
@@ -212,15 +149,13 @@ listed-in limits file list k old new r calls p l z q s =
     (subst (λ (b : Bool). ListServed b (listRefusal list) limits (parse limits file) (listCalls list) old new r) l s)))
 
 pub order-of-moves : (limits : Limits) → OrderOfMoves limits
-unfolding longMemory
 order-of-moves limits file list list′ k old new new′ r r′ before moves moves′ p l z q z′ q′ s a b =
     let x = listed-in limits file list k old new r (before ++ moves) p l z q a in
     let y = listed-in limits file list′ k old new′ r′ (before ++ moves′) p l z′ q′ b in
     let ok = x .demand .accepted in
     let h = k .graph in
     record {
-      tables = same-tables limits h (afterMoves h before moves) (old .tables) (new .tables) (new′ .tables) (and-right (leb 60000 (length (old .output))) _ l) (accepted-ranges limits h ok .nets-high)
-          (x .demand .stands .tables) (holds-as (same-stack limits h ok before moves moves′ s) (same-block limits h ok before moves moves′ s) (y .demand .stands .tables));
+      tables = holds-same (holds-as (same-stack limits h ok before moves moves′ s) (same-block limits h ok before moves moves′ s) (y .demand .stands .tables)) (x .demand .stands .tables);
       joins = y .demand .stands .joins ∙ same-stack limits h ok before moves moves′ s ∙ sym (x .demand .stands .joins);
       totals = y .demand .total-is ∙ same-total limits h ok before moves moves′ s ∙ sym (x .demand .total-is);
     }

@@ -6,6 +6,7 @@
 -- Integer     ℤ for omega by its two parts; order, bounds, 32-bit reading
 -- IntegerSum  sums of integers below a bound
 -- Occurrence  how often a number stands in a stretch of a list; distinctness
+-- Rising      a stretch of a list that rises; what stands in it tells its places
 -- Bit         bits of a mask, set, cleared and counted
 pub mod Choice
 pub mod Sum
@@ -14,4 +15,5 @@ pub mod Place
 pub mod Integer
 pub mod IntegerSum
 pub mod Occurrence
+pub mod Rising
 pub mod Bit

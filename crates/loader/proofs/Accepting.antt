@@ -20,7 +20,7 @@ use Rattle.model.specs.Lent.{callsOf, lists}
 use Rattle.guarantees.specs.Caps.{Capped}
 use Rattle.guarantees.specs.Loads.{Loaded as Good, sum-below, parsed, held-start}
 use Rattle.guarantees.specs.Splits.{board-none, above-none, weight-none}
-use Rattle.pins.specs.Rising.{Rising}
+use Rattle.laws.specs.Rising.{Rising}
 use Rattle.pins.specs.Sorting.{start}
 use Rattle.lines.specs.Line.{book}
 use Rattle.reader.specs.Whole.{averageOf, graphOf, Fitted, FileRead, seen as told}

@@ -1,7 +1,7 @@
 -- Lent memory and the machine: from the loader's tables to a running sale, along a list of calls, and to what document 01 says of every
 -- entry at the end. Assumes nothing.
 -- Open    what the loader promises is what opening needs
--- Prefix  the machine along a list of calls: one call more, and the course of the list
+-- Prefix  the machine along a list of calls: one call more
 -- Close   the closing report's needs at the end of a list, and that the output has space
 -- Mask    a connectivity set as a number
 -- Taken   the marks that joins took out

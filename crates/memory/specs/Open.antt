@@ -28,7 +28,7 @@ use Rattle.guarantees.specs.Stretches.{size-fresh, stretch-le, marks-le}
 use Rattle.incidence.specs.Word.{bit-of-zero}
 use Rattle.incidence.specs.On.{on-is}
 use Rattle.fixed.specs.Starting.{FixedIs, FixedMarked}
-use Rattle.pins.specs.Rising.{Rising}
+use Rattle.laws.specs.Rising.{Rising}
 use Rattle.pins.specs.Stack.{loadedPin}
 use Rattle.levels.specs.Running.{netAt}
 use Rattle.lines.specs.Line.{book}

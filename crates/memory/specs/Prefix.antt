@@ -1,5 +1,4 @@
--- One call more at the end of a list: the state, the answers, the course, and the loader's table of calls. Rests on model's Engine, Lent and
--- Demand. Assumes nothing.
+-- One call more at the end of a list: the state, the answers, and the loader's table of calls. Rests on model's Engine and Lent. Assumes nothing.
 use Prim.Native.Nat.{ℕ, zero, suc, _+_, _*_, _<_, _≤_}
 use native.Mathlib.Decide.{ℕ-discrete}
 use native.Mathlib.Numerals.{add-one}
@@ -11,10 +10,9 @@ use Rattle.model.specs.Catalogue.{Hypergraph}
 use Rattle.model.specs.Machine.{Call, State}
 use Rattle.model.specs.Search.{call}
 use Rattle.model.specs.Grammar.{Asked, asks, nothing, callOf}
-use Rattle.model.specs.Report.{refusal, answerRow}
+use Rattle.model.specs.Report.{answerRow}
 use Rattle.model.specs.Engine.{after, answers}
 use Rattle.model.specs.Lent.{listed, callsOf}
-use Rattle.model.specs.Demand.{Course}
 
 pub after-more : (h : Hypergraph) (s : State) (before : List Call) (c : Call) → after h s (before ++ (c ∷ [])) ≡ call h (after h s before) c .state
 unfolding after
@@ -27,29 +25,6 @@ answers-more h s [] c = append-nil (answerRow (call h s c .answer))
 answers-more h s (b ∷ before) c =
     ap (λ (r : List ℕ). answerRow (call h s b .answer) ++ r) (answers-more h (call h s b .state) before c)
     ∙ sym (append-assoc (answerRow (call h s b .answer)) (answers h (call h s b .state) before) (answerRow (call h (after h (call h s b .state) before) c .answer)))
-
--- ---- the course of a list of calls
-module _ {A : Type 0} (says : State → A → Type 0) (h : Hypergraph) where
-  pub course-none : (s : State) (a : A) → says s a → Course says h s [] a a
-  unfolding Course
-  course-none s a q = (q, refl)
-
-  -- a call more, which if it is refused leaves what stood before it
-  pub course-more : (s : State) (before : List Call) (c : Call) (a b z : A) → Course says h s before a b → says (after h s (before ++ (c ∷ []))) z → (1 ≤ refusal (call h (after h s before) c .answer) → z ≡ b)
-      → Course says h s (before ++ (c ∷ [])) a z
-  unfolding Course after
-  course-more s [] c a b z q e u = (q .0, record { next = z; unchanged = λ r. u r ∙ q .1; onward = (e, refl) })
-  course-more s (d ∷ before) c a b z q e u = (q .0, record { next = q .1 .next; unchanged = q .1 .unchanged; onward = course-more (call h s d .state) before c (q .1 .next) b z (q .1 .onward) e u })
-
--- the same course in other terms
-pub course-as : {A B : Type 0} (says : State → A → Type 0) (says′ : State → B → Type 0) (f : A → B) → ((s : State) (a : A) → says s a → says′ s (f a)) → (h : Hypergraph) (s : State) (calls : List Call) (a z : A)
-    → Course says h s calls a z → Course says′ h s calls (f a) (f z)
-unfolding Course
-course-as says says′ f also h s [] a z q = (also s a (q .0), ap f (q .1))
-course-as says says′ f also h s (c ∷ calls) a z q = (
-  also s a (q .0),
-  record { next = f (q .1 .next); unchanged = λ r. ap f (q .1 .unchanged r); onward = course-as says says′ f also h (call h s c .state) calls (q .1 .next) z (q .1 .onward) },
-)
 
 -- ---- the table of calls, three numbers each
 -- the numbers of call i, from 0

@@ -8,7 +8,7 @@ use lib.ListN.{length, getD}
 use Rattle.laws.specs.Occurrence.{occ}
 use Rattle.model.specs.Catalogue.{Limits, Hypergraph, capacities}
 use Rattle.model.specs.Measure.{Contraction, metric}
-use Rattle.model.specs.Machine.{Call, callJ, callS, callM, callB, callW, callP, callA, Answer, Move, State, fresh}
+use Rattle.model.specs.Machine.{Call, callJ, callS, callM, callB, callW, callP, callA, Move, State, fresh}
 use Rattle.model.specs.Search.{call, WithinCeiling, LocallyBest}
 use Rattle.model.specs.Grammar.{Book, reading, parse}
 use Rattle.model.specs.Report.{refusal}
@@ -51,7 +51,7 @@ pub record MachineHalf (h : Hypergraph) (calls : List Call) : Type 0 where
       → LocallyBest h (capacities h) (call h (after h (fresh h) before) callA .state)
 
 -- ---- a list of calls on lent memory
--- what stands between two calls: the lent tables, the stack of joins and the record of moves, the latest first
+-- what stands before, between and after calls: the lent tables, the stack of joins and the record of moves, the latest first
 pub record Standing : Type 0 where
   pub tables : Tables
   pub stack : List Contraction
@@ -65,18 +65,6 @@ pub record Stands (h : Hypergraph) (old : Tables) (s : State) (x : Standing) : T
   pub tables : Holds h s old (x .tables)
   pub joins : x .stack ≡ s .stack
   pub moves : x .journal ≡ s .journal
-
--- a call leads on from a: if it is refused, to a itself
-pub record LeadsOn {A : Type 0} (answer : Answer) (a : A) (rest : A → Type 0) : Type 0 where
-  pub next : A
-  pub unchanged : 1 ≤ refusal answer → next ≡ a
-  pub onward : rest next
-
--- a list of calls leads from a to z, each call on what the one before it left: what stands before and after each of them is what the
--- machine's state there says, and a refused call changes nothing
-unfoldable pub Course : {A : Type 0} → (State → A → Type 0) → Hypergraph → State → List Call → A → A → Type 0
-Course says h s [] a z = says s a × (z ≡ a)
-Course says h s (c ∷ cs) a z = says s a × LeadsOn (call h s c .answer) a (λ b. Course says h (call h s c .state) cs b z)
 
 -- each buyer's present marks are its loaded ones: as many, and every number as often
 pub record LoadedSets (h : Hypergraph) (t : Tables) : Type 0 where
@@ -94,9 +82,6 @@ pub record Demand3 (limits : Limits) (h : Hypergraph) (calls : List Call) (old :
   pub stands : Stands h old (after h (fresh h) calls) left
   -- with no join standing the mark sets are the loaded ones
   pub unjoined : left .stack ≡ [] → LoadedSets h (left .tables)
-  -- so is what stands before and after each call, from what loading left on; and a refused call changes nothing
-  pub loaded : Standing
-  pub course : Course (Stands h old) h (fresh h) calls loaded left
   pub answered : lines ≡ answers h (fresh h) calls
   pub total-is : total ≡ metricIn h (after h (fresh h) calls)
   pub machine : MachineHalf h calls

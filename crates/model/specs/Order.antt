@@ -1,11 +1,10 @@
 -- Request M-110, the order of moves: two lists of accepted M calls that continue one list from loading and leave each lot in the same
--- session leave the same tables, free layouts aside, and the same total. Rests on ListEntry. Assumes nothing.
-use Prim.Native.Nat.{ℕ, _-_, _≤_}
+-- session leave the same tables, entry by entry, and the same total. Rests on ListEntry. Assumes nothing.
+use Prim.Native.Nat.{ℕ, _≤_}
 use mathlib.Core.Path.{_≡_}
 use mathlib.Core.Bool.{Bool, true, false}
 use mathlib.Core.List.{List, [], _∷_, _++_}
-use lib.ListN.{length, getD}
-use Rattle.laws.specs.Occurrence.{occ}
+use lib.ListN.{length}
 use Rattle.model.specs.Catalogue.{Limits, Hypergraph, vertices}
 use Rattle.model.specs.Measure.{Contraction, representative}
 use Rattle.model.specs.Machine.{Call, callJ, callS, callM, callB, callW, callP, callA, State, fresh}
@@ -13,35 +12,10 @@ use Rattle.model.specs.Search.{call}
 use Rattle.model.specs.Report.{refusal}
 use Rattle.model.specs.Grammar.{Book, reading, parse}
 use Rattle.model.specs.Engine.{after}
-use Rattle.model.specs.Memory.{Tables, Memory, longMemory, allPins}
+use Rattle.model.specs.Memory.{Tables, Memory, longMemory}
 use Rattle.model.specs.Lent.{stackOf}
 use Rattle.model.specs.Demand.{Accepted}
 use Rattle.model.specs.ListEntry.{listRefusal, listCalls, Returned, ListServes}
-
--- ---- the same tables, free layouts aside
--- each buyer's present marks are the same set, in whatever order, and the places past the stretches are the same; what a stretch holds past
--- its present set is free
-pub record SamePins (h : Hypergraph) (t t′ : Tables) : Type 0 where
-  pub as-long : length (t′ .presentPins) ≡ length (t .presentPins)
-  pub sets : (e v : ℕ) → 1 ≤ e → e ≤ length (h .nets)
-      → occ (t′ .presentPins) (getD (t′ .firsts) (e - 1) 0) (getD (t′ .presentSizes) (e - 1) 0) v ≡ occ (t .presentPins) (getD (t .firsts) (e - 1) 0) (getD (t .presentSizes) (e - 1) 0) v
-  pub past : (i : ℕ) → length (allPins (h .nets)) ≤ i → getD (t′ .presentPins) i 0 ≡ getD (t .presentPins) i 0
-
--- every table whose layout is told is the same at every entry
-pub record SameTables (h : Hypergraph) (t t′ : Tables) : Type 0 where
-  pub weights : t′ .weights ≡ t .weights
-  pub blocks : t′ .blocks ≡ t .blocks
-  pub aboves : t′ .aboves ≡ t .aboves
-  pub fixed : t′ .fixed ≡ t .fixed
-  pub loadedPins : t′ .loadedPins ≡ t .loadedPins
-  pub presentPins : SamePins h t t′
-  pub firsts : t′ .firsts ≡ t .firsts
-  pub loadedSizes : t′ .loadedSizes ≡ t .loadedSizes
-  pub presentSizes : t′ .presentSizes ≡ t .presentSizes
-  pub counts : t′ .counts ≡ t .counts
-  pub gains : t′ .gains ≡ t .gains
-  pub index : t′ .index ≡ t .index
-  pub visited : t′ .visited ≡ t .visited
 
 -- ---- lists of moves
 unfoldable pub isMove : Call → Bool
@@ -75,9 +49,9 @@ pub record SameSessions (h : Hypergraph) (before moves moves′ : List Call) : T
   pub few′ : length (before ++ moves′) ≤ 512
   pub sessions : (v : ℕ) → 1 ≤ v → v ≤ vertices h → sessionOf (afterMoves h before moves′) v ≡ sessionOf (afterMoves h before moves) v
 
--- the same tables, free layouts aside, the same joins and the same total; the record of moves and the answers may differ
-pub record SameLeft (h : Hypergraph) (t t′ : Tables) (stack stack′ : List Contraction) (total total′ : ℕ) : Type 0 where
-  pub tables : SameTables h t t′
+-- the same tables, entry by entry, the same joins and the same total; the record of moves and the answers may differ
+pub record SameLeft (t t′ : Tables) (stack stack′ : List Contraction) (total total′ : ℕ) : Type 0 where
+  pub tables : t′ ≡ t
   pub joins : stack′ ≡ stack
   pub totals : total′ ≡ total
 
@@ -90,7 +64,7 @@ OrderOfMoves limits =
     → listRefusal list ≡ 0 → listCalls list ≡ before ++ moves → listRefusal list′ ≡ 0 → listCalls list′ ≡ before ++ moves′
     → SameSessions (k .graph) before moves moves′
     → ListServes limits file list old new r → ListServes limits file list′ old new′ r′
-    → SameLeft (k .graph) (new .tables) (new′ .tables) (stackOf (r .stack .xs) (r .stack .ys) (r .stack .len)) (stackOf (r′ .stack .xs) (r′ .stack .ys) (r′ .stack .len)) (r .total) (r′ .total)
+    → SameLeft (new .tables) (new′ .tables) (stackOf (r .stack .xs) (r .stack .ys) (r .stack .len)) (stackOf (r′ .stack .xs) (r′ .stack .ys) (r′ .stack .len)) (r .total) (r′ .total)
 
 -- two moves of different lots, accepted in either order, are such lists
 abbrev pub EitherOrder : Limits → Type 0

@@ -14,7 +14,7 @@ use Rattle.laws.specs.Occurrence.{occ}
 use Rattle.model.specs.Measure.{Contraction, above}
 use Rattle.incidence.specs.On.{on}
 use Rattle.pins.specs.Stack.{row, past, present-on}
-use Rattle.pins.specs.Rising.{Rising}
+use Rattle.laws.specs.Rising.{Rising}
 use Rattle.pins.specs.Stretch.{Stretch}
 
 -- v contracted into u; the code counts vertices from 0

@@ -8,7 +8,8 @@ use native.Mathlib.Omega.{arith}
 use lib.ListN.{length, getD, set, length-set}
 use lib.Seq.{getD-set-other}
 use Rattle.laws.specs.Occurrence.{at, same, occ, In, Distinct, same-yes, same-no, same-le, occ-step, occ-at, occ-in, occ-set, distinct-occ, occ-distinct}
-use Rattle.pins.specs.Rising.{Rising, RisingBut, Outside, Carried, Lowered, apart, rising-distinct}
+use Rattle.laws.specs.Rising.{Rising, rising-distinct}
+use Rattle.pins.specs.Rising.{RisingBut, Outside, Carried, Lowered, apart}
 
 -- r is a place of the stretch that holds x, or n where x is in none
 pub record Found (l : List ℕ) (f n x r : ℕ) : Type 0 where

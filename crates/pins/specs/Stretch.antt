@@ -12,7 +12,7 @@ use Rattle.laws.specs.Choice.{one}
 use Rattle.laws.specs.Occurrence.{at, same, occ, In, Distinct, same-yes, same-no, occ-step, occ-in, occ-ext, occ-distinct}
 use Rattle.model.specs.Measure.{Contraction, above}
 use Rattle.guarantees.specs.Climbs.{Sound}
-use Rattle.pins.specs.Rising.{Rising}
+use Rattle.laws.specs.Rising.{Rising}
 use Rattle.pins.specs.Link.{Relinked, Unlinked}
 use Rattle.pins.specs.Stack.{row, past, present, present-on, present-le, present-gone, present-into, present-other, past-both, past-new, past-skip, past-off}
 

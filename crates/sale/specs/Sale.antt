@@ -1,4 +1,4 @@
--- A list of calls on tables as loading left them: what it needs, and that it leaves what demand 3 says. Rests on memory and sequence.
+-- A list of calls on tables as loading left them: what it needs, and that it leaves what demand 3 says. Rests on memory and call_list.
 -- Assumes nothing.
 use Prim.Native.Nat.{ℕ, _+_, _-_, _*_, _≤_}
 use native.Mathlib.Omega.{arith}
@@ -31,7 +31,6 @@ use Rattle.edit_calls.specs.Steps.{Whole}
 use Rattle.call_list.specs.Course.{Begins, CanRun, Point, RunsOn, Done}
 use Rattle.memory.specs.Open.{opens, none-above, fixed-long, fixed-marked, is-accepted}
 use Rattle.memory.specs.Close.{draft-is, ended, report-length}
-use Rattle.memory.specs.Prefix.{course-as}
 use Rattle.memory.specs.Held.{memoryOf, held}
 use Rattle.memory.specs.Unjoined.{loaded-sets}
 
@@ -132,7 +131,7 @@ module _ {limits : Limits} {file : List ℕ} {z : Sizes} {old new : Lists} {nw l
     pub can-run : CanRun T₀ (z .average) (replicate 16 (z .capacity)) fixedmarks calls count (length out)
     can-run = record { limits = limits; h = h; begins = begins }
 
-    -- what stands in lent memory between two calls is what the machine's state there says
+    -- what stands in lent memory is what the machine's state there says
     abbrev standingOf : Point → Standing
     standingOf p = standing (memoryOf (p .tables) (new .fixed) (new .loadedPins) (p .index)) (stackOf (p .stack .xs) (p .stack .ys) (p .stack .len)) (journalOf (p .journal .xs) (p .journal .ys) (p .journal .len))
 
@@ -159,8 +158,6 @@ module _ {limits : Limits} {file : List ℕ} {z : Sizes} {old new : Lists} {nw l
             few = few;
             stands = end;
             unjoined = λ none. loaded-sets (g .narrow) (g .short) (g .long) (g .loads) (end .tables) refl (sym (end .joins) ∙ none);
-            loaded = standingOf (d .begun);
-            course = course-as (RunsOn h T₀ index) (Stands h (lent old counts gains index visited)) standingOf stands-as h (fresh h) (callsOf count calls) (d .begun) _ (d .course);
             answered = refl;
             total-is = d .here .runs .sound .total-is;
             machine = machine-half limits h (begins .accepted) (callsOf count calls);

@@ -1,46 +1,20 @@
 -- What the tables held before loading, the catalogue and the machine's state tell every entry of lent memory: two sets of tables that hold for
--- them are the same. Rests on model's Memory, laws' occurrences and guarantees' Stretches. Assumes nothing.
+-- them are the same (holds-same). Rests on Stretches, and on laws' Rising. Assumes nothing.
 use Prim.Native.Nat.{ℕ, zero, suc, _+_, _-_, _≤_, _<_}
-use native.Mathlib.Decide.{ℕ-discrete, decLt}
+use native.Mathlib.Decide.{decLt}
 use native.Mathlib.Omega.{arith}
-use mathlib.Core.Path.{_≡_, refl, sym, ap, _∙_}
+use mathlib.Core.Path.{_≡_, sym, _∙_}
 use mathlib.Core.Bool.{Bool}
 use mathlib.Core.List.{List}
 use lib.ListN.{length, getD}
 use lib.Seq.{ext-getD}
 use Rattle.laws.specs.Sum.{sumTo, sumTo-nil, sumTo-suc, sumTo-list}
-use Rattle.laws.specs.Occurrence.{at, same, occ, In, occ-suc, occ-at, occ-in}
 use Rattle.model.specs.Catalogue.{Hypergraph}
 use Rattle.model.specs.Measure.{Contraction, size}
 use Rattle.model.specs.Machine.{State}
 use Rattle.model.specs.Memory.{Tables, Filled, Pins, Holds, noNet, net, allPins, firstPlace, takenOut}
 use Rattle.guarantees.specs.Stretches.{pins-length}
-use Rattle.pins.specs.Rising.{Rising}
-
--- ---- a rising stretch is told by what stands in it
-last-le : (l l′ : List ℕ) (f k : ℕ) → Rising l f (suc k) → ((x : ℕ) → occ l f (suc k) x ≡ occ l′ f (suc k) x) → at l′ f k ≤ at l f k
-last-le l l′ f k r h = go (occ-in l f (suc k) (at l′ f k) (omega (arith, h (at l′ f k), occ-at l′ f (suc k) k (at l′ f k) (omega arith) refl)))
-  where
-    go : In l f (suc k) (at l′ f k) → at l′ f k ≤ at l f k
-    go i = place (ℕ-discrete (i .0) k)
-      where
-        place : Dec (i .0 ≡ k) → at l′ f k ≤ at l f k
-        place (yes q) = omega (arith, i .2, ap (at l f) q)
-        place (no q) = omega (arith, i .2, r (i .0) k (omega (arith, i .1)) (omega arith))
-
-pub rising-same : (l l′ : List ℕ) (f n : ℕ) → Rising l f n → Rising l′ f n → ((x : ℕ) → occ l f n x ≡ occ l′ f n x) → (i : ℕ) → i < n → at l f i ≡ at l′ f i
-rising-same l l′ f zero r r′ h i k = absurd (omega arith)
-rising-same l l′ f (suc n) r r′ h i k = go (ℕ-discrete i n) (λ less. rising-same l l′ f n (λ a b ab bn. r a b ab (omega arith)) (λ a b ab bn. r′ a b ab (omega arith)) less i)
-  where
-    last : at l f n ≡ at l′ f n
-    last = omega (arith, last-le l l′ f n r h, last-le l′ l f n r′ (λ x. sym (h x)))
-
-    less : (x : ℕ) → occ l f n x ≡ occ l′ f n x
-    less x = omega (arith, h x, occ-suc l f n x, occ-suc l′ f n x, ap (λ (z : ℕ). same z x) last)
-
-    go : Dec (i ≡ n) → (((x : ℕ) → occ l f n x ≡ occ l′ f n x) → i < n → at l f i ≡ at l′ f i) → at l f i ≡ at l′ f i
-    go (yes q) ih = rw q last
-    go (no q) ih = ih less (omega arith)
+use Rattle.laws.specs.Rising.{rising-same}
 
 -- ---- a place of the mark tables is a buyer's
 record Place (g : ℕ → ℕ) (n i : ℕ) : Type 0 where

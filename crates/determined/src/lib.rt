@@ -1,1 +1,0 @@
-// Laws of what lent memory tells only: see specs/.
