@@ -24,6 +24,8 @@
 -- 8. Demand 3's machine half, one theorem about the whole list: MachineHalf (machine-half).
 -- 9. The index holds each pair of a board lot and another session once and no other: Ready (each-pair-once); its first open pair in the order of
 --    choice is the full search's: Ready (first-is-best). Beneath it Ranked, Inserts, Ranks.
+-- 10. What lent memory held before loading, the catalogue and the machine's state tell its every entry: Determined (holds-same). So a refused call
+--     changes nothing: Refused (refused-same, after-accepted, refused-change-nothing).
 -- Beneath them: Reversals, Climbs, Tops, Ends, Kept, Calls, Clumps, Caps, Reading, Loads, Numbers, Bounds, WeightBounds, StateBounds.
 pub mod Moves
 pub mod Commutes
@@ -70,3 +72,4 @@ pub mod Ranks
 pub mod Ready
 pub mod Determined
 pub mod Order
+pub mod Refused

@@ -14,7 +14,8 @@
 -- Demand     demand 3, one statement about a catalogue and a list of calls
 -- Estimate   request M-109: what holds of every count of bales within the ranges
 -- ListEntry  what the entry for a catalogue and a list of calls apart returns and leaves
--- Order      request M-110: the order of moves, and when two sets of tables are the same, free layouts aside
+-- Refused    demand 1: a refused call changes nothing, in every entry of lent memory
+-- Order      request M-110: the order of moves
 -- Hmetis     what a converter's input says: an hMETIS file and its partition listing; M-100
 -- CatalogueText  a catalogue as a sale file without calls
 -- Convert    which inputs are carried over, the catalogue, and what the converter leaves
@@ -40,6 +41,7 @@ pub mod Lent
 pub mod Demand
 pub mod Estimate
 pub mod ListEntry
+pub mod Refused
 pub mod Order
 pub mod Table
 pub mod Edges
