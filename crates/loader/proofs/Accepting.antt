@@ -21,7 +21,7 @@ use Rattle.guarantees.specs.Caps.{Capped}
 use Rattle.guarantees.specs.Loads.{Loaded as Good, sum-below, parsed, held-start}
 use Rattle.guarantees.specs.Splits.{board-none, above-none, weight-none}
 use Rattle.laws.specs.Rising.{Rising}
-use Rattle.pins.specs.Sorting.{start}
+use Rattle.pins.specs.Sorting.{start, SortableNets}
 use Rattle.lines.specs.Line.{book}
 use Rattle.reader.specs.Whole.{averageOf, graphOf, Fitted, FileRead, seen as told}
 use Rattle.reader.specs.declared.Outcome.{Outcome}
@@ -32,7 +32,7 @@ use Rattle.loader.specs.Tables.{InOrder, Started, Loads, sizesOf}
 use Rattle.loader.specs.declared.Sizes.{Sizes}
 use Rattle.loader.specs.declared.Loaded.the-variants.{Accepted, Refused}
 use Rattle.loader.proofs.Fill.{filled, filled-in, filled-out, filled-as}
-use Rattle.loader.proofs.Stretches.{count-is, size-is, first-is, pins-count, pins-at, present-is, sets-is}
+use Rattle.loader.proofs.Stretches.{count-is, size-is, first-is, pins-count, pins-at, present-is, sets-is, marks-inside}
 
 refused-accepted : {A : Type 0} {q n : ℕ} {z : Sizes} → Refused q n ≡ Accepted z → A
 refused-accepted e = absurd (let z : _≡_ {A = ℕ} 0 1 = cc in omega arith)
@@ -78,6 +78,19 @@ module _ (limits : Limits) (file : List ℕ) (l b k t m n : ℕ) (w₀ d₀ a₀
 
     pub small : averageOf k (take l lo) ≤ 67107855 + k
     small = small-average limits h good (omega (arith, count, fit .range .l-high)) k
+
+    -- each buyer's marks are different lots, so that they can be put in order
+    pub sortable : SortableNets lp c b
+    sortable y z =
+        let laid : Laid b m f₀ c₀ lp₀ f c lp = fit .settled .laid in
+        rw (← laid .first-is y z) (record {
+          distinct = occ-distinct lp (getD f y 0) (getD c y 0) (λ x. omega (
+            arith,
+            sets-is h b m f₀ c₀ lp₀ nw f c lp refl laid wide (good .nets-in) (good .nets-distinct) lp (λ i u. refl) y x z,
+            one-le (pin [] (net h (suc y)) x),
+          ));
+          inside = λ i u. let r = marks-inside h b m f₀ c₀ lp₀ nw f c lp refl laid wide (good .nets-in) (good .nets-distinct) y i z u in (r .0, omega (arith, r .1, count, fit .range .l-high));
+        })
 
     module _ (fa : Filled 0 (λ i. ltb i l) (λ i. 0) a₀ a) (fp : InOrder lp c b m pp₀ pp) (fc : Filled 0 (λ i. ltb i b) (λ i. getD c i 0) pc₀ pc) where
       weight-at : (i : ℕ) → i < l → i < length w₀ → getD w i 0 ≡ weightEntry h [] (drafted h) (suc i)

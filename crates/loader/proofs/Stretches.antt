@@ -96,6 +96,13 @@ module _ (h : Hypergraph) (b m : ℕ) (f₀ c₀ marks₀ w f c marks : List ℕ
   pub pins-at : (i : ℕ) → i < m → getD (allPins (h .nets)) i 0 ≡ getD marks i 0
   pins-at i l = ap (λ (ps : List ℕ). getD ps i 0) pins-all ∙ getD-take m marks i 0 l
 
+  -- a mark of a buyer, in the table of marks
+  mark-at : (y i : ℕ) → y < b → i < getD c y 0 → getD (net h (suc y) .pins) i 0 ≡ getD marks (getD f y 0 + i) 0
+  mark-at y i l u =
+      ap (λ (ps : List ℕ). getD ps i 0) (pins-is y l ∙ slice-is (getD f y 0) (getD c y 0) marks)
+      ∙ getD-take (getD c y 0) (drop (getD f y 0) marks) i 0 u
+      ∙ getD-drop (getD f y 0) marks i 0
+
   module _ (within : All (h .nets) (Within (vertices h))) (distinct : All (h .nets) (λ e. Distinct (e .pins) 0 (length (e .pins)))) where
     pub present-is : (y : ℕ) → y < b → size h [] (net h (suc y)) ≡ getD c y 0
     present-is y l =
@@ -117,8 +124,11 @@ module _ (h : Hypergraph) (b m : ℕ) (f₀ c₀ marks₀ w f c marks : List ℕ
         ∙ sym (ap one (pin-none (net h (suc y)) v))
       where
         at-is : (i : ℕ) → i < getD c y 0 → getD (net h (suc y) .pins) (0 + i) 0 ≡ getD marks (getD f y 0 + i) 0
-        at-is i u =
-            ap (λ (j : ℕ). getD (net h (suc y) .pins) j 0) (zero-add i)
-            ∙ ap (λ (ps : List ℕ). getD ps i 0) (pins-is y l ∙ slice-is (getD f y 0) (getD c y 0) marks)
-            ∙ getD-take (getD c y 0) (drop (getD f y 0) marks) i 0 u
-            ∙ getD-drop (getD f y 0) marks i 0
+        at-is i u = ap (λ (j : ℕ). getD (net h (suc y) .pins) j 0) (zero-add i) ∙ mark-at y i l u
+
+    -- each mark is a vertex's number
+    pub marks-inside : (y i : ℕ) → y < b → i < getD c y 0 → (1 ≤ getD marks (getD f y 0 + i) 0) × (getD marks (getD f y 0 + i) 0 ≤ vertices h)
+    marks-inside y i l u =
+        let z : suc y - 1 ≡ y = omega arith in
+        let in-range : Within (vertices h) (net h (suc y)) = rw z (all-get (h .nets) (Within (vertices h)) noNet within y (omega (arith, count-is))) in
+        rw (← mark-at y i l u) (all-get (net h (suc y) .pins) (λ x. (1 ≤ x) × (x ≤ vertices h)) 0 in-range i (omega (arith, size-is y l)))

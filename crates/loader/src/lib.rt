@@ -10,7 +10,7 @@ ghost use Rattle.model.specs.Memory.{Filled};
 ghost use Rattle.model.specs.Lent.{lists};
 ghost use Rattle.lines.specs.Line.{limitsOf};
 ghost use Rattle.reader.specs.Whole.{averageOf};
-ghost use Rattle.pins.specs.Sorting.{start as begins};
+ghost use Rattle.pins.specs.Sorting.{start as begins, SortableNets};
 ghost use Rattle.loader.specs.Tables.{LongLists, InOrder, sizesOf, Loads};
 
 // The sizes of an accepted catalogue: how many lots, buyers, sessions, thousandths of slack, marks and calls; ⌈W/k⌉; the cap.
@@ -67,7 +67,7 @@ fn start(
     presentsizes: &mut [u16],
 )
     requires { ⌜ (vertices ≤ length (now aboves)) × (m ≤ length (now loadedpins)) × (m ≤ length (now presentpins)) × (nets ≤ length (now loadedsizes))
-        × (nets ≤ length (now presentsizes)) × (begins (now loadedsizes) nets ≡ m) ⌝ }
+        × (nets ≤ length (now presentsizes)) × (begins (now loadedsizes) nets ≡ m) × SortableNets (now loadedpins) (now loadedsizes) nets ⌝ }
     ensures { λ _. ⌜ Filled 0 (λ i. ltb i vertices) (λ i. 0) (now (aboves .entry)) (now (aboves .exit))
         × InOrder (now (loadedpins .entry)) (now (loadedsizes .entry)) nets m (now (presentpins .entry)) (now (presentpins .exit))
         × Filled 0 (λ i. ltb i nets) (λ i. getD (now (loadedsizes .entry)) i 0) (now (presentsizes .entry)) (now (presentsizes .exit)) ⌝ }

@@ -1,6 +1,7 @@
 -- Pin lists and their undo.
 -- Rising   a stretch whose pins rise; a pin carried to its end, or let down to its place
--- Sorting  loaded pins put in order
+-- Sorting  pins put in order, net by net
+-- Row      a net's pins put in order by a row of vertex bits
 -- Link     a pin replaced or removed in one stretch, and put back
 -- Stack    what the contraction stack says of a net: its pins, and those removed, the last removed first
 -- Stretch  one net's list against the stack
@@ -8,6 +9,7 @@
 -- Split    a contraction undone in one net; Uncontract in all nets
 pub mod Rising
 pub mod Sorting
+pub mod Row
 pub mod Link
 pub mod Stack
 pub mod Stretch

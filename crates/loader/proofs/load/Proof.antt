@@ -2,7 +2,7 @@
 use native.Mathlib.Omega.{arith}
 use mathlib.Core.Path.{sym}
 use Rattle.lines.specs.Line.{limitsOf}
-use Rattle.loader.proofs.Accepting.{refused, small, accepted}
+use Rattle.loader.proofs.Accepting.{refused, small, sortable, accepted}
 use denote.Ref.{now}
 use borrow.Author.Needs.{needs}
 use Rattle.loader.proofs.load.Statement.{statement}
@@ -28,9 +28,10 @@ start-requires c κs =
     let at-l = c .before .before .before .before .before .before in
     let at-read = at-l .before .before .before .before .before .before .before .before .before .before .before .before .before .before .before .before in
     let start = at-read .before .before .before .before .before .before .before .before .before .before .before .before .before .before .before .before .before .before .before .before .before in
+    let a = start .args in
     let p = start .pre .5 in
     let f = at-read .read .ensures .fitted (at-l .l .given .0 .0) (at-l .l .given .0 .1 .0) (at-l .l .given .0 .1 .1 .0) (at-l .l .given .0 .1 .1 .1 .0) (at-l .l .given .0 .1 .1 .1 .1 .0) (at-l .l .given .0 .1 .1 .1 .1 .1 .0) (at-l .l .given .1) in
-    (omega (arith, f .range .l-high, p .aboves), omega (arith, f .settled .laid .m-le, p .loadedPins, at-read .read .kept .1 .1 .1 .1 .1 .1 .1 .1 .1 .1 .0), omega (arith, f .settled .laid .m-le, p .presentPins), omega (arith, f .range .b-high, p .loadedSizes, at-read .read .kept .1 .1 .1 .1 .1 .1 .1 .1 .1 .0), omega (arith, f .range .b-high, p .presentSizes), sym (f .settled .laid .m-is))
+    (omega (arith, f .range .l-high, p .aboves), omega (arith, f .settled .laid .m-le, p .loadedPins, at-read .read .kept .1 .1 .1 .1 .1 .1 .1 .1 .1 .1 .0), omega (arith, f .settled .laid .m-le, p .presentPins), omega (arith, f .range .b-high, p .loadedSizes, at-read .read .kept .1 .1 .1 .1 .1 .1 .1 .1 .1 .0), omega (arith, f .range .b-high, p .presentSizes), sym (f .settled .laid .m-is), sortable (limitsOf (a .vmax) (a .bmax)) (now (a .s)) (at-l .l .given .0 .0) (at-l .l .given .0 .1 .0) (at-l .l .given .0 .1 .1 .0) (at-l .l .given .0 .1 .1 .1 .0) (at-l .l .given .0 .1 .1 .1 .1 .0) (at-l .l .given .0 .1 .1 .1 .1 .1 .0) (now (a .weights)) (now (a .blocks)) (now (a .aboves)) (now (a .fixed)) (now (a .loadedpins)) (now (a .presentpins)) (now (a .firsts)) (now (a .loadedsizes)) (now (a .presentsizes)) _ _ (now (a .aboves)) _ _ (now (a .presentpins)) _ _ (now (a .presentsizes)) _ _ _ (at-read .read .result) (at-read .read .ensures) (at-l .l .given .1) (start .pre .0) (at-read .read .kept .1 .1 .1 .0) (at-read .read .kept .1 .1 .1 .1 .0) (at-read .read .kept .1 .1 .1 .1 .1 .0) (at-read .read .kept .1 .1 .1 .1 .1 .1 .1 .1 .1 .1 .0) (at-read .read .kept .1 .1 .1 .1 .1 .1 .1 .1 .0) (at-read .read .kept .1 .1 .1 .1 .1 .1 .1 .1 .1 .0) (p .weights) (p .blocks) (p .loadedPins) (p .presentPins))
 
 measure-requires : tie.Need-measure-requires
 measure-requires c κs =
