@@ -1,6 +1,8 @@
 //! Cap, stand, kept lots, present mark sets, bales, counts, total and gain, each worked out afresh.
 //! Rests on the loaded catalogue, the stack of joins and the session of each board lot.
 
+use std::collections::BTreeSet;
+
 use crate::catalogue::Catalogue;
 
 /// All loaded bales, by their lows, shared out evenly over the sessions, rounded up: ⌈W/k⌉.
@@ -39,6 +41,7 @@ pub fn overfull_draft(catalogue: &Catalogue) -> bool {
 /// Tables by lot or by buyer number leave place 0 unused.
 pub struct Standing<'a> {
     catalogue: &'a Catalogue,
+    joins: Vec<(usize, usize)>,
     above: Vec<usize>,
     stand: Vec<usize>,
     bales: Vec<u64>,
@@ -88,6 +91,7 @@ impl<'a> Standing<'a> {
 
         Standing {
             catalogue,
+            joins: joins.to_vec(),
             above,
             stand,
             bales,
@@ -126,6 +130,21 @@ impl<'a> Standing<'a> {
     /// The buyers whose present mark set holds this lot: none for a lot off the board.
     pub fn buyers(&self, lot: usize) -> &[usize] {
         &self.buyers[lot]
+    }
+
+    /// The marks that joins took out of a buyer's mark set, the last one first: of each join of two
+    /// lots that the buyer had both as present marks at that time, the one that left the board.
+    pub fn taken_out(&self, buyer: usize) -> Vec<usize> {
+        let marks = &self.catalogue.buyer(buyer).marks;
+        let mut present: BTreeSet<usize> = marks.iter().copied().collect();
+        let mut taken_out = Vec::new();
+        for &(u, v) in &self.joins {
+            if present.remove(&v) && !present.insert(u) {
+                taken_out.push(v);
+            }
+        }
+        taken_out.reverse();
+        taken_out
     }
 
     /// Whether the lot is on the board.

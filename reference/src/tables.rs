@@ -2,7 +2,6 @@
 //! Rests on `machine` for the state and on `measure` for every entry.
 
 use std::cmp::Reverse;
-use std::collections::BTreeSet;
 
 use crate::machine::Machine;
 use crate::measure::View;
@@ -27,12 +26,15 @@ pub struct BuyerRecord {
 
 /// The entries in use of all lent tables. Vectors by lot or buyer start with number 1;
 /// vectors by session within them start with session 1, and a lot's row of the index has as many
-/// places as there are sessions. The order of marks in a present set is free, so these are sets.
+/// places as there are sessions. A buyer's present marks stand lowest first; behind them, to the end
+/// of its loaded stretch, those that joins took out, the last one first. Document 01 leaves this
+/// layout free; it is told, so that nothing in lent memory is left open.
 #[derive(Clone, Debug, PartialEq, Eq)]
 pub struct Tables {
     pub lots: Vec<LotRecord>,
     pub loaded_marks: Vec<usize>,
-    pub present_marks: Vec<BTreeSet<usize>>,
+    pub present_marks: Vec<Vec<usize>>,
+    pub taken_out: Vec<Vec<usize>>,
     pub buyers: Vec<BuyerRecord>,
     pub counts: Vec<Vec<u64>>,
     pub gains: Vec<Vec<i64>>,
@@ -82,7 +84,12 @@ impl Tables {
 
         let present_marks = catalogue
             .buyer_numbers()
-            .map(|buyer| standing.present(buyer).iter().copied().collect())
+            .map(|buyer| standing.present(buyer).to_vec())
+            .collect();
+
+        let taken_out = catalogue
+            .buyer_numbers()
+            .map(|buyer| standing.taken_out(buyer))
             .collect();
 
         let buyers = catalogue
@@ -148,6 +155,7 @@ impl Tables {
             lots,
             loaded_marks,
             present_marks,
+            taken_out,
             buyers,
             counts,
             gains,

@@ -170,7 +170,12 @@ fn check_state(machine: &Machine) {
         let present = &tables.present_marks[buyer - 1];
         assert_eq!(present.len(), tables.buyers[buyer - 1].present_marks);
         assert_eq!(present.len() as u64, tables.counts[buyer - 1].iter().sum());
-        assert!(present.is_disjoint(&off_board));
+        assert!(present.is_sorted_by(|one, next| one < next));
+        assert!(present.iter().all(|lot| !off_board.contains(lot)));
+        let taken_out = &tables.taken_out[buyer - 1];
+        assert!(taken_out.iter().all(|lot| off_board.contains(lot)));
+        let loaded = tables.buyers[buyer - 1].loaded_marks;
+        assert_eq!(present.len() + taken_out.len(), loaded);
         let bits = tables.visited[buyer - 1];
         assert_eq!(bits.count_ones() as usize, view.visited(buyer).len());
     }

@@ -1,5 +1,5 @@
 //! The order of moves: two lists of accepted M calls that continue one list and leave each lot in the
-//! same session leave the same tables, free layouts aside, and the same total.
+//! same session leave the same tables, in every entry, and the same total.
 //! Rests on the library's generator of such pairs.
 
 use reference::move_orders::{move_orders, MoveOrders};
@@ -42,7 +42,6 @@ fn the_order_of_moves_leaves_no_trace_but_the_record() {
         let other = finish(&start, second);
         assert_eq!(one.sessions, other.sessions, "seed {seed}");
         assert_eq!(one.joins, other.joins, "seed {seed}");
-        // The present marks are sets here, so the free layouts are left aside.
         assert_eq!(Tables::of(&one), Tables::of(&other), "seed {seed}");
         assert_eq!(one.total(), other.total(), "seed {seed}");
 

@@ -1,8 +1,6 @@
 //! The starred cases of document 01 and the tables of its worked sale, by hand.
 //! Rests on the library's measure, machine and tables.
 
-use std::collections::BTreeSet;
-
 use reference::measure::{cap, Halves, View};
 use reference::search::rating;
 use reference::tables::{entry, BuyerRecord, LotRecord};
@@ -98,14 +96,8 @@ fn tables_of_the_worked_sale_with_one_join() {
         ]
     );
     assert_eq!(tables.loaded_marks, [1, 3, 2, 5, 3, 4]);
-    assert_eq!(
-        tables.present_marks,
-        [
-            BTreeSet::from([1, 3]),
-            BTreeSet::from([2]),
-            BTreeSet::from([3, 4])
-        ]
-    );
+    assert_eq!(tables.present_marks, [vec![1, 3], vec![2], vec![3, 4]]);
+    assert_eq!(tables.taken_out, [vec![], vec![5], vec![]]);
     let buyer = |first_place, present_marks| BuyerRecord {
         first_place,
         loaded_marks: 2,
@@ -126,6 +118,47 @@ fn a_lot_off_the_board_keeps_the_bales_it_had_when_joined() {
     assert_eq!(bales, [7, 6, 4]);
     let above: Vec<usize> = tables.lots.iter().map(|lot| lot.above).collect();
     assert_eq!(above, [0, 1, 2]);
+}
+
+#[test]
+fn marks_behind_the_present_ones_are_those_taken_out_last_one_first() {
+    // Buyer 1 has 5, 2 and 4 and loses 2 to 5, then 4; buyer 2 gets 5 in place of 2 and loses nothing
+    // until 5 goes into 3; buyer 3 has one mark all along.
+    let catalogue = "SALE,5,3,2,1000\nLOT,1,1\nLOT,1,1\nLOT,1,1\nLOT,1,1\nLOT,1,1\n\
+                     BUY,1,5,2,4\nBUY,1,2,3\nBUY,1,4\n";
+    let after = |calls: &str| {
+        let file = format!("{catalogue}{calls}");
+        let tables = tables_after(file.as_bytes()).expect("the sale is accepted");
+        (tables.present_marks, tables.taken_out)
+    };
+    let none = Vec::new;
+    assert_eq!(
+        after(""),
+        (
+            vec![vec![2, 4, 5], vec![2, 3], vec![4]],
+            vec![none(), none(), none()]
+        )
+    );
+    assert_eq!(
+        after("J,5,2\n"),
+        (
+            vec![vec![4, 5], vec![3, 5], vec![4]],
+            vec![vec![2], none(), none()]
+        )
+    );
+    assert_eq!(
+        after("J,5,2\nJ,5,4\n"),
+        (
+            vec![vec![5], vec![3, 5], vec![5]],
+            vec![vec![4, 2], none(), none()]
+        )
+    );
+    let all = (
+        vec![vec![3], vec![3], vec![3]],
+        vec![vec![4, 2], vec![5], none()],
+    );
+    assert_eq!(after("J,5,2\nJ,5,4\nJ,3,5\n"), all);
+    assert_eq!(after("J,5,2\nJ,5,4\nJ,3,5\nS\nJ,3,5\n"), all);
 }
 
 #[test]
