@@ -12,6 +12,7 @@ use reference::{parse, parse_within, report, run_calls, Call, Limits};
 use std::path::PathBuf;
 
 pub mod orders;
+pub mod refused;
 
 /// Lent memory of lengths that the caller settles.
 #[derive(Clone, Debug, PartialEq, Eq)]
@@ -172,10 +173,8 @@ impl Memory {
         Stretch { first, size }
     }
 
-    /// Puts in what the reference says that the tables hold; all else stays. What is free in the
-    /// present pins is taken from `found`, the pins of each set apart, and an error says that
-    /// these are not the reference's.
-    fn finish(&mut self, tables: &Tables, found: &Memory) -> Result<(), String> {
+    /// Puts in what the reference says that the tables hold; all else stays.
+    fn finish(&mut self, tables: &Tables) {
         for (i, lot) in tables.lots.iter().enumerate() {
             self.lots[i] = Lot {
                 bales: lot.bales as u32,
@@ -201,17 +200,11 @@ impl Memory {
             for (j, &count) in tables.counts[i].iter().enumerate() {
                 self.counts[entry(i + 1, j + 1)] = count as u16;
             }
-            let stretch = buyer.first_place..buyer.first_place + buyer.loaded_marks;
-            let free = &found.presentpins[stretch.clone()];
-            let mut present = free[..buyer.present_marks].to_vec();
-            present.sort_unstable();
-            let wanted = tables.present_marks[i].iter().map(|&mark| mark as u16);
-            if !wanted.eq(present) {
-                return Err("the sets of present pins".into());
+            let marks = tables.present_marks[i].iter().chain(&tables.taken_out[i]);
+            for (place, &mark) in (buyer.first_place..).zip(marks) {
+                self.presentpins[place] = mark as u16;
             }
-            self.presentpins[stretch].copy_from_slice(free);
         }
-        Ok(())
     }
 
     /// After a refused file the tables are free, so they are taken from `found`; the output is not.
@@ -269,7 +262,7 @@ fn compare_through(
     let (code, text) = match parse_within(file, limits) {
         Ok(sale) => {
             let end = run_calls(&sale.catalogue, &sale.calls);
-            wanted.finish(&end.tables, &found)?;
+            wanted.finish(&end.tables);
             (0, end.report)
         }
         Err(refusal) => {
@@ -348,7 +341,7 @@ pub fn compare_list(file: &[u8], list: &[u32], random: &mut Random) -> Result<u3
         (Err(code), _) => (code, Vec::new(), 0, Vec::new(), Vec::new()),
         (Ok(calls), Ok(sale)) => {
             let end = run_calls(&sale.catalogue, &calls);
-            wanted.finish(&end.tables, &found)?;
+            wanted.finish(&end.tables);
             let mut lines = end.report.split_inclusive(|&byte| byte == b'\n');
             let answers = lines
                 .by_ref()

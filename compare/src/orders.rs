@@ -3,7 +3,7 @@
 
 use crate::{numbers_of, Memory};
 use reference::generator::Random;
-use reference::{parse, Call, Machine};
+use reference::{Call, Machine};
 
 /// Accepted moves from a state on, then others from the same state that leave each lot in the same
 /// session: in another order, with detours and returns. None where no such way was found.
@@ -42,22 +42,9 @@ pub fn two_ways(machine: &Machine, random: &mut Random) -> Option<[Vec<Call>; 2]
     None
 }
 
-/// The pins of each present set in order, and 0 where a stretch is free.
-fn set_in_order(memory: &mut Memory, nets: usize) {
-    for i in 0..nets {
-        let first = memory.firsts[i] as usize;
-        let end = first + memory.loadedsizes[i] as usize;
-        let stretch = &mut memory.presentpins[first..end];
-        let (present, free) = stretch.split_at_mut(memory.presentsizes[i] as usize);
-        present.sort_unstable();
-        free.fill(0);
-    }
-}
-
 /// Runs two lists of calls on the catalogue of a file, on equal memory of random bytes: what differs
-/// in the total, the stack and the tables, free layouts aside.
+/// in the total, the stack and the tables, which are compared in every entry.
 pub fn same_left(file: &[u8], lists: &[Vec<Call>; 2], random: &mut Random) -> Result<(), String> {
-    let nets = parse(file).map_or(0, |sale| sale.catalogue.buyers.len());
     let before = Memory::noise(random);
     let run = |calls: &Vec<Call>| {
         let list: Vec<u32> = calls
@@ -67,7 +54,6 @@ pub fn same_left(file: &[u8], lists: &[Vec<Call>; 2], random: &mut Random) -> Re
         let mut memory = before.clone();
         let outcome = memory.run_list(file, &list);
         memory.output.clear();
-        set_in_order(&mut memory, nets);
         (outcome, memory)
     };
     let (one, other) = (run(&lists[0]), run(&lists[1]));
