@@ -83,13 +83,13 @@ fn main() -> std::io::Result<()> {
     let mut splitter = Splitter::default();
     let mut ratios = Vec::new();
     let workloads = workloads();
-    println!("workload                           engine ms   tuned ms   ratio");
+    println!("workload                                   engine ms   tuned ms   ratio");
     for workload in &workloads {
         let (engine, tuned) = measure(workload, &mut memory, &mut splitter);
         let ratio = engine / tuned;
         let (engine, tuned) = (engine * 1e3, tuned * 1e3);
         println!(
-            "{:<33} {engine:>10.3} {tuned:>10.3} {ratio:>7.2}",
+            "{:<41} {engine:>10.3} {tuned:>10.3} {ratio:>7.2}",
             workload.name
         );
         ratios.push((workload.name, ratio));

@@ -2,8 +2,8 @@
 
 use std::fmt::Write;
 
-const WIDTH: f64 = 720.0;
-const LABELS: f64 = 250.0;
+const WIDTH: f64 = 770.0;
+const LABELS: f64 = 300.0;
 const ROW: f64 = 34.0;
 const TOP: f64 = 70.0;
 

@@ -34,10 +34,26 @@ fn workload(name: &'static str, catalogue: Catalogue, calls: Vec<Call>) -> Workl
     Workload { name, file }
 }
 
+/// A join of two random lots of one session of the draft and its split, by turns.
+fn joins_and_splits(catalogue: &Catalogue, pairs: usize) -> Vec<Call> {
+    let mut random = Random::new(pairs as u64);
+    let (lots, sessions) = (catalogue.lots.len() as u64, catalogue.sessions as u64);
+    let mut list = Vec::new();
+    for _ in 0..pairs {
+        let u = random.between(1, lots);
+        // The drafts go round the sessions in turn, so lots of one session are so far apart.
+        let v = (u - 1 + sessions * random.between(1, lots / sessions - 1)) % lots + 1;
+        list.extend([Call::J { u, v }, Call::S]);
+    }
+    list
+}
+
 pub fn workloads() -> Vec<Workload> {
     let mixed = catalogue(256, 256, 8, 4);
     let list = calls(1, &mixed, 512);
     let cycle = || vec![Call::A];
+    let broad = catalogue(1024, 8, 1024, 4);
+    let turns = joins_and_splits(&broad, 256);
     vec![
         workload("A, 1,024 lists of 8", catalogue(1024, 1024, 8, 4), cycle()),
         workload("A, 128 lists of 64", catalogue(1024, 128, 64, 4), cycle()),
@@ -64,6 +80,13 @@ pub fn workloads() -> Vec<Workload> {
             catalogue(1024, 1024, 8, 4),
             vec![],
         ),
+        // Each list of marks is in random order, and the present marks stand in rising order.
+        workload(
+            "loading, 8 lists of 1,024 in random order",
+            broad.clone(),
+            vec![],
+        ),
+        workload("J and S by turns on 8 lists of 1,024", broad, turns),
     ]
 }
 

@@ -47,3 +47,17 @@ fn workloads_are_accepted() {
         assert!(parse(&workload.file).is_ok(), "{}", workload.name);
     }
 }
+
+#[test]
+fn joins_and_splits_by_turns_are_none_of_them_refused() {
+    let mut workloads = workloads();
+    workloads.retain(|workload| workload.name.starts_with("J and S"));
+    let [workload] = &workloads[..] else {
+        panic!("there is one such workload");
+    };
+    let wanted = reference::run(&workload.file);
+    let lines = wanted.report.split(|&byte| byte == b'\n');
+    assert_eq!(lines.filter(|line| line.starts_with(b"S,")).count(), 256);
+    let mut splitter = Splitter::default();
+    assert!(splitter.run(&workload.file) == (wanted.code, &wanted.report[..]));
+}
