@@ -70,7 +70,10 @@ typedef kapokdrill_result kapokdrill_entry(
     uint8_t *output, size_t output_length,
     /* All pins, net by net, in the file's order. */
     uint16_t *loadedpins, size_t loadedpins_length,
-    /* The pins as they stand, each net's at the front of the stretch it was loaded into. */
+    /* The pins as they stand, each net's from the same place on, the lowest first; behind them, to
+     * the end of the net's stretch, the pins that joins took out, the last one first: of each join
+     * of two vertices that the net had both as present pins at that time, the one that left the
+     * board. */
     uint16_t *presentpins, size_t presentpins_length,
     /* Where a net's stretch begins in both tables of pins, from 0. */
     uint16_t *firsts, size_t firsts_length,

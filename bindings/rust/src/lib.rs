@@ -170,7 +170,10 @@ impl Memory {
         self.pins(&self.loadedpins, false, net)
     }
 
-    /// A buyer's marks as they stand, the lowest first; none for a number that names no buyer.
+    /// A buyer's marks as they stand, the lowest first; none for a number that names no buyer. In the
+    /// table the places behind them, to the end of the buyer's loaded stretch, hold the marks that
+    /// joins took out, the last one first: of each join of two lots that the buyer had both as
+    /// present marks at that time, the one that left the board.
     pub fn presentpins(&self, net: u32) -> &[u16] {
         self.pins(&self.presentpins, true, net)
     }

@@ -192,13 +192,14 @@ fn records_and_rows_past_the_sale_keep_what_they_held() {
     };
     let mut lots = vec![unused; VERTICES];
     let mut index = vec![7_001; ROWS];
+    let mut presentpins = vec![7_001; PINS];
     let outcome = lent::run(
         ONE_JOIN,
         &mut lots,
         Lent {
             output: &mut [0; OUTPUT],
             loadedpins: &mut [0; PINS],
-            presentpins: &mut [0; PINS],
+            presentpins: &mut presentpins,
             firsts: &mut [0; NETS],
             loadedsizes: &mut [0; NETS],
             presentsizes: &mut [0; NETS],
@@ -211,6 +212,9 @@ fn records_and_rows_past_the_sale_keep_what_they_held() {
     assert_eq!(outcome.code, 0);
     assert_eq!(lots[..5], WITH_ONE_JOIN);
     assert!(lots[5..].iter().all(|&record| record == unused));
+    // buyer 2's mark 5, which the join took out, stands behind its present one
+    assert_eq!(presentpins[..6], [1, 3, 2, 5, 3, 4]);
+    assert!(presentpins[6..].iter().all(|&mark| mark == 7_001));
     // of the rows in use the entries past the two sessions too
     let mut wanted = vec![7_001; ROWS];
     for (lot, row) in (1..).zip(WITH_ONE_JOIN_INDEX) {
