@@ -6,10 +6,11 @@ use Prim.Native.Nat.{ℕ, _+_, _-_, _≤_, _<_, max}
 use native.Mathlib.Decide.{ℕ-discrete, decLt}
 use native.Mathlib.Omega.{arith}
 use lib.ListN.{length, getD, set, length-set}
-use lib.Seq.{getD-set-other}
-use Rattle.laws.specs.Occurrence.{at, same, occ, In, Distinct, same-yes, same-no, same-le, occ-step, occ-at, occ-in, occ-set, distinct-occ, occ-distinct}
+use lib.Seq.{getD-set-same, getD-set-other}
+use Rattle.laws.specs.Occurrence.{at, same, occ, In, Distinct, same-yes, same-no, same-le, occ-step, occ-at, occ-in, occ-more, occ-set, occ-ext, distinct-occ, occ-distinct}
 use Rattle.laws.specs.Rising.{Rising, rising-distinct}
-use Rattle.pins.specs.Rising.{RisingBut, Outside, Carried, Lowered, apart}
+use Rattle.pins.specs.Rising.{RisingBut, Outside, Shuffled, Carried, Lowered, wider, stood, apart}
+use Rattle.pins.specs.Lift.{Lifted}
 
 -- r is a place of the stretch that holds x, or n where x is in none
 pub record Found (l : List ℕ) (f n x r : ℕ) : Type 0 where
@@ -111,36 +112,79 @@ module _ {l l₁ : List ℕ} {f n i : ℕ} (b : f + n ≤ length l) (k : i < n) 
       go x (yes q) = omega (arith, carried-counts v e x, ap (occ l f n) q, same-le u x)
       go x (no q) = omega (arith, carried-counts v e x, same-no u x q)
 
-  -- the place at the end gets y, which is let down
-  pub replaced-law : {l₂ : List ℕ} (a y : ℕ) → at l f i ≡ a → Lowered (set l₁ (f + (n - 1)) y) l₂ f (n - 1) → Replaced l l₂ f n a y
-  replaced-law {l₂} a y e w = record {
-    counts = counted;
-    rising = λ none r. rw m at (w .rising (rw m (distinct none (distinct-occ l f n (rising-distinct l f n r)))) (λ p q pq qn. omega (arith, kept p (omega arith), kept q qn, carried-rising r p q pq qn)));
-    outside = λ j o. (rw m at (w .shuffled .outside)) j o ∙ getD-set-other l₁ (f + (n - 1)) j y 0 (apart f n (n - 1) j (omega arith) o) ∙ c .shuffled .outside j o;
-    len = w .shuffled .len ∙ length-set l₁ (f + (n - 1)) y ∙ c .shuffled .len;
-  }
-    where
-      m : n - 1 + 1 ≡ n
-      m = omega arith
+-- the pin at place i gets b, which is not above it, and is let down
+pub sunk-law : {l l₂ : List ℕ} {f n i : ℕ} (a b : ℕ) → f + n ≤ length l → i < n → at l f i ≡ a → b ≤ a → Lowered (set l (f + i) b) l₂ f i → Replaced l l₂ f n a b
+sunk-law {l} {l₂} {f} {n} {i} a b fit h e low w = record {
+  counts = λ x. omega (arith, occ-set l f n i b x h (omega arith), ap (λ (z : ℕ). same z x) e, s .often x);
+  rising = λ none r x y xy yn. go none r x y xy yn (decLt i y) (decLt i x);
+  outside = λ j o. s .outside j o ∙ getD-set-other l (f + i) j b 0 (apart f n i j h o);
+  len = s .len ∙ length-set l (f + i) b;
+}
+  where
+    l₁ : List ℕ
+    l₁ = set l (f + i) b
 
-      l₁′ : List ℕ
-      l₁′ = set l₁ (f + (n - 1)) y
+    s : Shuffled (set l (f + i) b) l₂ f n
+    s = wider (omega arith) (w .shuffled)
 
-      kept : (p : ℕ) → p < n - 1 → at l₁′ f p ≡ at l₁ f p
-      kept p h = getD-set-other l₁ (f + (n - 1)) (f + p) y 0 (λ q. omega arith)
+    here : at (set l (f + i) b) f i ≡ b
+    here = getD-set-same l (f + i) b 0 (omega arith)
 
-      put : (x : ℕ) → occ l₁′ f n x + same a x ≡ occ l f n x + same y x
-      put x = omega (arith, occ-set l₁ f n (n - 1) y x (omega arith) (omega (arith, c .shuffled .len)), ap (λ (z : ℕ). same z x) (c .here ∙ e), c .shuffled .often x)
+    kept : (p : ℕ) → (p ≡ i → ⊥) → at (set l (f + i) b) f p ≡ at l f p
+    kept p q = getD-set-other l (f + i) (f + p) b 0 (λ z. q (omega arith))
 
-      counted : (x : ℕ) → occ l₂ f n x + same a x ≡ occ l f n x + same y x
-      counted x = omega (arith, put x, rw m at (w .shuffled .often x))
+    less : occ l f n b ≡ 0 → b < a
+    less none = strict low differ
+      where
+        differ : a ≡ b → ⊥
+        differ q = omega (arith, occ-at l f n i b h (e ∙ q))
 
-      distinct : occ l f n y ≡ 0 → ((x : ℕ) → occ l f n x ≤ 1) → Distinct l₁′ f n
-      distinct none d = occ-distinct l₁′ f n (λ x. go x (ℕ-discrete y x))
-        where
-          go : (x : ℕ) → Dec (y ≡ x) → occ l₁′ f n x ≤ 1
-          go x (yes q) = omega (arith, put x, ap (occ l f n) q, same-le y x)
-          go x (no q) = omega (arith, put x, same-no y x q, d x)
+        strict : b ≤ a → (a ≡ b → ⊥) → b < a
+        strict u v = omega (arith, v)
+
+    distinct : occ l f n b ≡ 0 → Rising l f n → Distinct (set l (f + i) b) f (i + 1)
+    distinct none r = occ-distinct (set l (f + i) b) f (i + 1) (λ x. once x (ℕ-discrete b x))
+      where
+        first : (x : ℕ) → occ (set l (f + i) b) f i x ≡ occ l f i x
+        first x = occ-ext l (set l (f + i) b) f i x (λ p q. kept p (λ z. omega arith))
+
+        part : (x : ℕ) → occ l f i x ≤ occ l f n x
+        part x = let m : i + (n - i) ≡ n = omega arith in rw m at (occ-more l f i (n - i) x)
+
+        once : (x : ℕ) → Dec (b ≡ x) → occ (set l (f + i) b) f (i + 1) x ≤ 1
+        once x (yes q) = omega (arith, occ-step (set l (f + i) b) f i x, first x, part x, ap (occ l f n) q, same-le (at (set l (f + i) b) f i) x)
+        once x (no q) = omega (arith, occ-step (set l (f + i) b) f i x, first x, part x, distinct-occ l f n (rising-distinct l f n r) x, ap (λ (z : ℕ). same z x) here, same-no b x q)
+
+    front : occ l f n b ≡ 0 → Rising l f n → Rising l₂ f (i + 1)
+    front none r = w .rising (distinct none r) (λ p q pq qi. omega (arith, kept p (λ z. omega arith), kept q (λ z. omega arith), r p q pq (omega arith)))
+
+    -- what stands in front is below what stands behind place i
+    under : occ l f n b ≡ 0 → Rising l f n → (x y : ℕ) → x ≤ i → i < y → y < n → at l₂ f x < at l f y
+    under none r x y xi iy yn = at-place (stood (w .shuffled) x (omega arith))
+      where
+        at-place : In (set l (f + i) b) f (i + 1) (at l₂ f x) → at l₂ f x < at l f y
+        at-place p = go (ℕ-discrete (p .0) i)
+          where
+            go : Dec (p .0 ≡ i) → at l₂ f x < at l f y
+            go (yes q) = omega (arith, p .2, ap (at (set l (f + i) b) f) q, here, less none, e, r i y iy yn)
+            go (no q) = omega (arith, p .2, kept (p .0) q, r (p .0) y (omega (arith, p .1)) yn)
+
+    behind : (y : ℕ) → i < y → at l₂ f y ≡ at l f y
+    behind y iy = w .shuffled .outside (f + y) (inr (omega arith)) ∙ kept y (λ z. omega arith)
+
+    go : occ l f n b ≡ 0 → Rising l f n → (x y : ℕ) → x < y → y < n → Dec (i < y) → Dec (i < x) → at l₂ f x < at l₂ f y
+    go none r x y xy yn (no p) q = front none r x y xy (omega arith)
+    go none r x y xy yn (yes p) (yes q) = omega (arith, behind x q, behind y p, r x y xy yn)
+    go none r x y xy yn (yes p) (no q) = omega (arith, behind y p, under none r x y (omega arith) p yn)
+
+-- the pin at place i has become b and was lifted
+pub lifted-law : {l l′ : List ℕ} {f n i : ℕ} (a b : ℕ) → at l f i ≡ a → a < b → Lifted l l′ f n i b → Replaced l l′ f n a b
+lifted-law a b e h k = record {
+  counts = λ x. omega (arith, k .counts x, ap (λ (z : ℕ). same z x) e);
+  rising = λ none r. k .rising (omega (arith, e)) none r;
+  outside = k .outside;
+  len = k .len;
+}
 
 pub replace-law : {l l′ : List ℕ} {f n u v : ℕ} → occ l f n u ≡ 0 → Replaced l l′ f n v u → Relinked l l′ f n n u v
 replace-law {l} {l′} {f} {n} {u} {v} none k = record {
