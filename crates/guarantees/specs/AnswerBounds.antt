@@ -10,7 +10,7 @@ use lib.Dec.{eqb}
 use lib.ListN.{length}
 use Rattle.model.specs.Catalogue.{Limits, Hypergraph, vertices, isVertex, isBlock}
 use Rattle.model.specs.Measure.{Contraction, onBoard, isFixed, metric, hasRoom}
-use Rattle.model.specs.Machine.{Call, callJ, callS, callM, callB, callW, callP, callA, Answer, saysJ, saysS, saysM, saysB, saysW, saysP, saysA, saysNO, Move, State, Step, settle, refusesJ, contract, doesJ, refusesM, doesM, doesS, doesB}
+use Rattle.model.specs.Machine.{Call, callJ, callS, callM, callB, callW, callP, callA, Answer, saysJ, saysS, saysM, saysB, saysW, saysP, saysA, saysX, saysN, saysNO, Move, State, Step, settle, refusesJ, contract, doesJ, refusesM, doesM, doesS, doesB}
 use Rattle.model.specs.Search.{Coarse, Fine, coarsen, refine, refusesW, doesW, doesP, refusesA, doesA, callUnder}
 use Rattle.guarantees.specs.Calls.{Legal, AllInside, Recorded, coarsened}
 use Rattle.guarantees.specs.Ends.{Placed}
@@ -28,10 +28,12 @@ Bounded (saysB v b c) = (v ≤ 1024) × (b ≤ 16) × (c ≤ 15360000)
 Bounded (saysW t k c) = (t ≤ 1024) × (k ≤ t) × (c ≤ 15360000)
 Bounded (saysP m c) = (m ≤ 15360000) × (c ≤ 15360000)
 Bounded (saysA j t k m c) = (j ≤ 1023) × (t ≤ 1047552) × (k ≤ t) × (m ≤ 15360000) × (c ≤ 15360000)
-Bounded (saysNO q) = q ≤ 20
+Bounded (saysX c) = c ≤ 15360000
+Bounded (saysN v c) = (v ≤ 1024) × (c ≤ 15360000)
+Bounded (saysNO q) = q ≤ 25
 
 -- one number or another
-either-le : (b : Bool) (q n m : ℕ) → q ≤ m → n ≤ m → cond b q n ≤ m
+pub either-le : (b : Bool) (q n m : ℕ) → q ≤ m → n ≤ m → cond b q n ≤ m
 either-le true q n m l k = l
 either-le false q n m l k = k
 
@@ -45,36 +47,36 @@ module _ (limits : Limits) (small : limits .vertexLimit ≤ 1024) (narrow : limi
   pub blocks-in : h .blocks ≤ 16
   blocks-in = omega (arith, r .loaded .blocks-high)
 
-  settled : (q : ℕ) (s : State) (done : Step) → q ≤ 20 → (q ≡ 0 → Bounded (done .answer)) → Bounded (settle q s done .answer)
+  settled : (q : ℕ) (s : State) (done : Step) → q ≤ 25 → (q ≡ 0 → Bounded (done .answer)) → Bounded (settle q s done .answer)
   unfolding settle
   settled zero s done l f = f refl
   settled (suc q) s done l f = l
 
   module _ (ceiling : ℕ → ℕ) (s : State) where
-    refusals-J : (u v : ℕ) → refusesJ h s u v ≤ 20
+    refusals-J : (u v : ℕ) → refusesJ h s u v ≤ 25
     unfolding refusesJ
     refusals-J u v =
-        either-le (not (isVertex h u && isVertex h v)) 9 _ 20 (omega arith)
-        (either-le (eqb u v) 11 _ 20 (omega arith)
-        (either-le (not (onBoard (s .stack) u && onBoard (s .stack) v)) 10 _ 20 (omega arith)
-        (either-le (not (eqb (s .block u) (s .block v))) 13 0 20 (omega arith) (omega arith))))
+        either-le (not (isVertex h u && isVertex h v)) 9 _ 25 (omega arith)
+        (either-le (eqb u v) 11 _ 25 (omega arith)
+        (either-le (not (onBoard h (s .stack) u && onBoard h (s .stack) v)) 10 _ 25 (omega arith)
+        (either-le (not (eqb (s .block u) (s .block v))) 13 0 25 (omega arith) (omega arith))))
 
-    refusals-M : (v t : ℕ) → refusesM h ceiling s v t ≤ 20
+    refusals-M : (v t : ℕ) → refusesM h ceiling s v t ≤ 25
     unfolding refusesM
     refusals-M v t =
-        either-le (not (isVertex h v && isBlock h t)) 9 _ 20 (omega arith)
-        (either-le (not (onBoard (s .stack) v)) 10 _ 20 (omega arith)
-        (either-le (eqb (s .block v) t) 12 _ 20 (omega arith)
-        (either-le (isFixed h (s .stack) v) 20 _ 20 (omega arith)
-        (either-le (not (hasRoom h ceiling (s .stack) (s .block) v t)) 14 0 20 (omega arith) (omega arith)))))
+        either-le (not (isVertex h v && isBlock h t)) 9 _ 25 (omega arith)
+        (either-le (not (onBoard h (s .stack) v)) 10 _ 25 (omega arith)
+        (either-le (eqb (s .block v) t) 12 _ 25 (omega arith)
+        (either-le (isFixed h (s .stack) v) 20 _ 25 (omega arith)
+        (either-le (not (hasRoom h ceiling (s .stack) (s .block) v t)) 14 0 25 (omega arith) (omega arith)))))
 
-    refusals-W : (u v : ℕ) → refusesW h s u v ≤ 20
+    refusals-W : (u v : ℕ) → refusesW h s u v ≤ 25
     unfolding refusesW
     refusals-W u v =
-        either-le (not (isVertex h u && isVertex h v)) 9 _ 20 (omega arith)
-        (either-le (not (onBoard (s .stack) u && onBoard (s .stack) v)) 10 0 20 (omega arith) (omega arith))
+        either-le (not (isVertex h u && isVertex h v)) 9 _ 25 (omega arith)
+        (either-le (not (onBoard h (s .stack) u && onBoard h (s .stack) v)) 10 0 25 (omega arith) (omega arith))
 
-    refusals-A : (cs : List Contraction) → refusesA h s cs ≤ 20
+    refusals-A : (cs : List Contraction) → refusesA h s cs ≤ 25
     unfolding refusesA
     refusals-A [] = omega arith
     refusals-A (c ∷ cs) = omega arith

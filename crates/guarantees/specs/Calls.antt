@@ -12,12 +12,12 @@ use lib.Dec.{eqb, ltb}
 use lib.IntN.{pos}
 use Rattle.laws.specs.Choice.{one, and-left, and-right, cond-zero}
 use Rattle.laws.specs.Sum.{sumTo-change, countTo-le}
-use Rattle.model.specs.Catalogue.{Hypergraph, vertices, drafted, isVertex, isBlock, capacities}
+use Rattle.model.specs.Catalogue.{Hypergraph, vertices, drafted, inSale, isVertex, isBlock}
 use Rattle.model.specs.Measure.{Contraction, above, onBoard, mayMove, isFixed, blockWeight, metric}
 use Rattle.model.specs.Machine.{Call, callJ, callS, callM, callB, callW, callP, callA, Move, State, Step, fresh, settle, refusesJ, contract, doesJ, refusesM, doesM, uncontract, doesS, doesB}
-use Rattle.model.specs.Search.{Best, none, best, Coarse, Fine, rating, canJoin, joinBest, joinTurn, boardSize, coarsen, refine, refusesW, doesW, doesP, refusesA, doesA, callUnder, call}
-use Rattle.model.specs.Engine.{after}
+use Rattle.model.specs.Search.{Best, none, best, Coarse, Fine, rating, canJoin, joinBest, joinTurn, boardSize, coarsen, refine, refusesW, doesW, doesP, refusesA, doesA, callUnder}
 use Rattle.guarantees.specs.Climbs.{Joins, Sound, above-gone, above-other}
+use Rattle.guarantees.specs.Board.{board-top, board-sale, board-is, board-under, board-other}
 use Rattle.guarantees.specs.Fixed.{Free}
 use Rattle.guarantees.specs.Joins.{metric-join}
 use Rattle.guarantees.specs.Weights.{blockWeight-join}
@@ -31,7 +31,7 @@ module _ (h : Hypergraph) where
   -- the journal's moves are of vertices on the board, from blocks
   abbrev pub Recorded : List Contraction → List Move → Type 0
   Recorded cs [] = Unit {0}
-  Recorded cs (m ∷ ms) = ((above cs (m .vertex) ≡ 0) × (1 ≤ m .from) × (m .from ≤ h .blocks)) × Recorded cs ms
+  Recorded cs (m ∷ ms) = ((onBoard h cs (m .vertex) ≡ true) × (1 ≤ m .from) × (m .from ≤ h .blocks)) × Recorded cs ms
 
   pub record Legal (s : State) : Type 0 where
     pub sound : Sound (s .stack)
@@ -70,8 +70,18 @@ module _ (h : Hypergraph) where
   can-free cs p u v q =
       let q3 = and-left _ _ (and-left _ _ (and-left _ _ q)) in
       let q2 = and-left _ _ q3 in (
-        not-true _ (and-right (onBoard cs u) _ (and-right (ltb u v) _ q2)),
-        not-true _ (and-right (onBoard cs v) _ (and-right (ltb u v && mayMove h cs u) _ q3)),
+        not-true _ (and-right (onBoard h cs u) _ (and-right (ltb u v) _ q2)),
+        not-true _ (and-right (onBoard h cs v) _ (and-right (ltb u v && mayMove h cs u) _ q3)),
+      )
+
+  -- both are in the sale
+  pub can-sale : (cs : List Contraction) (p : ℕ → ℕ) (u v : ℕ) → canJoin h cs p u v ≡ true → (inSale h u ≡ true) × (inSale h v ≡ true)
+  unfolding canJoin
+  can-sale cs p u v q =
+      let q3 = and-left _ _ (and-left _ _ (and-left _ _ q)) in
+      let q2 = and-left _ _ q3 in (
+        board-sale h cs u (and-left _ _ (and-right (ltb u v) _ q2)),
+        board-sale h cs v (and-left _ _ (and-right (ltb u v && mayMove h cs u) _ q3)),
       )
 
   join-turn : (p : ℕ → ℕ) (c : Coarse) (on : Coarse → Coarse) → Coarsened p c → ((c′ : Coarse) → Coarsened p c′ → Coarsened p (on c′))
@@ -81,9 +91,10 @@ module _ (h : Hypergraph) where
   join-turn p c on k ih (best u v g) top =
       let r = top .there in
       let j = can-join (c .stack) (c .block) u v (r .0) (top .open-pair) in
+      let z = can-sale (c .stack) (c .block) u v (top .open-pair) in
       ih _ (record {
         sound = (j .0, k .sound);
-        inside = (r, k .inside);
+        inside = ((r .0, r .1, r .2, r .3, z .0, z .1), k .inside);
         placed = placed-join h (c .stack) (record { into = u; gone = v }) (c .block) (j .0) (k .placed);
         same = metric-join h (c .stack) (record { into = u; gone = v }) (j .0, k .sound) (c .block) (r .0) (r .1) (r .2) (r .3) (j .1) ∙ k .same;
         same-weights = λ b. blockWeight-join h (c .stack) (record { into = u; gone = v }) (j .0, k .sound) (c .block) (r .0) (r .1) (r .2) (r .3) (j .1) b ∙ k .same-weights b;
@@ -111,20 +122,22 @@ module _ (h : Hypergraph) where
   legal-J s u v ok q =
       let a = cond-zero (not (isVertex h u && isVertex h v)) 9 _ (omega arith) q in
       let b = cond-zero (eqb u v) 11 _ (omega arith) (a .1) in
-      let c = cond-zero (not (onBoard (s .stack) u && onBoard (s .stack) v)) 10 _ (omega arith) (b .1) in
+      let c = cond-zero (not (onBoard h (s .stack) u && onBoard h (s .stack) v)) 10 _ (omega arith) (b .1) in
       let r = not-false _ (a .0) in
       let ru = vertex-range h u (and-left _ _ r) in
       let rv = vertex-range h v (and-right (isVertex h u) _ r) in
       let o = not-false _ (c .0) in
+      let ou = and-left _ _ o in
+      let ov = and-right (onBoard h (s .stack) u) _ o in
       let j : Joins (s .stack) (record { into = u; gone = v }) = record {
         real = ru .0;
-        into-on = eqb-true (above (s .stack) u) 0 (and-left _ _ o);
-        gone-on = eqb-true (above (s .stack) v) 0 (and-right (onBoard (s .stack) u) _ o);
+        into-on = board-top h (s .stack) u ou;
+        gone-on = board-top h (s .stack) v ov;
         two = eqb-false u v (b .0);
       } in
       record {
         sound = (j, ok .sound);
-        inside = ((ru .0, ru .1, rv .0, rv .1), ok .inside);
+        inside = ((ru .0, ru .1, rv .0, rv .1, board-sale h (s .stack) u ou, board-sale h (s .stack) v ov), ok .inside);
         placed = placed-join h (s .stack) (record { into = u; gone = v }) (s .block) j (ok .placed);
         recorded = tt;
       }
@@ -178,11 +191,11 @@ module _ (h : Hypergraph) where
     unfolding refusesM doesM
     legal-M s v t ok q =
         let a = cond-zero (not (isVertex h v && isBlock h t)) 9 _ (omega arith) q in
-        let b = cond-zero (not (onBoard (s .stack) v)) 10 _ (omega arith) (a .1) in
+        let b = cond-zero (not (onBoard h (s .stack) v)) 10 _ (omega arith) (a .1) in
         let r = not-false _ (a .0) in
         let rv = vertex-range h v (and-left _ _ r) in
         let rt = block-range h t (and-right (isVertex h v) _ r) in
-        let on = eqb-true (above (s .stack) v) 0 (not-false _ (b .0)) in
+        let on = not-false _ (b .0) in
         let here = ok .placed v (rv .0) (rv .1) .board on in
         record {
           sound = ok .sound;
@@ -214,24 +227,19 @@ module _ (h : Hypergraph) where
     legal-call s callP ok = legal-P s ok
     legal-call s callA ok = settled (refusesA h s (s .stack)) s (doesA h ceiling s) ok (legal-A s (s .stack) refl ok)
 
-  -- a fresh machine is legal where the draft has each vertex in a block
-  pub legal-fresh : ((x : ℕ) → 1 ≤ x → x ≤ vertices h → (1 ≤ drafted h x) × (drafted h x ≤ h .blocks)) → Legal (fresh h)
-  unfolding fresh above
-  legal-fresh d = record {
-    sound = tt;
-    inside = tt;
-    placed = λ x l u. record { board = λ o. d x l u; off = λ o. absurd (o refl) };
-    recorded = tt;
-  }
+  -- a fresh machine is legal where the draft has each vertex that is in the sale in a block, and every other in none
+  pub legal-fresh : Placed h [] (drafted h) → Legal (fresh h)
+  unfolding fresh
+  legal-fresh d = record { sound = tt; inside = tt; placed = d; recorded = tt }
 
   -- ---- A's contractions end by their own rule: at most 2 × k vertices are on the board, or no pair may be contracted
-  pub board-join : (cs : List Contraction) (c : Contraction) → Joins cs c → 1 ≤ c .gone → c .gone ≤ vertices h → boardSize h (c ∷ cs) + 1 ≡ boardSize h cs
+  pub board-join : (cs : List Contraction) (c : Contraction) → Joins cs c → inSale h (c .gone) ≡ true → 1 ≤ c .gone → c .gone ≤ vertices h → boardSize h (c ∷ cs) + 1 ≡ boardSize h cs
   unfolding boardSize
-  board-join cs c j l u = omega (
+  board-join cs c j in-sale l u = omega (
     arith,
-    sumTo-change (vertices h) (c .gone) (λ x. one (onBoard (c ∷ cs) x)) (λ x. one (onBoard cs x)) l u (λ x _ _ n. ap (λ (y : ℕ). one (eqb y 0)) (above-other cs c x (λ r. n (sym r)))),
-    ap one (eq-eqb (above cs (c .gone)) 0 (j .gone-on)),
-    ap one (ne-eqb (above (c ∷ cs) (c .gone)) 0 (λ r. omega (arith, j .real, above-gone cs c (c .gone) refl))),
+    sumTo-change (vertices h) (c .gone) (λ x. one (onBoard h (c ∷ cs) x)) (λ x. one (onBoard h cs x)) l u (λ x _ _ n. ap one (board-other h cs c x (λ r. n (sym r)))),
+    ap one (board-is h cs (c .gone) (j .gone-on) in-sale),
+    ap one (board-under h (c ∷ cs) (c .gone) (λ r. omega (arith, j .real, above-gone cs c (c .gone) refl))),
   )
 
   abbrev pub Coarsest : Coarse → Type 0
@@ -243,7 +251,7 @@ module _ (h : Hypergraph) where
   join-over n c l ih none q top = inr q
   join-over n c l ih (best u v g) q top =
       let r = top .there in
-      ih _ (omega (arith, board-join (c .stack) (record { into = u; gone = v }) (can-join (c .stack) (c .block) u v (r .0) (top .open-pair) .0) (r .2) (r .3)))
+      ih _ (omega (arith, board-join (c .stack) (record { into = u; gone = v }) (can-join (c .stack) (c .block) u v (r .0) (top .open-pair) .0) (can-sale (c .stack) (c .block) u v (top .open-pair) .1) (r .2) (r .3)))
 
   pub coarsen-ends : (n : ℕ) (c : Coarse) → boardSize h (c .stack) ≤ n → Coarsest (coarsen h n c)
   unfolding coarsen joinBest
@@ -254,13 +262,7 @@ module _ (h : Hypergraph) where
       go ih true e = join-over n c l ih _ refl (best-top (canJoin h (c .stack) (c .block)) (λ u v. pos (rating h (c .stack) u v)) (vertices h) (vertices h))
       go ih false e = inl e
 
-  -- ---- a list of calls
-  pub legal-after : (s : State) (cs : List Call) → Legal s → Legal (after h s cs)
-  unfolding after
-  legal-after s [] ok = ok
-  legal-after s (c ∷ cs) ok = legal-after (call h s c .state) cs (legal-call (capacities h) s c ok)
-
   -- so they do in A
   pub A-joins-end : (s : State) → Coarsest (coarsen h (vertices h) (record { stack = []; block = s .block }))
   unfolding boardSize
-  A-joins-end s = coarsen-ends (vertices h) (record { stack = []; block = s .block }) (countTo-le (vertices h) (λ v. onBoard [] v))
+  A-joins-end s = coarsen-ends (vertices h) (record { stack = []; block = s .block }) (countTo-le (vertices h) (λ v. onBoard h [] v))

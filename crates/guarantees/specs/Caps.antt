@@ -1,5 +1,5 @@
 -- Every call under a ceiling keeps a state in which no block is above its ceiling, nor would be after any reversals of the journal's moves
--- (held-call), so every list of calls does under the capacity (held-after): moves are made where there is room, and each state that the journal
+-- (held-call): moves are made where there is room, and each state that the journal
 -- leads back to was within the ceiling. Rests on Calls. Assumes nothing.
 use Prim.Native.Nat.{ℕ, zero, suc, _+_, _-_, _≤_, _<_}
 use native.Mathlib.Decide.{ℕ-discrete}
@@ -14,15 +14,15 @@ use lib.ListN.{getD}
 use lib.Signed.{ltZ}
 use Rattle.laws.specs.Place.{place, place-back}
 use Rattle.laws.specs.Choice.{and-left, and-right, cond-zero}
-use Rattle.model.specs.Catalogue.{Hypergraph, vertices, isVertex, isBlock, capacities}
+use Rattle.model.specs.Catalogue.{Hypergraph, vertices, isVertex, isBlock}
 use Rattle.model.specs.Measure.{Contraction, above, onBoard, mayMove, isFixed, weight, blockWeight, gain, metric, hasRoom}
-use Rattle.model.specs.Search.{Best, none, best, Walk, Polish, worthOf, canGo, isOpen, walkBest, walkMove, walkTurn, walkOn, walk, walked, polishBest, polishTurn, polishOn, polish, Fine, refine, refusesW, doesW, doesP, refusesA, doesA, callUnder, call, patience}
+use Rattle.model.specs.Search.{Best, none, best, Walk, Polish, worthOf, canGo, isOpen, walkBest, walkMove, walkTurn, walkOn, walk, walked, polishBest, polishTurn, polishOn, polish, Fine, refine, refusesW, doesW, doesP, refusesA, doesA, callUnder, patience}
 use Rattle.model.specs.Machine.{Call, callJ, callS, callM, callB, callW, callP, callA, Move, State, Step, settle, refusesJ, contract, doesJ, refusesM, doesM, uncontract, doesS, doesB}
-use Rattle.model.specs.Engine.{after as afterCalls}
 use Rattle.guarantees.specs.Tops.{Top, best-top}
 use Rattle.guarantees.specs.Ends.{Placed, Pair, can-on}
 use Rattle.guarantees.specs.Walks.{moved, prefix, prefix-now, after, after-old, after-new, reversed-nil, walk-ends, walked-metric}
 use Rattle.guarantees.specs.Weights.{blockWeight-move}
+use Rattle.guarantees.specs.Board.{board-top}
 use Rattle.guarantees.specs.Climbs.{Sound}
 use Rattle.guarantees.specs.Splits.{Inside, AllInside, placed-split, blockWeight-split}
 use Rattle.guarantees.specs.Contractions.{J-leaves, S-leaves}
@@ -187,7 +187,7 @@ module _ (h : Hypergraph) (ceiling : ℕ → ℕ) where
   unfolding refusesM doesM
   held-M s v t ok q =
       let a = cond-zero (not (isVertex h v && isBlock h t)) 9 _ (omega arith) q in
-      let b = cond-zero (not (onBoard (s .stack) v)) 10 _ (omega arith) (a .1) in
+      let b = cond-zero (not (onBoard h (s .stack) v)) 10 _ (omega arith) (a .1) in
       let c = cond-zero (eqb (s .block v) t) 12 _ (omega arith) (b .1) in
       let x = cond-zero (isFixed h (s .stack) v) 20 _ (omega arith) (c .1) in
       let d = cond-zero (not (hasRoom h ceiling (s .stack) (s .block) v t)) 14 0 (omega arith) (x .1) in
@@ -196,7 +196,7 @@ module _ (h : Hypergraph) (ceiling : ℕ → ℕ) where
       let rt = block-range h t (and-right (isVertex h v) _ r) in
       record {
         legal = legal-M h ceiling s v t (ok .legal) q;
-        capped = capped-move h ceiling (s .stack) (s .block) v t (ok .capped) (rv .0, rv .1, rt .0, rt .1) (eqb-true (above (s .stack) v) 0 (not-false _ (b .0))) (not-false _ (d .0));
+        capped = capped-move h ceiling (s .stack) (s .block) v t (ok .capped) (rv .0, rv .1, rt .0, rt .1) (board-top h (s .stack) v (not-false _ (b .0))) (not-false _ (d .0));
         back = (
           subst (Capped h ceiling (s .stack)) (sym (place-back (s .block) v t)) (ok .capped),
           subst (λ (p : ℕ → ℕ). Back (s .stack) p (s .journal)) (sym (place-back (s .block) v t)) (ok .back),
@@ -244,10 +244,3 @@ module _ (h : Hypergraph) (ceiling : ℕ → ℕ) where
   held-call s (callW u v) ok = held-settled (refusesW h s u v) s (doesW h ceiling s u v) ok (λ q. held-W s u v ok)
   held-call s callP ok = held-P s ok
   held-call s callA ok = held-settled (refusesA h s (s .stack)) s (doesA h ceiling s) ok (held-A s (s .stack) refl ok)
-
-module _ (h : Hypergraph) where
-  -- after every list of calls
-  pub held-after : (s : State) (cs : List Call) → Held h (capacities h) s → Held h (capacities h) (afterCalls h s cs)
-  unfolding afterCalls
-  held-after s [] ok = ok
-  held-after s (c ∷ cs) ok = held-after (call h s c .state) cs (held-call h (capacities h) s c ok)

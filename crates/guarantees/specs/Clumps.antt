@@ -6,17 +6,19 @@ use native.Mathlib.Omega.{arith}
 use mathlib.Core.Path.{_≡_, refl, sym, ap, ap₂, _∙_}
 use mathlib.Core.Bool.{Bool, true, false, _||_, _&&_, and-false}
 use mathlib.Core.List.{List, [], _∷_}
-use borrow.Author.Tests.{eq-eqb, ne-eqb, lt-ltb, le-ltb}
+use borrow.Author.Tests.{eq-eqb, ne-eqb, eqb-true, lt-ltb, le-ltb}
 use lib.Dec.{eqb, ltb}
 use lib.IntN.{pos, _-ℤ_}
+use lib.ListN.{getD}
 use Rattle.laws.specs.Choice.{one, cond-yes, cond-no}
 use Rattle.laws.specs.Sum.{sumTo, countTo, sumTo-ext, sumTo-term, sumTo-nil}
-use Rattle.laws.specs.Fold.{any, any-ext, All, sumOver-all, all-map}
+use Rattle.laws.specs.Fold.{any, any-ext, any-at, All, sumOver-all, all-map, all-get}
 use Rattle.laws.specs.Place.{place}
-use Rattle.model.specs.Catalogue.{Net, Hypergraph, vertices}
-use Rattle.model.specs.Measure.{Contraction, climb, representative, pin, pinCount, connectivity, metric, gain}
+use Rattle.model.specs.Catalogue.{Net, Hypergraph, vertices, inSale}
+use Rattle.model.specs.Measure.{Contraction, above, onBoard, climb, representative, pin, pinCount, connectivity, metric, gain}
 use Rattle.guarantees.specs.Moves.{metric-gain}
-use Rattle.guarantees.specs.Climbs.{Sound, representative-join}
+use Rattle.guarantees.specs.Board.{board-is}
+use Rattle.guarantees.specs.Climbs.{Sound, representative-on, representative-join}
 use Rattle.guarantees.specs.Splits.{AllInside}
 
 -- every pin is a vertex
@@ -32,6 +34,25 @@ representative-in h (c ∷ cs) s a x l u = go (representative-in h cs (s .1) (a 
     go : (1 ≤ representative cs x) × (representative cs x ≤ vertices h) → Dec (representative cs x ≡ c .gone) → (1 ≤ representative (c ∷ cs) x) × (representative (c ∷ cs) x ≤ vertices h)
     go ih (yes q) = omega (arith, a .0, representative-join cs c s x ∙ cond-yes _ _ _ _ q)
     go ih (no n) = omega (arith, ih, representative-join cs c s x ∙ cond-no _ _ _ _ n)
+
+-- it is in the sale where what it stands for is
+pub representative-sale : (h : Hypergraph) (cs : List Contraction) → Sound cs → AllInside h cs → (x : ℕ) → inSale h x ≡ true → inSale h (representative cs x) ≡ true
+unfolding representative climb
+representative-sale h [] s a x q = q
+representative-sale h (c ∷ cs) s a x q = go (representative-sale h cs (s .1) (a .1) x q) (ℕ-discrete (representative cs x) (c .gone))
+  where
+    go : inSale h (representative cs x) ≡ true → Dec (representative cs x ≡ c .gone) → inSale h (representative (c ∷ cs) x) ≡ true
+    go ih (yes q) = ap (inSale h) (representative-join cs c s x ∙ cond-yes _ _ _ _ q) ∙ a .0 .4
+    go ih (no n) = ap (inSale h) (representative-join cs c s x ∙ cond-no _ _ _ _ n) ∙ ih
+
+-- a present pin is on the board, where the loaded pins are in the sale
+pub pin-board : (h : Hypergraph) (cs : List Contraction) → Sound cs → AllInside h cs → (e : Net) → All (e .pins) (λ x. inSale h x ≡ true) → (v : ℕ) → pin cs e v ≡ true → onBoard h cs v ≡ true
+unfolding pin
+pin-board h cs s a e w v q =
+    let i = any-at (e .pins) 0 (λ x. eqb (representative cs x) v) q in
+    let x : ℕ = getD (e .pins) (i .0) 0 in
+    let r : representative cs x ≡ v = eqb-true (representative cs x) v (i .2) in
+    board-is h cs v (ap (above cs) (sym r) ∙ representative-on cs s x) (ap (inSale h) (sym r) ∙ representative-sale h cs s a x (all-get (e .pins) _ 0 w (i .0) (i .1)))
 
 -- vertices x of a list that pass B, each counted at r x: some are counted where some pass
 module _ (n : ℕ) (r : ℕ → ℕ) (B : ℕ → Bool) where

@@ -31,7 +31,7 @@ module _ (h : Hypergraph) (s : State) where
   one-block u v q =
       let a = cond-zero (not (isVertex h u && isVertex h v)) 9 _ (omega arith) q in
       let b = cond-zero (eqb u v) 11 _ (omega arith) (a .1) in
-      let c = cond-zero (not (onBoard (s .stack) u && onBoard (s .stack) v)) 10 _ (omega arith) (b .1) in
+      let c = cond-zero (not (onBoard h (s .stack) u && onBoard h (s .stack) v)) 10 _ (omega arith) (b .1) in
       eqb-true _ _ (not-false _ (cond-zero (not (eqb (s .block u) (s .block v))) 13 0 (omega arith) (c .1) .0))
 
   pub J-leaves : (u v : ℕ) → Legal h s → refusesJ h s u v ≡ 0 → Level h s (doesJ h s u v .state)

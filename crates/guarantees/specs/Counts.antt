@@ -10,15 +10,15 @@ use lib.Dec.{eqb}
 use lib.ListN.{getD}
 use Rattle.laws.specs.Sum.{sumTo, sumTo-mono}
 use Rattle.model.specs.Catalogue.{Limits, Hypergraph, vertices, loaded, capacity}
-use Rattle.model.specs.Measure.{Contraction, onBoard, representative, weight, blockWeight}
-use Rattle.model.specs.Machine.{Call, fresh}
-use Rattle.model.specs.Engine.{after}
-use Rattle.model.specs.Demand.{Accepted}
+use Rattle.model.specs.Measure.{Contraction, isTop, representative, weight, blockWeight}
+use Rattle.model.specs.Machine.{State}
+use Rattle.model.specs.Sale.{Request}
+use Rattle.model.specs.Demand.{Accepted, WithinCapacity, reachedBy}
 use Rattle.model.specs.Estimate.{InRanges, counted, EveryCount}
 use Rattle.guarantees.specs.Capacity.{capacity-grows}
 use Rattle.guarantees.specs.Loads.{Loaded, sum-below}
-use Rattle.guarantees.specs.Ranges.{Ranges, accepted-ranges}
-use Rattle.guarantees.specs.Reached.{within-capacity}
+use Rattle.guarantees.specs.Ranges.{accepted-loaded}
+use Rattle.guarantees.specs.Reached.{within-capacity, unchanged}
 
 module _ (h : Hypergraph) (count : List ℕ) (r : InRanges h count) where
   -- the same sums with each vertex's weight by the count in place of its high, under the same tests
@@ -39,9 +39,9 @@ module _ (h : Hypergraph) (count : List ℕ) (r : InRanges h count) where
   unfolding blockWeight
   block-below cs p b = omega (
     arith,
-    ap (λ (n : ℕ). sumTo n (λ u. cond (onBoard cs u && eqb (p u) b) (weight (counted h count) cs u) 0)) (r .each-lot),
-    sumTo-mono (vertices h) (λ u. cond (onBoard cs u && eqb (p u) b) (weight (counted h count) cs u) 0) (λ u. cond (onBoard cs u && eqb (p u) b) (weight h cs u) 0)
-        (λ u l k. part-below (onBoard cs u && eqb (p u) b) (weight (counted h count) cs u) (weight h cs u) (weight-below cs u)),
+    ap (λ (n : ℕ). sumTo n (λ u. cond (isTop cs u && eqb (p u) b) (weight (counted h count) cs u) 0)) (r .each-lot),
+    sumTo-mono (vertices h) (λ u. cond (isTop cs u && eqb (p u) b) (weight (counted h count) cs u) 0) (λ u. cond (isTop cs u && eqb (p u) b) (weight h cs u) 0)
+        (λ u l k. part-below (isTop cs u && eqb (p u) b) (weight (counted h count) cs u) (weight h cs u) (weight-below cs u)),
   )
 
   -- place i is that of the vertex i + 1
@@ -56,11 +56,14 @@ module _ (h : Hypergraph) (count : List ℕ) (r : InRanges h count) where
     sum-below (h .lows) count (g .lows-long ∙ sym (r .each-lot)) (λ i l. below (λ v. getD (h .lows) v 0 ≤ getD count v 0) i (r .from-low (suc i) (omega arith) (omega (arith, r .each-lot)))),
   ))
 
--- for every count of bales within the ranges no block passes the cap that this count itself gives
-pub every-count : (limits : Limits) (h : Hypergraph) → Accepted limits h → (calls : List Call) → EveryCount h (after h (fresh h) calls)
-every-count limits h a calls count r b l u = omega (
-  arith,
-  block-below h count r (after h (fresh h) calls .stack) (after h (fresh h) calls .block) b,
-  within-capacity limits h a calls b l u,
-  cap-below h count r (accepted-ranges limits h a .loaded),
-)
+-- for every count of bales within the ranges no block passes the cap that this count itself gives, as long as no X or N is accepted
+pub every-count : (limits : Limits) (h : Hypergraph) → Accepted limits h → (calls : List Request) → reachedBy limits h calls .changed ≡ false → EveryCount h (reachedBy limits h calls .state)
+every-count limits h a calls same count r b l u =
+    let s : State = reachedBy limits h calls .state in
+    let now : WithinCapacity h s = subst (λ (g : Hypergraph). WithinCapacity g s) (unchanged limits h calls same) (within-capacity limits h a calls) in
+    omega (
+      arith,
+      block-below h count r (s .stack) (s .block) b,
+      now b l u,
+      cap-below h count r (accepted-loaded limits h a),
+    )

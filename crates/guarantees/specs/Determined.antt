@@ -9,12 +9,12 @@ use mathlib.Core.List.{List}
 use lib.ListN.{length, getD}
 use lib.Seq.{ext-getD}
 use Rattle.laws.specs.Sum.{sumTo, sumTo-nil, sumTo-suc, sumTo-list}
+use Rattle.laws.specs.Rising.{rising-same}
 use Rattle.model.specs.Catalogue.{Hypergraph}
 use Rattle.model.specs.Measure.{Contraction, size}
 use Rattle.model.specs.Machine.{State}
-use Rattle.model.specs.Memory.{Tables, Filled, Pins, Holds, noNet, net, allPins, firstPlace, takenOut}
+use Rattle.model.specs.Memory.{Tables, Filled, Loaded, Pins, HoldsFor, noNet, net, allPins, firstPlace, takenOut}
 use Rattle.guarantees.specs.Stretches.{pins-length}
-use Rattle.laws.specs.Rising.{rising-same}
 
 -- ---- a place of the mark tables is a buyer's
 record Place (g : ℕ → ℕ) (n i : ℕ) : Type 0 where
@@ -45,9 +45,16 @@ place-of g (suc n) i h = go (decLt i (sumTo n g)) (place-of g n i)
 filled-same : {A : Type 0} {none : A} {used : ℕ → Bool} {value : ℕ → A} {old new new′ : List A} → Filled none used value old new → Filled none used value old new′ → new ≡ new′
 filled-same {none = none} {new = new} {new′ = new′} p q = ext-getD none new new′ (p .as-long ∙ sym (q .as-long)) (λ i l. p .entries i (omega (arith, p .as-long)) ∙ sym (q .entries i (omega (arith, p .as-long))))
 
-pins-same : {h : Hypergraph} {cs : List Contraction} {old new new′ : List ℕ} → Pins h cs old new → Pins h cs old new′ → new ≡ new′
+loaded-same : {h : Hypergraph} {changed : Bool} {old new new′ : List ℕ} → Loaded h changed old new → Loaded h changed old new′ → new ≡ new′
+loaded-same {h} {old = old} {new} {new′} p q = ext-getD 0 new new′ (p .as-long ∙ sym (q .as-long)) (λ i l. go i (omega (arith, p .as-long)) (decLt i (length (allPins (h .nets)))))
+  where
+    go : (i : ℕ) → i < length old → Dec (i < length (allPins (h .nets))) → getD new i 0 ≡ getD new′ i 0
+    go i l (yes k) = p .marks i k ∙ sym (q .marks i k)
+    go i l (no k) = p .past i (omega arith) l ∙ sym (q .past i (omega arith) l)
+
+pins-same : {h : Hypergraph} {changed : Bool} {cs : List Contraction} {old new new′ : List ℕ} → Pins h changed cs old new → Pins h changed cs old new′ → new ≡ new′
 unfolding firstPlace
-pins-same {h} {cs} {old} {new} {new′} p q = ext-getD 0 new new′ (p .as-long ∙ sym (q .as-long)) (λ i l. go i (omega (arith, p .as-long)) (decLt i (length (allPins (h .nets)))))
+pins-same {h} {changed} {cs} {old} {new} {new′} p q = ext-getD 0 new new′ (p .as-long ∙ sym (q .as-long)) (λ i l. go i (omega (arith, p .as-long)) (decLt i (length (allPins (h .nets)))))
   where
     pins : ℕ → ℕ
     pins e = length (net h e .pins)
@@ -71,13 +78,13 @@ pins-same {h} {cs} {old} {new} {new′} p q = ext-getD 0 new new′ (p .as-long 
         let z : i ≡ sumTo (w .buyer - 1) pins + (i - sumTo (w .buyer - 1) pins) = omega (arith, w .from) in
         rw z (inside (w .buyer) (i - sumTo (w .buyer - 1) pins) (w .some) (w .few) (omega (arith, w .from, w .within)) (decLt (i - sumTo (w .buyer - 1) pins) (size h cs (net h (w .buyer)))))
 
-pub holds-same : {h : Hypergraph} {s : State} {old new new′ : Tables} → Holds h s old new → Holds h s old new′ → new ≡ new′
+pub holds-same : {changed : Bool} {h : Hypergraph} {s : State} {old new new′ : Tables} → HoldsFor changed h s old new → HoldsFor changed h s old new′ → new ≡ new′
 holds-same {new = new} {new′ = new′} p q = λ i. record {
   weights = filled-same (p .weights) (q .weights) i;
   blocks = filled-same (p .blocks) (q .blocks) i;
   aboves = filled-same (p .aboves) (q .aboves) i;
   fixed = filled-same (p .fixed) (q .fixed) i;
-  loadedPins = filled-same (p .loadedPins) (q .loadedPins) i;
+  loadedPins = loaded-same (p .loadedPins) (q .loadedPins) i;
   presentPins = pins-same (p .presentPins) (q .presentPins) i;
   firsts = filled-same (p .firsts) (q .firsts) i;
   loadedSizes = filled-same (p .loadedSizes) (q .loadedSizes) i;

@@ -6,7 +6,7 @@ use native.Mathlib.Omega.{arith}
 use mathlib.Core.Path.{_≡_, refl, sym, ap, _∙_, subst}
 use mathlib.Core.Bool.{Bool, true, false, not, true≢false, cond}
 use mathlib.Core.List.{List}
-use borrow.Author.Tests.{eqb-true, eqb-false, not-true}
+use borrow.Author.Tests.{eqb-false, not-true}
 use lib.Dec.{T}
 use lib.IntN.{pos, _-ℤ_}
 use lib.Signed.{ltZ, _≤ℤ_, ltZ-yes, ltZ-no}
@@ -14,34 +14,51 @@ use Rattle.laws.specs.Choice.{and-left, and-right}
 use Rattle.laws.specs.Integer.{up, dn, le-by, pos-is, sub-is, lt-parts, ≤ℤ-trans}
 use Rattle.laws.specs.Place.{place, place-at, place-off}
 use Rattle.model.specs.Catalogue.{Hypergraph, vertices}
-use Rattle.model.specs.Measure.{Contraction, above, mayMove, metric, gain}
+use Rattle.model.specs.Measure.{Contraction, above, onBoard, mayMove, metric, gain}
 use Rattle.model.specs.Search.{Best, none, best, Polish, canGo, polishBest, polishTurn, polishOn, polish}
+use Rattle.guarantees.specs.Board.{board-top}
 use Rattle.guarantees.specs.Moves.{metric-gain}
 use Rattle.guarantees.specs.Tops.{Top, best-top}
 
 module _ (h : Hypergraph) (cs : List Contraction) where
   -- every vertex on the board has a block, and every other vertex has 0
   pub record At (p : ℕ → ℕ) (x : ℕ) : Type 0 where
-    pub board : above cs x ≡ 0 → (1 ≤ p x) × (p x ≤ h .blocks)
-    pub off : (above cs x ≡ 0 → ⊥) → p x ≡ 0
+    pub board : onBoard h cs x ≡ true → (1 ≤ p x) × (p x ≤ h .blocks)
+    pub off : onBoard h cs x ≡ false → p x ≡ 0
 
   abbrev pub Placed : (ℕ → ℕ) → Type 0
   Placed p = (x : ℕ) → 1 ≤ x → x ≤ vertices h → At p x
 
   -- a vertex that may move is on the board
   pub may-on : (v : ℕ) → mayMove h cs v ≡ true → above cs v ≡ 0
-  may-on v q = eqb-true (above cs v) 0 (and-left _ _ q)
+  may-on v q = board-top h cs v (and-left _ _ q)
+
+  -- whether on the board or off it, a vertex is in no block past the last
+  pub placed-high : (p : ℕ → ℕ) → Placed p → (x : ℕ) → 1 ≤ x → x ≤ vertices h → p x ≤ h .blocks
+  placed-high p ok x l u = go (onBoard h cs x) refl
+    where
+      go : (b : Bool) → onBoard h cs x ≡ b → p x ≤ h .blocks
+      go true q = ok x l u .board q .1
+      go false q = omega (arith, ok x l u .off q)
+
+  -- a vertex in a block is on the board
+  pub placed-on : (p : ℕ → ℕ) → Placed p → (x : ℕ) → 1 ≤ x → x ≤ vertices h → 1 ≤ p x → onBoard h cs x ≡ true
+  placed-on p ok x l u m = go (onBoard h cs x) refl
+    where
+      go : (b : Bool) → onBoard h cs x ≡ b → onBoard h cs x ≡ true
+      go true q = q
+      go false q = absurd (omega (arith, ok x l u .off q))
 
   abbrev pub Pair : ℕ → ℕ → Type 0
   Pair v t = (1 ≤ v) × (v ≤ vertices h) × (1 ≤ t) × (t ≤ h .blocks)
 
-  pub placed-move : (p : ℕ → ℕ) (v t : ℕ) → Placed p → above cs v ≡ 0 → 1 ≤ t → t ≤ h .blocks → Placed (place p v t)
+  pub placed-move : (p : ℕ → ℕ) (v t : ℕ) → Placed p → onBoard h cs v ≡ true → 1 ≤ t → t ≤ h .blocks → Placed (place p v t)
   placed-move p v t ok on l u x xl xu = go (ℕ-discrete x v)
     where
       go : Dec (x ≡ v) → At (place p v t) x
       go (yes q) = record {
         board = λ o. omega (arith, ap (place p v t) q, place-at p v t);
-        off = λ o. absurd (o (ap (above cs) q ∙ on));
+        off = λ o. absurd (true≢false (sym on ∙ ap (onBoard h cs) (sym q) ∙ o));
       }
       go (no n) = record {
         board = λ o. omega (arith, place-off p v t x n, ok x xl xu .board o);
@@ -55,6 +72,10 @@ module _ (h : Hypergraph) (ceiling : ℕ → ℕ) (cs : List Contraction) where
   unfolding canGo
   can-on p v t q = may-on h cs v (and-left _ _ (and-left _ _ q))
 
+  pub can-board : (p : ℕ → ℕ) (v t : ℕ) → canGo h ceiling cs p v t ≡ true → onBoard h cs v ≡ true
+  unfolding canGo
+  can-board p v t q = and-left _ _ (and-left _ _ (and-left _ _ q))
+
   pub can-away : (p : ℕ → ℕ) (v t : ℕ) → canGo h ceiling cs p v t ≡ true → p v ≡ t → ⊥
   unfolding canGo
   can-away p v t q = eqb-false (p v) t (not-true _ (and-right (mayMove h cs v) _ (and-left _ _ q)))
@@ -62,7 +83,7 @@ module _ (h : Hypergraph) (ceiling : ℕ → ℕ) (cs : List Contraction) where
   -- the metric after an open pair's move
   pub metric-open : (p : ℕ → ℕ) (v t : ℕ) → Placed h cs p → Pair h cs v t → canGo h ceiling cs p v t ≡ true → pos (metric h cs (place p v t)) ≡ pos (metric h cs p) -ℤ gain h cs p v t
   metric-open p v t ok r q =
-      let s = ok v (r .0) (r .1) .board (can-on p v t q) in
+      let s = ok v (r .0) (r .1) .board (can-board p v t q) in
       metric-gain h cs p v t (r .0) (r .1) (s .0) (s .1) (r .2) (r .3) (can-away p v t q)
 
   -- no gain is above the metric
@@ -113,7 +134,7 @@ module _ (h : Hypergraph) (ceiling : ℕ → ℕ) (cs : List Contraction) where
       go : (b : Bool) → ltZ (pos 0) g ≡ b → Polished (q .block) (cond b (polishOn h ceiling cs n next) q .block)
       go true e =
           let down : metric h cs (place (q .block) v t) < metric h cs (q .block) = less (subst T (sym e) tt) in
-          let end : Polished (place (q .block) v t) (polishOn h ceiling cs n next .block) = ih next (placed-move h cs (q .block) v t ok (can-on (q .block) v t (top .open-pair)) (top .there .2) (top .there .3)) (omega arith) in
+          let end : Polished (place (q .block) v t) (polishOn h ceiling cs n next .block) = ih next (placed-move h cs (q .block) v t ok (can-board (q .block) v t (top .open-pair)) (top .there .2) (top .there .3)) (omega arith) in
           record { placed = end .placed; lower = omega (arith, end .lower); stuck = end .stuck }
       go false e = record {
         placed = ok;

@@ -1,7 +1,7 @@
 -- No definition stops for want of fuel. Where a walk, a polish, A's contractions or a climb has ended, no number of further turns
 -- changes anything (walk-rests, polish-rests, coarsen-rests, climb-rests); and a number's digits are the same with any fuel that is
 -- not less than the number (digits-fuel). Rests on Walks, Ends, Calls and Climbs, where each ends by its own rule. Assumes nothing.
-use Prim.Native.Nat.{ℕ, zero, suc, _+_, _*_, _/_, _%_, _≤_}
+use Prim.Native.Nat.{ℕ, zero, suc, _+_, _-_, _*_, _/_, _%_, _≤_}
 use native.Mathlib.Omega.{arith}
 use mathlib.Core.Path.{_≡_, refl, sym, ap, _∙_, subst}
 use mathlib.Core.Logic.{inl, inr}
@@ -22,7 +22,7 @@ use Rattle.guarantees.specs.Climbs.{Sound, climb-on, representative-on}
 use Rattle.guarantees.specs.Tops.{Top, best-top}
 use Rattle.guarantees.specs.Ends.{Placed, Pair, polish-ends}
 use Rattle.guarantees.specs.Walks.{Over, walk-ends}
-use Rattle.guarantees.specs.Calls.{Coarsest, A-joins-end}
+use Rattle.guarantees.specs.Calls.{Coarsest, coarsen-ends, A-joins-end}
 
 cond-same : {A : Type 0} (b : Bool) (x : A) → cond b x x ≡ x
 cond-same true x = refl
@@ -69,6 +69,29 @@ module _ (h : Hypergraph) where
       ∙ cond-same (ltb (2 * h .blocks) (boardSize h (c .stack))) c
 
   -- A's contractions, which begin with every vertex on the board
+  -- contractions with some fuel, and then with more
+  coarsen-on : (n m : ℕ) (c : Coarse) → coarsen h m (coarsen h n c) ≡ coarsen h (n + m) c
+  unfolding coarsen joinTurn
+  coarsen-on zero m c = ap (λ (k : ℕ). coarsen h k c) (let e : m ≡ 0 + m = omega arith in e)
+  coarsen-on (suc n) m c = go (coarsen-on n m) (ltb (2 * h .blocks) (boardSize h (c .stack))) refl ∙ ap (λ (k : ℕ). coarsen h k c) (let e : suc (n + m) ≡ suc n + m = omega arith in e)
+    where
+      by : ((d : Coarse) → coarsen h m (coarsen h n d) ≡ coarsen h (n + m) d) → (b : Best) → joinBest h (c .stack) (c .block) ≡ b → coarsen h m (joinTurn h c (coarsen h n) b) ≡ joinTurn h c (coarsen h (n + m)) b
+      by ih none q = coarsest-rests c (inr q) m
+      by ih (best u v g) q = ih _
+
+      go : ((d : Coarse) → coarsen h m (coarsen h n d) ≡ coarsen h (n + m) d) → (b : Bool) → ltb (2 * h .blocks) (boardSize h (c .stack)) ≡ b
+          → coarsen h m (cond b (joinTurn h c (coarsen h n) (joinBest h (c .stack) (c .block))) c) ≡ cond b (joinTurn h c (coarsen h (n + m)) (joinBest h (c .stack) (c .block))) c
+      go ih true e = by ih (joinBest h (c .stack) (c .block)) refl
+      go ih false e = coarsest-rests c (inl e) m
+
+  -- as many as there are vertices on the board are enough
+  pub coarsen-enough : (n : ℕ) (c : Coarse) → boardSize h (c .stack) ≤ n → coarsen h n c ≡ coarsen h (boardSize h (c .stack)) c
+  coarsen-enough n c l =
+      let b : ℕ = boardSize h (c .stack) in
+      ap (λ (k : ℕ). coarsen h k c) (let e : n ≡ b + (n - b) = omega arith in e)
+      ∙ sym (coarsen-on b (n - b) c)
+      ∙ coarsest-rests (coarsen h b c) (coarsen-ends h b c (omega arith)) (n - b)
+
   pub coarsen-rests : (s : State) (n : ℕ) → coarsen h n (coarsen h (vertices h) (record { stack = []; block = s .block })) ≡ coarsen h (vertices h) (record { stack = []; block = s .block })
   coarsen-rests s = coarsest-rests (coarsen h (vertices h) (record { stack = []; block = s .block })) (A-joins-end h s)
 

@@ -30,6 +30,7 @@
 pub mod Moves
 pub mod Commutes
 pub mod Climbs
+pub mod Board
 pub mod Fixed
 pub mod Joins
 pub mod Weights
@@ -43,6 +44,7 @@ pub mod Calls
 pub mod Contractions
 pub mod Clumps
 pub mod Caps
+pub mod Changes
 pub mod Loads
 pub mod Reached
 pub mod Stays
@@ -51,6 +53,7 @@ pub mod NeverHigher
 pub mod Fuel
 pub mod Optimum
 pub mod Ranges
+pub mod Changed
 pub mod Wider
 pub mod Numbers
 pub mod Bounds

@@ -5,20 +5,24 @@ use Prim.Native.Nat.{ℕ, zero, suc, _+_, _-_, _≤_, _<_}
 use native.Mathlib.Decide.{ℕ-discrete}
 use native.Mathlib.Omega.{arith}
 use mathlib.Core.Path.{_≡_, refl, sym, ap, ap₂, _∙_}
-use mathlib.Core.Bool.{Bool, true, false, _||_, _&&_}
+use mathlib.Core.Bool.{Bool, true, false, _||_, _&&_, true≢false}
 use mathlib.Core.List.{List, [], _∷_, _++_}
-use borrow.Author.Tests.{eqb-true, eq-eqb, ltb-false, leb-false}
+use borrow.Author.Tests.{eqb-true, eq-eqb, ltb-false, lt-ltb, leb-false}
 use lib.Dec.{eqb, leb, ltb}
 use lib.ListN.{length, length-append, getD}
 use Rattle.laws.specs.Fold.{sumOver, sumOver-more, All, all-map, all-more, all-get}
 use Rattle.laws.specs.Occurrence.{Distinct}
 use Rattle.laws.specs.Sum.{foldTo}
 use Rattle.laws.specs.Choice.{one, one-le, and-left, and-right, or-none}
-use Rattle.model.specs.Catalogue.{Limits, Hypergraph, vertices, drafted, capacity, capacities}
+use Rattle.model.specs.Catalogue.{Limits, Hypergraph, vertices, loaded, drafted, fixedEntry, inSale, capacity, capacities}
 use Rattle.model.specs.Measure.{blockWeight}
-use Rattle.model.specs.Machine.{Call, fresh}
+use Rattle.model.specs.Machine.{fresh}
+use Rattle.model.specs.Sale.{Request}
 use Rattle.model.specs.Grammar.{Book, reading, whole, full, overfull, withLot, withNet, parse}
 use Rattle.guarantees.specs.Reading.{Marks, Even, blank, lotted, netted, called, accepted-keeps}
+use Rattle.guarantees.specs.Board.{board-is}
+use Rattle.guarantees.specs.Ends.{Placed}
+use Rattle.guarantees.specs.Splits.{above-none}
 use Rattle.guarantees.specs.Caps.{Capped, Held}
 use Rattle.guarantees.specs.Calls.{Legal, legal-fresh}
 use Rattle.guarantees.specs.Clumps.{Within}
@@ -39,6 +43,43 @@ pub record Loaded (limits : Limits) (h : Hypergraph) : Type 0 where
   pub weights-in : All (h .weights) (λ w. (1 ≤ w) × (w ≤ 65535))
   pub net-weights : All (h .nets) (λ e. (1 ≤ e .weight) × (e .weight ≤ 1000))
   pub imbalance-high : h .imbalance ≤ 1000
+
+-- what a catalogue keeps while lots are withdrawn and added
+pub record Fair (limits : Limits) (h : Hypergraph) : Type 0 where
+  pub blocks-low : 2 ≤ h .blocks
+  pub blocks-high : h .blocks ≤ limits .blockLimit
+  pub as-long : length (h .draft) ≡ length (h .weights)
+  pub fixed-long : length (h .fixed) ≡ length (h .weights)
+  pub fixed-in : All (h .fixed) (λ x. x ≤ 1)
+  pub fixed-sale : (x : ℕ) → 1 ≤ x → x ≤ vertices h → fixedEntry h x ≡ 1 → inSale h x ≡ true
+  pub lows-long : length (h .lows) ≡ length (h .weights)
+  pub nets-in : All (h .nets) (Within (vertices h))
+  pub nets-sale : All (h .nets) (λ e. All (e .pins) (λ x. inSale h x ≡ true))
+  pub nets-distinct : All (h .nets) (λ e. Distinct (e .pins) 0 (length (e .pins)))
+  pub weights-in : All (h .weights) (λ w. w ≤ 65535)
+  pub net-weights : All (h .nets) (λ e. (1 ≤ e .weight) × (e .weight ≤ 1000))
+  pub imbalance-high : h .imbalance ≤ 1000
+
+-- each lot of a loaded catalogue is in the sale
+pub loaded-sale : {limits : Limits} {h : Hypergraph} → Loaded limits h → (x : ℕ) → 1 ≤ x → x ≤ vertices h → inSale h x ≡ true
+loaded-sale {h = h} g x l u = lt-ltb 0 (loaded h x) (omega (arith, all-get (h .weights) _ 0 (g .weights-in) (x - 1) (omega arith) .0))
+
+pub loaded-fair : {limits : Limits} {h : Hypergraph} → Loaded limits h → Fair limits h
+loaded-fair {h = h} g = record {
+  blocks-low = g .blocks-low;
+  blocks-high = g .blocks-high;
+  as-long = g .as-long;
+  fixed-long = g .fixed-long;
+  fixed-in = g .fixed-in;
+  fixed-sale = λ x l u q. loaded-sale g x l u;
+  lows-long = g .lows-long;
+  nets-in = g .nets-in;
+  nets-sale = all-map (h .nets) _ _ (λ e w. all-map (e .pins) _ _ (λ x r. loaded-sale g x (r .0) (r .1)) w) (g .nets-in);
+  nets-distinct = g .nets-distinct;
+  weights-in = all-map (h .weights) _ _ (λ w r. r .1) (g .weights-in);
+  net-weights = g .net-weights;
+  imbalance-high = g .imbalance-high;
+}
 
 -- how much has been read, of what the first line announces
 pub record Sized (limits : Limits) (k : Book) : Type 0 where
@@ -155,7 +196,7 @@ module _ (limits : Limits) where
         };
       }
 
-  read-call : (k : Book) (c : Call) → Read k → k .lots ≤ vertices (k .graph) → k .buyers ≤ length (k .graph .nets) → full k ≡ false → Read (called k c)
+  read-call : (k : Book) (c : Request) → Read k → k .lots ≤ vertices (k .graph) → k .buyers ≤ length (k .graph .nets) → full k ≡ false → Read (called k c)
   read-call k c r l m f =
       let z = r .sized in
       let complete : whole k ≡ true = ap₂ (λ (a b : Bool). a && b) (eq-eqb (vertices (k .graph)) (k .lots) (omega (arith, z .lots-le))) (eq-eqb (length (k .graph .nets)) (k .buyers) (omega (arith, z .nets-le))) in
@@ -190,8 +231,14 @@ module _ (limits : Limits) where
       let w = read-all file k q .1 in
       (eqb-true (vertices (k .graph)) (k .lots) (and-left _ _ w), eqb-true (length (k .graph .nets)) (k .buyers) (and-right (eqb (vertices (k .graph)) (k .lots)) _ w))
 
+  pub placed-start : (h : Hypergraph) → Loaded limits h → Placed h [] (drafted h)
+  placed-start h g x l u = record {
+    board = λ o. all-get (h .draft) _ 0 (g .draft-in) (x - 1) (omega (arith, g .as-long));
+    off = λ o. absurd (true≢false (sym (board-is h [] x (above-none x) (loaded-sale g x l u)) ∙ o));
+  }
+
   pub legal-start : (h : Hypergraph) → Loaded limits h → Legal h (fresh h)
-  legal-start h g = legal-fresh h (λ x l u. all-get (h .draft) _ 0 (g .draft-in) (x - 1) (omega (arith, g .as-long)))
+  legal-start h g = legal-fresh h (placed-start h g)
 
   -- ---- no block of the draft is above its capacity
   none-over : (n : ℕ) (f : ℕ → Bool) → foldTo n (λ b s. b || f s) false ≡ false → (i : ℕ) → 1 ≤ i → i ≤ n → f i ≡ false

@@ -1,31 +1,37 @@
 -- Request M-110, the order of moves, as theorems over model alone: two calls of the list's entry whose lists end in accepted moves and leave
 -- each lot in the same session leave the same tables, joins and total (order-of-moves); two moves of different vertices, accepted in either
--- order, are such lists (either-order). Rests on Reached and Determined. Assumes nothing.
-use Prim.Native.Nat.{ℕ, zero, suc, _≤_, _<_}
+-- order, are such lists (either-order). Rests on Reached and Ranges. Assumes nothing.
+use Prim.Native.Nat.{ℕ, zero, suc, _+_, _-_, _*_, _≤_, _<_}
 use native.Mathlib.Decide.{ℕ-discrete, decLt}
 use native.Mathlib.Omega.{arith}
 use mathlib.Core.Path.{_≡_, refl, sym, ap, ap₂, _∙_, subst}
-use mathlib.Core.Bool.{Bool, true, not, _&&_, true≢false}
+use mathlib.Core.Bool.{Bool, true, false, not, cond, _&&_, true≢false}
 use mathlib.Core.List.{List, [], _∷_, _++_}
-use borrow.Author.Tests.{not-false}
-use lib.ListN.{length-append}
-use Rattle.laws.specs.Choice.{and-left, cond-zero}
+use borrow.Author.Tests.{lt-ltb, leb-true, not-false}
+use lib.Dec.{leb, ltb}
+use lib.ListN.{length, getD, length-append, List·getD-eq-default}
+use lib.Seq.{ext-getD}
+use Rattle.laws.specs.Choice.{one, and-left, and-right, cond-zero}
+use Rattle.laws.specs.Occurrence.{occ}
 use Rattle.laws.specs.Place.{place, place-off, place-swap}
 use Rattle.model.specs.Catalogue.{Limits, Hypergraph, vertices, isVertex, isBlock, capacities}
-use Rattle.model.specs.Measure.{Contraction, above, representative, metric}
-use Rattle.model.specs.Machine.{Call, callJ, callS, callM, callB, callW, callP, callA, State, fresh, settle, refusesM, doesM}
-use Rattle.model.specs.Search.{callUnder, call}
+use Rattle.model.specs.Measure.{Contraction, above, representative, pin, size, metric}
+use Rattle.model.specs.Machine.{Call, callJ, callS, callM, callB, callW, callP, callA, State, settle, refusesM, doesM}
+use Rattle.model.specs.Search.{callUnder}
+use Rattle.model.specs.Sale.{Request, runs, callX, callN, Sale, opened, ran, turnUnder, turn, totalOf}
 use Rattle.model.specs.Grammar.{Reading, Book, reading, parse}
 use Rattle.model.specs.Report.{refusal}
 use Rattle.model.specs.Engine.{after}
-use Rattle.model.specs.Memory.{Tables, Memory, longMemory, Holds}
-use Rattle.model.specs.Demand.{Accepted, metricIn, Demand3}
+use Rattle.model.specs.Memory.{Tables, Memory, longMemory, HoldsFor, Holds}
+use Rattle.model.specs.Lent.{stackOf}
+use Rattle.model.specs.Demand.{Accepted, reachedBy, Demand3}
 use Rattle.model.specs.ListEntry.{listRefusal, listCalls, Returned, Listed, ListServed, ListServes}
-use Rattle.model.specs.Order.{isMove, AcceptedMoves, sessionOf, afterMoves, SameSessions, SameLeft, OrderOfMoves, EitherOrder}
+use Rattle.model.specs.Order.{isMove, asksMove, AcceptedMoves, sessionOf, SameSessions, SameLeft, OrderOfMoves, EitherOrder}
 use Rattle.guarantees.specs.Climbs.{representative-self}
 use Rattle.guarantees.specs.Reading.{vertex-range}
 use Rattle.guarantees.specs.Ends.{Placed}
 use Rattle.guarantees.specs.Reached.{reached}
+use Rattle.guarantees.specs.Board.{board-under}
 use Rattle.guarantees.specs.Determined.{holds-same}
 
 -- ---- accepted moves
@@ -36,59 +42,93 @@ record Places (h : Hypergraph) (s s′ : State) (v t : ℕ) : Type 0 where
   stack-same : s′ .stack ≡ s .stack
   placed : s′ .block ≡ place (s .block) v t
 
-places : (h : Hypergraph) (s : State) (v t : ℕ) → refusal (call h s (callM v t) .answer) ≡ 0 → Places h s (call h s (callM v t) .state) v t
-unfolding callUnder settle doesM refusesM refusal
-places h s v t q = go (refusesM h (capacities h) s v t) refl q
+places : (limits : Limits) (a : Sale) (v t : ℕ) → refusal (turn limits a (runs (callM v t)) .answer) ≡ 0 → Places (a .graph) (a .state) (turn limits a (runs (callM v t)) .sale .state) v t
+unfolding turnUnder ran callUnder settle doesM refusesM refusal
+places limits a v t q = go (refusesM h (capacities h) s v t) refl q
   where
+    h : Hypergraph
+    h = a .graph
+
+    s : State
+    s = a .state
+
     go : (n : ℕ) → refusesM h (capacities h) s v t ≡ n → refusal (settle n s (doesM h s v t) .answer) ≡ 0 → Places h s (settle n s (doesM h s v t) .state) v t
     go (suc n) e q = absurd (omega arith)
     go zero e q =
         let r = vertex-range h v (and-left (isVertex h v) (isBlock h t) (not-false _ (cond-zero (not (isVertex h v && isBlock h t)) 9 _ (omega arith) e .0))) in
         record { low = r .0; high = r .1; stack-same = refl; placed = refl }
 
--- moves leave the stack, and the blocks of what is no vertex
-record Kept (h : Hypergraph) (s s′ : State) : Type 0 where
-  stack-same : s′ .stack ≡ s .stack
-  others : (x : ℕ) → ((1 ≤ x) × (x ≤ vertices h) → ⊥) → s′ .block x ≡ s .block x
+-- moves leave the catalogue, the stack, and the blocks of what is no vertex
+record Kept (a a′ : Sale) : Type 0 where
+  graph-same : a′ .graph ≡ a .graph
+  changed-same : a′ .changed ≡ a .changed
+  stack-same : a′ .state .stack ≡ a .state .stack
+  others : (x : ℕ) → ((1 ≤ x) × (x ≤ vertices (a .graph)) → ⊥) → a′ .state .block x ≡ a .state .block x
 
-moved : (h : Hypergraph) (s : State) (ms : List Call) → AcceptedMoves h s ms → Kept h s (after h s ms)
-unfolding AcceptedMoves after isMove
-moved h s [] a = record { stack-same = refl; others = λ x q. refl }
-moved h s (callM v t ∷ ms) a =
-    let p = places h s v t (a .1) in
-    let k = moved h (call h s (callM v t) .state) ms (a .2) in
+-- a call of the machine leaves the catalogue
+graph-runs : (limits : Limits) (a : Sale) (c : Call) → (turn limits a (runs c) .sale .graph ≡ a .graph) × (turn limits a (runs c) .sale .changed ≡ a .changed)
+unfolding turnUnder ran
+graph-runs limits a c = (refl, refl)
+
+moved : (limits : Limits) (a : Sale) (ms : List Request) → AcceptedMoves limits a ms → Kept a (after limits a ms)
+unfolding AcceptedMoves after isMove asksMove
+moved limits a [] q = record { graph-same = refl; changed-same = refl; stack-same = refl; others = λ x q. refl }
+moved limits a (runs (callM v t) ∷ ms) q =
+    let p = places limits a v t (q .1) in
+    let k = moved limits (turn limits a (runs (callM v t)) .sale) ms (q .2) in
+    let g = graph-runs limits a (callM v t) in
     record {
+      graph-same = k .graph-same ∙ g .0;
+      changed-same = k .changed-same ∙ g .1;
       stack-same = k .stack-same ∙ p .stack-same;
-      others = λ x q. k .others x q ∙ ap (λ (f : ℕ → ℕ). f x) (p .placed) ∙ place-off (s .block) v t x (λ e. q (omega (arith, p .low), omega (arith, p .high)));
+      others = λ x n. k .others x (λ r. n (subst (λ (h : Hypergraph). (1 ≤ x) × (x ≤ vertices h)) (g .0) r)) ∙ ap (λ (f : ℕ → ℕ). f x) (p .placed) ∙ place-off (a .state .block) v t x (λ e. n (omega (arith, p .low), omega (arith, p .high)));
     }
-moved h s (callJ u v ∷ ms) a = absurd (true≢false (sym (a .0)))
-moved h s (callS ∷ ms) a = absurd (true≢false (sym (a .0)))
-moved h s (callB ∷ ms) a = absurd (true≢false (sym (a .0)))
-moved h s (callW u v ∷ ms) a = absurd (true≢false (sym (a .0)))
-moved h s (callP ∷ ms) a = absurd (true≢false (sym (a .0)))
-moved h s (callA ∷ ms) a = absurd (true≢false (sym (a .0)))
+moved limits a (runs (callJ u v) ∷ ms) q = absurd (true≢false (sym (q .0)))
+moved limits a (runs callS ∷ ms) q = absurd (true≢false (sym (q .0)))
+moved limits a (runs callB ∷ ms) q = absurd (true≢false (sym (q .0)))
+moved limits a (runs (callW u v) ∷ ms) q = absurd (true≢false (sym (q .0)))
+moved limits a (runs callP ∷ ms) q = absurd (true≢false (sym (q .0)))
+moved limits a (runs callA ∷ ms) q = absurd (true≢false (sym (q .0)))
+moved limits a (callX v ∷ ms) q = absurd (true≢false (sym (q .0)))
+moved limits a (callN bales session buyers ∷ ms) q = absurd (true≢false (sym (q .0)))
 
-after-append : (h : Hypergraph) (s : State) (before ms : List Call) → after h s (before ++ ms) ≡ after h (after h s before) ms
+after-append : (limits : Limits) (a : Sale) (before ms : List Request) → after limits a (before ++ ms) ≡ after limits (after limits a before) ms
 unfolding after
-after-append h s [] ms = refl
-after-append h s (c ∷ before) ms = after-append h (call h s c .state) before ms
+after-append limits a [] ms = refl
+after-append limits a (c ∷ before) ms = after-append limits (turn limits a c .sale) before ms
 
-kept-behind : (h : Hypergraph) (before ms : List Call) → AcceptedMoves h (after h (fresh h) before) ms → Kept h (after h (fresh h) before) (afterMoves h before ms)
-kept-behind h before ms a = subst (Kept h (after h (fresh h) before)) (sym (after-append h (fresh h) before ms)) (moved h (after h (fresh h) before) ms a)
+kept-behind : (limits : Limits) (h : Hypergraph) (before ms : List Request) → AcceptedMoves limits (reachedBy limits h before) ms → Kept (reachedBy limits h before) (reachedBy limits h (before ++ ms))
+kept-behind limits h before ms a = subst (Kept (reachedBy limits h before)) (sym (after-append limits (opened h) before ms)) (moved limits (reachedBy limits h before) ms a)
 
 -- ---- the same stack and the same partition
-module _ (limits : Limits) (h : Hypergraph) (ok : Accepted limits h) (before moves moves′ : List Call) (s : SameSessions h before moves moves′) where
+module _ (limits : Limits) (h : Hypergraph) (ok : Accepted limits h) (before moves moves′ : List Request) (s : SameSessions limits h before moves moves′) where
+  -- the catalogue there
+  abbrev g : Hypergraph
+  g = reachedBy limits h before .graph
+
   abbrev one-end : State
-  one-end = afterMoves h before moves
+  one-end = reachedBy limits h (before ++ moves) .state
 
   abbrev other-end : State
-  other-end = afterMoves h before moves′
+  other-end = reachedBy limits h (before ++ moves′) .state
 
-  same-stack : other-end .stack ≡ one-end .stack
-  same-stack = kept-behind h before moves′ (s .accepted′) .stack-same ∙ sym (kept-behind h before moves (s .accepted) .stack-same)
+  one-kept : Kept (reachedBy limits h before) (reachedBy limits h (before ++ moves))
+  one-kept = kept-behind limits h before moves (s .accepted)
 
-  -- a vertex on the board stands for itself, and one off it has block 0
-  same-at : (x : ℕ) → 1 ≤ x → x ≤ vertices h → other-end .block x ≡ one-end .block x
+  other-kept : Kept (reachedBy limits h before) (reachedBy limits h (before ++ moves′))
+  other-kept = kept-behind limits h before moves′ (s .accepted′)
+
+  pub same-stack : other-end .stack ≡ one-end .stack
+  same-stack = other-kept .stack-same ∙ sym (one-kept .stack-same)
+
+  one-placed : Placed g (one-end .stack) (one-end .block)
+  one-placed = subst (λ (z : Hypergraph). Placed z (one-end .stack) (one-end .block)) (one-kept .graph-same) (reached limits h ok (before ++ moves) .held .legal .placed)
+
+  other-placed : Placed g (other-end .stack) (other-end .block)
+  other-placed = subst (λ (z : Hypergraph). Placed z (other-end .stack) (other-end .block)) (other-kept .graph-same) (reached limits h ok (before ++ moves′) .held .legal .placed)
+
+  -- a vertex under no other stands for itself, and one under another has block 0
+  same-at : (x : ℕ) → 1 ≤ x → x ≤ vertices g → other-end .block x ≡ one-end .block x
   same-at x l u = go (ℕ-discrete (above (one-end .stack) x) 0)
     where
       above-same : above (other-end .stack) x ≡ above (one-end .stack) x
@@ -100,28 +140,38 @@ module _ (limits : Limits) (h : Hypergraph) (ok : Accepted limits h) (before mov
           ∙ s .sessions x l u
           ∙ ap (one-end .block) (representative-self (one-end .stack) x e)
       go (no n) =
-          reached limits h ok (before ++ moves′) .legal .placed x l u .off (λ e. n (sym above-same ∙ e))
-          ∙ sym (reached limits h ok (before ++ moves) .legal .placed x l u .off n)
+          other-placed x l u .off (board-under g (other-end .stack) x (λ e. n (sym above-same ∙ e)))
+          ∙ sym (one-placed x l u .off (board-under g (one-end .stack) x n))
 
-  same-block : other-end .block ≡ one-end .block
-  same-block = λ i x. go x (decLt 0 x) (decLt (vertices h) x) i
+  pub same-block : other-end .block ≡ one-end .block
+  same-block = λ i x. go x (decLt 0 x) (decLt (vertices g) x) i
     where
-      outside : (x : ℕ) → ((1 ≤ x) × (x ≤ vertices h) → ⊥) → other-end .block x ≡ one-end .block x
-      outside x q = kept-behind h before moves′ (s .accepted′) .others x q ∙ sym (kept-behind h before moves (s .accepted) .others x q)
+      outside : (x : ℕ) → ((1 ≤ x) × (x ≤ vertices g) → ⊥) → other-end .block x ≡ one-end .block x
+      outside x q = other-kept .others x q ∙ sym (one-kept .others x q)
 
-      go : (x : ℕ) → Dec (0 < x) → Dec (vertices h < x) → other-end .block x ≡ one-end .block x
+      go : (x : ℕ) → Dec (0 < x) → Dec (vertices g < x) → other-end .block x ≡ one-end .block x
       go x (no n) d = outside x (λ r. n (omega (arith, r .0)))
       go x (yes l) (yes u) = outside x (λ r. absurd (omega (arith, r .1)))
       go x (yes l) (no u) = same-at x (omega arith) (omega arith)
 
-  pub same-total : metricIn h other-end ≡ metricIn h one-end
-  same-total = ap₂ (λ (cs : List Contraction) (p : ℕ → ℕ). metric h cs p) same-stack same-block
+  pub same-total : totalOf (reachedBy limits h (before ++ moves′)) ≡ totalOf (reachedBy limits h (before ++ moves))
+  same-total = ap₂ (λ (z : Hypergraph) (p : ℕ → ℕ). metric z (other-end .stack) p) (other-kept .graph-same ∙ sym (one-kept .graph-same)) same-block
+      ∙ ap (λ (cs : List Contraction). metric (reachedBy limits h (before ++ moves) .graph) cs (one-end .block)) same-stack
+
+  -- what the tables hold at either end, over the catalogue there
+  pub one-holds : {old t : Tables} → Holds (reachedBy limits h (before ++ moves)) old t → HoldsFor (reachedBy limits h before .changed) g one-end old t
+  one-holds {old} {t} x = subst (λ (z : Hypergraph). HoldsFor (reachedBy limits h before .changed) z one-end old t) (one-kept .graph-same)
+      (subst (λ (b : Bool). HoldsFor b (reachedBy limits h (before ++ moves) .graph) one-end old t) (one-kept .changed-same) x)
+
+  pub other-holds : {old t : Tables} → Holds (reachedBy limits h (before ++ moves′)) old t → HoldsFor (reachedBy limits h before .changed) g other-end old t
+  other-holds {old} {t} x = subst (λ (z : Hypergraph). HoldsFor (reachedBy limits h before .changed) z other-end old t) (other-kept .graph-same)
+      (subst (λ (b : Bool). HoldsFor b (reachedBy limits h (before ++ moves′) .graph) other-end old t) (other-kept .changed-same) x)
 
 -- ---- what lent memory holds
 -- a state's stack and partition decide it
-holds-as : {h : Hypergraph} {s s′ : State} {old t : Tables} → s′ .stack ≡ s .stack → s′ .block ≡ s .block → Holds h s′ old t → Holds h s old t
-holds-as {h} {s} {s′} {old} {t} e f x =
-    let y : Holds h (record { stack = s .stack; block = s .block; journal = s′ .journal }) old t = subst (λ (z : State). Holds h z old t) (λ i. record { stack = e i; block = f i; journal = s′ .journal }) x in
+holds-as : {changed : Bool} {h : Hypergraph} {s s′ : State} {old t : Tables} → s′ .stack ≡ s .stack → s′ .block ≡ s .block → HoldsFor changed h s′ old t → HoldsFor changed h s old t
+holds-as {changed} {h} {s} {s′} {old} {t} e f x =
+    let y : HoldsFor changed h (record { stack = s .stack; block = s .block; journal = s′ .journal }) old t = subst (λ (z : State). HoldsFor changed h z old t) (λ i. record { stack = e i; block = f i; journal = s′ .journal }) x in
     record {
       weights = y .weights;
       blocks = y .blocks;
@@ -140,22 +190,23 @@ holds-as {h} {s} {s′} {old} {t} e f x =
 
 -- ---- two calls of the list's entry
 -- an accepted catalogue, and a list that is not refused, in memory that is long enough
-pub listed-in : (limits : Limits) (file list : List ℕ) (k : Book) (old new : Memory) (r : Returned) (calls : List Call) → parse limits file ≡ reading k → longMemory limits old ≡ true → listRefusal list ≡ 0 → listCalls list ≡ calls
-    → ListServes limits file list old new r → Listed limits (k .graph) calls old new r
-listed-in limits file list k old new r calls p l z q s =
-    subst (λ (cs : List Call). Listed limits (k .graph) cs old new r) q
-    (subst (λ (x : Reading). ListServed true 0 limits x (listCalls list) old new r) p
-    (subst (λ (n : ℕ). ListServed true n limits (parse limits file) (listCalls list) old new r) z
-    (subst (λ (b : Bool). ListServed b (listRefusal list) limits (parse limits file) (listCalls list) old new r) l s)))
+pub listed-in : (limits : Limits) (file list operands : List ℕ) (k : Book) (old new : Memory) (r : Returned) (calls : List Request) → parse limits file ≡ reading k → longMemory limits old ≡ true → listRefusal list operands ≡ 0 → listCalls list operands ≡ calls
+    → ListServes limits file list operands old new r → Listed limits (k .graph) calls old new r
+listed-in limits file list operands k old new r calls p l z q s =
+    subst (λ (cs : List Request). Listed limits (k .graph) cs old new r) q
+    (subst (λ (x : Reading). ListServed true 0 limits x (listCalls list operands) old new r) p
+    (subst (λ (n : ℕ). ListServed true n limits (parse limits file) (listCalls list operands) old new r) z
+    (subst (λ (b : Bool). ListServed b (listRefusal list operands) limits (parse limits file) (listCalls list operands) old new r) l s)))
 
 pub order-of-moves : (limits : Limits) → OrderOfMoves limits
-order-of-moves limits file list list′ k old new new′ r r′ before moves moves′ p l z q z′ q′ s a b =
-    let x = listed-in limits file list k old new r (before ++ moves) p l z q a in
-    let y = listed-in limits file list′ k old new′ r′ (before ++ moves′) p l z′ q′ b in
+order-of-moves limits file list list′ operands operands′ k old new new′ r r′ before moves moves′ p l z q z′ q′ s a b =
+    let x = listed-in limits file list operands k old new r (before ++ moves) p l z q a in
+    let y = listed-in limits file list′ operands′ k old new′ r′ (before ++ moves′) p l z′ q′ b in
     let ok = x .demand .accepted in
     let h = k .graph in
     record {
-      tables = holds-same (holds-as (same-stack limits h ok before moves moves′ s) (same-block limits h ok before moves moves′ s) (y .demand .stands .tables)) (x .demand .stands .tables);
+      tables = holds-same (holds-as (same-stack limits h ok before moves moves′ s) (same-block limits h ok before moves moves′ s) (other-holds limits h ok before moves moves′ s (y .demand .stands .tables)))
+          (one-holds limits h ok before moves moves′ s (x .demand .stands .tables));
       joins = y .demand .stands .joins ∙ same-stack limits h ok before moves moves′ s ∙ sym (x .demand .stands .joins);
       totals = y .demand .total-is ∙ same-total limits h ok before moves moves′ s ∙ sym (x .demand .total-is);
     }
@@ -164,24 +215,26 @@ order-of-moves limits file list list′ k old new new′ r r′ before moves mov
 pub either-order : (limits : Limits) → EitherOrder limits
 unfolding AcceptedMoves after
 either-order limits h before u a v b ok few ne x y =
-    let s : State = after h (fresh h) before in
-    let p = places h s u a (x .1) in
-    let q = places h (call h s (callM u a) .state) v b (x .2 .1) in
-    let p′ = places h s v b (y .1) in
-    let q′ = places h (call h s (callM v b) .state) u a (y .2 .1) in
-    let one = after-append h (fresh h) before (callM u a ∷ callM v b ∷ []) in
-    let other = after-append h (fresh h) before (callM v b ∷ callM u a ∷ []) in
-    let blocks : call h (call h s (callM v b) .state) (callM u a) .state .block ≡ call h (call h s (callM u a) .state) (callM v b) .state .block =
-    q′ .placed ∙ ap (λ (f : ℕ → ℕ). place f u a) (p′ .placed) ∙ place-swap (s .block) v b u a ne ∙ sym (q .placed ∙ ap (λ (f : ℕ → ℕ). place f v b) (p .placed)) in
-    let stacks : call h (call h s (callM v b) .state) (callM u a) .state .stack ≡ call h (call h s (callM u a) .state) (callM v b) .state .stack =
+    let s : Sale = reachedBy limits h before in
+    let uv : List Request = runs (callM u a) ∷ runs (callM v b) ∷ [] in
+    let vu : List Request = runs (callM v b) ∷ runs (callM u a) ∷ [] in
+    let p = places limits s u a (x .1) in
+    let q = places limits (turn limits s (runs (callM u a)) .sale) v b (x .2 .1) in
+    let p′ = places limits s v b (y .1) in
+    let q′ = places limits (turn limits s (runs (callM v b)) .sale) u a (y .2 .1) in
+    let one = after-append limits (opened h) before uv in
+    let other = after-append limits (opened h) before vu in
+    let blocks : after limits s vu .state .block ≡ after limits s uv .state .block =
+    q′ .placed ∙ ap (λ (f : ℕ → ℕ). place f u a) (p′ .placed) ∙ place-swap (s .state .block) v b u a ne ∙ sym (q .placed ∙ ap (λ (f : ℕ → ℕ). place f v b) (p .placed)) in
+    let stacks : after limits s vu .state .stack ≡ after limits s uv .state .stack =
     q′ .stack-same ∙ p′ .stack-same ∙ sym (q .stack-same ∙ p .stack-same) in
     record {
       accepted = x;
       accepted′ = y;
-      few = omega (arith, length-append before (callM u a ∷ callM v b ∷ []));
-      few′ = omega (arith, length-append before (callM v b ∷ callM u a ∷ []));
+      few = omega (arith, length-append before uv);
+      few′ = omega (arith, length-append before vu);
       sessions = λ w _ _.
-          ap (λ (z : State). sessionOf z w) other
+          ap (λ (z : Sale). sessionOf (z .state) w) other
           ∙ ap₂ (λ (f : ℕ → ℕ) (cs : List Contraction). f (representative cs w)) blocks stacks
-          ∙ sym (ap (λ (z : State). sessionOf z w) one);
+          ∙ sym (ap (λ (z : Sale). sessionOf (z .state) w) one);
     }

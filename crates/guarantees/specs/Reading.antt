@@ -12,7 +12,7 @@ use Rattle.laws.specs.Fold.{any, All, all-more}
 use Rattle.laws.specs.Occurrence.{Distinct, distinct-more}
 use Rattle.laws.specs.Choice.{and-left, and-right}
 use Rattle.model.specs.Catalogue.{Limits, Hypergraph, vertices, isVertex, isBlock}
-use Rattle.model.specs.Machine.{Call}
+use Rattle.model.specs.Sale.{Request}
 use Rattle.model.specs.Grammar.{Fields, at, fields, isLineOf, isLine, within, Book, Reading, unread, reading, stopped, whole, full, overfull, saleLine, grown, withLot, endsInK, beforeK, lotLine, Marking, marked, wrong, mark, marking, withNet, netRead, buyLine, Asked, asks, nothing, asked, withCall, callLine, line, ending, lines, parse, onto, parts, value}
 
 -- ---- ranges
@@ -82,7 +82,7 @@ lotted k low high b fixed = record { estimated = k .estimated; lots = k .lots; b
 abbrev pub netted : Book → ℕ → List ℕ → ℕ → Book
 netted k w vs m = record { estimated = k .estimated; lots = k .lots; buyers = k .buyers; graph = withNet (k .graph) w vs; marks = m; calls = [] }
 
-abbrev pub called : Book → Call → Book
+abbrev pub called : Book → Request → Book
 called k c = record { estimated = k .estimated; lots = k .lots; buyers = k .buyers; graph = k .graph; marks = k .marks; calls = k .calls ++ (c ∷ []) }
 
 -- on the last line of the catalogue no block of the draft is above its capacity
@@ -95,7 +95,7 @@ pub record Kept (limits : Limits) (P : Book → Type 0) : Type 0 where
   pub vertex : (k : Book) (low high b : ℕ) (fixed : Bool) → P k → vertices (k .graph) < k .lots → 1 ≤ low → low ≤ high → high ≤ 65535 → 1 ≤ b → b ≤ k .graph .blocks
       → Even (lotted k low high b fixed) → P (lotted k low high b fixed)
   pub net : (k : Book) (w : ℕ) (vs : List ℕ) (m : ℕ) → P k → length (k .graph .nets) < k .buyers → 1 ≤ w → w ≤ 1000 → 1 ≤ length vs → Marks (k .graph) (k .marks) vs m → Even (netted k w vs m) → P (netted k w vs m)
-  pub asking : (k : Book) (c : Call) → P k → k .lots ≤ vertices (k .graph) → k .buyers ≤ length (k .graph .nets) → full k ≡ false → P (called k c)
+  pub asking : (k : Book) (c : Request) → P k → k .lots ≤ vertices (k .graph) → k .buyers ≤ length (k .graph .nets) → full k ≡ false → P (called k c)
 
 module _ (limits : Limits) (P : Book → Type 0) (keeps : Kept limits P) where
   -- (no abbreviation: what `Good r` is of is then read off from its type)
@@ -174,7 +174,7 @@ module _ (limits : Limits) (P : Book → Type 0) (keeps : Kept limits P) where
       none : Marks (k .graph) (k .marks) [] (k .marks)
       none = record { in-range = tt; distinct = λ i j l _ _. absurd (omega arith); counted = omega arith; few = λ l. l }
 
-  good-asked : (n : ℕ) (k : Book) (a : Asked) → ((c : Call) → P (called k c)) → Good (withCall n k a)
+  good-asked : (n : ℕ) (k : Book) (a : Asked) → ((c : Request) → P (called k c)) → Good (withCall n k a)
   unfolding withCall
   good-asked n k nothing f = good-stopped 2 n
   good-asked n k (asks c) f = good-reading _ (f c)

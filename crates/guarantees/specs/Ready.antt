@@ -21,17 +21,16 @@ use Rattle.laws.specs.Integer.{lt-test, lt-test-no, le-parts, lt-parts}
 use Rattle.laws.specs.Occurrence.{same, occ, same-no, occ-none}
 use Rattle.model.specs.Catalogue.{Limits, Hypergraph, vertices}
 use Rattle.model.specs.Measure.{onBoard, gain}
-use Rattle.model.specs.Machine.{Call, State, fresh}
+use Rattle.model.specs.Machine.{State}
+use Rattle.model.specs.Sale.{Sale}
 use Rattle.model.specs.Search.{Best, none, best, bestPair}
-use Rattle.model.specs.Engine.{after}
 use Rattle.model.specs.Index.{ahead}
 use Rattle.model.specs.Memory.{Tables, Holds, indexEntry}
 use Rattle.model.specs.Ready.{timesIn, isPair, EachPairOnce, Found, FirstIsBest}
-use Rattle.model.specs.Demand.{Accepted}
 use Rattle.guarantees.specs.Ranked.{rankedBy, Other}
 use Rattle.guarantees.specs.Ranks.{ranked-is, ranked-only, ranked-once, ranked-short}
 use Rattle.guarantees.specs.Tops.{Earlier, Top, best-top}
-use Rattle.guarantees.specs.Ranges.{accepted-ranges}
+use Rattle.guarantees.specs.Reached.{Healthy}
 
 -- ---- a row of the table: k places that hold a vertex's other blocks, and zeros after them
 module _ (gain : ℕ → ℤ) (own k : ℕ) (index : List ℕ) (from : ℕ) (holds : (j : ℕ) → j < k → getD index (from + j) 0 ≡ getD (rankedBy gain own k) j 0) where
@@ -108,20 +107,23 @@ module _ (worth : ℕ → ℕ → ℤ) (v b x c : ℕ) where
       go (no p) (no q) r z = inr (inr (inl (omega arith)))
 
 -- ---- the table
-module _ (limits : Limits) (h : Hypergraph) (a : Accepted limits h) (calls : List Call) where
+module _ (limits : Limits) (a : Sale) (healthy : Healthy limits a) where
+  abbrev h : Hypergraph
+  h = a .graph
+
   abbrev s : State
-  s = after h (fresh h) calls
+  s = a .state
 
   abbrev worth : ℕ → ℕ → ℤ
   worth = gain h (s .stack) (s .block)
 
-  module _ (narrow : limits .blockLimit ≤ 16) (old t : Tables) (long : 16 * limits .vertexLimit ≤ length (old .index)) (q : Holds h s old t) where
+  module _ (narrow : limits .blockLimit ≤ 16) (old t : Tables) (long : 16 * limits .vertexLimit ≤ length (old .index)) (q : Holds a old t) where
     -- place j of a vertex's row
-    index-at : (v j : ℕ) → 1 ≤ v → v ≤ vertices h → j < h .blocks → getD (t .index) (16 * (v - 1) + j) 0 ≡ cond (onBoard (s .stack) v) (getD (rankedBy (worth v) (s .block v) (h .blocks)) j 0) 0
+    index-at : (v j : ℕ) → 1 ≤ v → v ≤ vertices h → j < h .blocks → getD (t .index) (16 * (v - 1) + j) 0 ≡ cond (onBoard h (s .stack) v) (getD (rankedBy (worth v) (s .block v) (h .blocks)) j 0) 0
     unfolding indexEntry
     index-at v j vl vu ju =
         let i : ℕ = 16 * (v - 1) + j in
-        let r = accepted-ranges limits h a in
+        let r = healthy .ranges in
         let few : j < 16 = omega (arith, r .loaded .blocks-high) in
         let line : i / 16 ≡ v - 1 = omega arith in
         let place : i % 16 ≡ j = omega arith in
@@ -131,11 +133,11 @@ module _ (limits : Limits) (h : Hypergraph) (a : Accepted limits h) (calls : Lis
         q .index .entries i (omega (arith, r .vertices-high))
         ∙ ap (λ (c : Bool). cond c (indexEntry h (s .stack) (s .block) (suc (i / 16)) (suc (i % 16))) (getD (old .index) i 0)) used
         ∙ ap₂ (λ (x y : ℕ). indexEntry h (s .stack) (s .block) x y) (ap suc line ∙ vertex) (ap suc place)
-        ∙ ap₂ (λ (l : List ℕ) (y : ℕ). cond (onBoard (s .stack) v) (getD l y 0) 0) (ranked-is worth v (s .block v) (h .blocks)) back
+        ∙ ap₂ (λ (l : List ℕ) (y : ℕ). cond (onBoard h (s .stack) v) (getD l y 0) 0) (ranked-is worth v (s .block v) (h .blocks)) back
 
     -- on the board it is such a row, and off the board it has zeros
     once : EachPairOnce h s t
-    once v b vl vu bl = go (onBoard (s .stack) v) (λ j u. index-at v j vl vu u)
+    once v b vl vu bl = go (onBoard h (s .stack) v) (λ j u. index-at v j vl vu u)
       where
         go : (on : Bool) → ((j : ℕ) → j < h .blocks → getD (t .index) (16 * (v - 1) + j) 0 ≡ cond on (getD (rankedBy (worth v) (s .block v) (h .blocks)) j 0) 0)
             → timesIn h s t v b ≡ one ((on && not (eqb (s .block v) b)) && leb b (h .blocks))
@@ -171,9 +173,9 @@ module _ (limits : Limits) (h : Hypergraph) (a : Accepted limits h) (calls : Lis
           behind x c r o (inr (inl l)) = inr (ahead-more worth v b x c (subst (λ (z : ℤ). worth x c <ℤ z) (top .value) (top .first x c r o l)))
           behind x c r o (inr (inr l)) = inr (ahead-first worth v b x c (subst (λ (z : ℤ). worth x c ≤ℤ z) (top .value) (top .highest x c r o)) l)
 
-  pub each-pair-once : limits .blockLimit ≤ 16 → (old t : Tables) → 16 * limits .vertexLimit ≤ length (old .index) → Holds h s old t → EachPairOnce h s t
+  pub each-pair-once : limits .blockLimit ≤ 16 → (old t : Tables) → 16 * limits .vertexLimit ≤ length (old .index) → Holds a old t → EachPairOnce h s t
   each-pair-once = once
 
-  pub first-is-best : limits .blockLimit ≤ 16 → (old t : Tables) → 16 * limits .vertexLimit ≤ length (old .index) → Holds h s old t → FirstIsBest h s t
+  pub first-is-best : limits .blockLimit ≤ 16 → (old t : Tables) → 16 * limits .vertexLimit ≤ length (old .index) → Holds a old t → FirstIsBest h s t
   first-is-best narrow old t long q isOpen pairs =
       found narrow old t long q isOpen pairs (bestPair (vertices h) (h .blocks) isOpen worth) (best-top isOpen worth (h .blocks) (vertices h))

@@ -167,7 +167,7 @@ module _ (limits : Limits) where
   unfolding engine outcome
   code-in file = go (parse limits file) refl
     where
-      go : (r : Reading) → parse limits file ≡ r → outcome r .code ≤ 21
+      go : (r : Reading) → parse limits file ≡ r → outcome limits r .code ≤ 21
       go unread e = omega arith
       go (stopped q n) e = refused-in file q n e .1
       go (reading k) e = omega arith
@@ -181,7 +181,7 @@ module _ (limits : Limits) where
   unfolding engine outcome
   engine-fits small narrow file = go (parse limits file) refl
     where
-      go : (r : Reading) → parse limits file ≡ r → length (outcome r .report) ≤ 60000
+      go : (r : Reading) → parse limits file ≡ r → length (outcome limits r .report) ≤ 60000
       go unread e = omega (arith, no-le 2 1 (omega arith) (omega arith))
       go (stopped q n) e =
           let b = refused-in file q n e in

@@ -6,28 +6,28 @@ use Prim.Native.String.{String}
 use native.Mathlib.Nat.{mul-suc}
 use native.Mathlib.Omega.{arith}
 use mathlib.Core.Path.{_≡_, refl}
+use mathlib.Core.Bool.{Bool, true, false, not, cond, _&&_, _||_}
 use mathlib.Core.List.{List, [], _∷_, _++_}
+use lib.Dec.{leb, ltb}
 use lib.ListN.{length, length-append}
-use Rattle.laws.specs.Fold.{sumOver}
+use Rattle.laws.specs.Fold.{sumOver, all}
 use Rattle.laws.specs.Sum.{foldTo}
-use Rattle.model.specs.Catalogue.{Limits, Net, Hypergraph, vertices, capacities}
-use Rattle.model.specs.Measure.{representative, connectivity, metric}
-use Rattle.model.specs.Machine.{Call, Answer, saysJ, saysS, saysM, saysB, saysW, saysP, saysA, saysNO, State, fresh}
-use Rattle.model.specs.Search.{call}
+use Rattle.model.specs.Catalogue.{Limits, Net, Hypergraph, vertices, inSale, isVertex, isBlock, isNet, capacities}
+use Rattle.model.specs.Measure.{onBoard, representative, blockWeight, connectivity, metric}
+use Rattle.model.specs.Machine.{Answer, saysJ, saysS, saysM, saysB, saysW, saysP, saysA, saysX, saysN, saysNO, State, fresh}
+use Rattle.model.specs.Sale.{Request, runs, callX, callN, Sale, Turn, Space, opened, spaceOf, lotsIn, marksIn, joinsStand, namedTwice, refusesX, refusesN, turned, doesX, doesN, ran, turnUnder, turn}
 use Rattle.model.specs.Grammar.{bytes}
 use Rattle.model.specs.Report.{digits, tail, row, answerRow, lotRows, buyRows, closing}
-use Rattle.model.specs.Engine.{after, answers, run}
+use Rattle.model.specs.Engine.{after, answers, draftTotal, run}
 use Rattle.model.specs.Demand.{Accepted}
 use Rattle.guarantees.specs.Numbers.{digits-le}
-use Rattle.guarantees.specs.Climbs.{representative-on}
-use Rattle.guarantees.specs.Calls.{Legal, legal-call}
+use Rattle.guarantees.specs.Ends.{placed-high}
+use Rattle.guarantees.specs.Calls.{Legal}
 use Rattle.guarantees.specs.Clumps.{representative-in}
 use Rattle.guarantees.specs.Bounds.{connectivity-le}
-use Rattle.guarantees.specs.Loads.{legal-start}
 use Rattle.guarantees.specs.Ranges.{Ranges, accepted-ranges}
-use Rattle.guarantees.specs.Reached.{reached}
-use Rattle.guarantees.specs.StateBounds.{Listed, listed-call}
-use Rattle.guarantees.specs.AnswerBounds.{Bounded, bounded-call, metric-in, vertices-in, blocks-in}
+use Rattle.guarantees.specs.Reached.{Healthy, accepts-X, accepts-N, number-le, healthy-turn, reached}
+use Rattle.guarantees.specs.AnswerBounds.{Bounded, either-le, bounded-call, metric-in, vertices-in, blocks-in}
 
 -- ---- one line
 tail-length : (fs : List (List ℕ)) → length (tail fs) ≡ sumOver fs (λ f. suc (length f)) + 1
@@ -60,6 +60,8 @@ answer-le (saysA j t k m c) b = omega (
   metric-digits m (b .3),
   metric-digits c (b .4),
 )
+answer-le (saysX c) b = omega (arith, row-length "X" (digits c ∷ []), metric-digits c b)
+answer-le (saysN v c) b = omega (arith, row-length "N" (digits v ∷ digits c ∷ []), digits-le 3 v (omega arith), metric-digits c (b .1))
 answer-le (saysNO q) b = omega (arith, row-length "NO" (digits q ∷ []), digits-le 1 q (omega arith))
 
 -- a line of the closing report: a word of three letters, a number of up to four digits and one of up to two
@@ -68,29 +70,30 @@ unfolding sumOver
 line-le word i x three l m = omega (arith, three, row-length word (digits i ∷ digits x ∷ []), digits-le 3 i (omega arith), digits-le 1 x (omega arith))
 
 -- ---- many lines
-fold-length : (n m : ℕ) (f : ℕ → List ℕ) → ((i : ℕ) → 1 ≤ i → i ≤ n → length (f i) ≤ m) → length (foldTo n (λ out i. out ++ f i) []) ≤ m * n
+fold-length : (n m : ℕ) (used : ℕ → Bool) (f : ℕ → List ℕ) → ((i : ℕ) → 1 ≤ i → i ≤ n → length (f i) ≤ m) → length (foldTo n (λ out i. cond (used i) (out ++ f i) out) []) ≤ m * n
 unfolding foldTo
-fold-length zero m f l = omega arith
-fold-length (suc n) m f l = omega (
-  arith,
-  length-append (foldTo n (λ out i. out ++ f i) []) (f (suc n)),
-  fold-length n m f (λ i a b. l i a (omega arith)),
-  l (suc n) (omega arith) (omega arith),
-  mul-suc m n,
-)
+fold-length zero m used f l = omega arith
+fold-length (suc n) m used f l = go (used (suc n)) (fold-length n m used f (λ i a b. l i a (omega arith)))
+  where
+    out : List ℕ
+    out = foldTo n (λ out i. cond (used i) (out ++ f i) out) []
+
+    go : (b : Bool) → length out ≤ m * n → length (cond b (out ++ f (suc n)) out) ≤ m * suc n
+    go true ih = omega (arith, length-append out (f (suc n)), l (suc n) (omega arith) (omega arith), mul-suc m n)
+    go false ih = omega (arith, mul-suc m n)
 
 module _ (limits : Limits) (small : limits .vertexLimit ≤ 1024) (narrow : limits .blockLimit ≤ 16) (h : Hypergraph) (r : Ranges limits h) where
   -- the block of a representative
   block-in : (s : State) → Legal h s → (v : ℕ) → 1 ≤ v → v ≤ vertices h → s .block (representative (s .stack) v) ≤ 16
   block-in s ok v l u =
       let i = representative-in h (s .stack) (ok .sound) (ok .inside) v l u in
-      omega (arith, ok .placed (representative (s .stack) v) (i .0) (i .1) .board (representative-on (s .stack) (ok .sound) v) .1, blocks-in limits small narrow h r)
+      omega (arith, placed-high h (s .stack) (s .block) (ok .placed) (representative (s .stack) v) (i .0) (i .1), blocks-in limits small narrow h r)
 
   lots-le : (s : State) → Legal h s → length (lotRows h s) ≤ 12288
   unfolding lotRows bytes
   lots-le s ok = omega (
     arith,
-    fold-length (vertices h) 12 (λ v. row "LOT" (digits v ∷ digits (s .block (representative (s .stack) v)) ∷ []))
+    fold-length (vertices h) 12 (λ v. inSale h v) (λ v. row "LOT" (digits v ∷ digits (s .block (representative (s .stack) v)) ∷ []))
         (λ v l u. line-le "LOT" v (s .block (representative (s .stack) v)) refl (omega (arith, vertices-in limits small narrow h r)) (block-in s ok v l u)),
     vertices-in limits small narrow h r,
   )
@@ -108,14 +111,14 @@ module _ (limits : Limits) (small : limits .vertexLimit ≤ 1024) (narrow : limi
     nets-le s (suc i) es (omega arith),
   )
 
-  pub closing-le : (s : State) → Legal h s → length (closing h s) ≤ 24600
+  pub closing-le : (draft : ℕ) → draft ≤ 15360000 → (s : State) → Legal h s → length (closing draft h s) ≤ 24600
   unfolding closing sumOver bytes
-  closing-le s ok = omega (
+  closing-le draft low s ok = omega (
     arith,
     length-append (first ++ lotRows h s) (buyRows h s 1 (h .nets)),
     length-append first (lotRows h s),
-    row-length "TOTAL" (digits (metric h [] (fresh h .block)) ∷ digits (metric h (s .stack) (s .block)) ∷ []),
-    metric-digits (metric h [] (fresh h .block)) (metric-in limits small narrow h r _ _),
+    row-length "TOTAL" (digits draft ∷ digits (metric h (s .stack) (s .block)) ∷ []),
+    metric-digits draft low,
     metric-digits (metric h (s .stack) (s .block)) (metric-in limits small narrow h r _ _),
     lots-le s ok,
     nets-le s 1 (h .nets) (omega (arith, r .nets-high)),
@@ -123,25 +126,58 @@ module _ (limits : Limits) (small : limits .vertexLimit ≤ 1024) (narrow : limi
   )
     where
       first : List ℕ
-      first = row "TOTAL" (digits (metric h [] (fresh h .block)) ∷ digits (metric h (s .stack) (s .block)) ∷ [])
+      first = row "TOTAL" (digits draft ∷ digits (metric h (s .stack) (s .block)) ∷ [])
 
-  pub answers-le : (s : State) (calls : List Call) → Legal h s → Listed h (s .journal) → length (answers h s calls) ≤ 41 * length calls
+module _ (limits : Limits) (small : limits .vertexLimit ≤ 1024) (narrow : limits .blockLimit ≤ 16) where
+  -- the answer of every call line
+  turned-bounded : (q : ℕ) (a : Sale) (done : Turn) → q ≤ 25 → (q ≡ 0 → Bounded (done .answer)) → Bounded (turned q a done .answer)
+  unfolding turned
+  turned-bounded zero a done l f = f refl
+  turned-bounded (suc q) a done l f = l
+
+  refusals-X : (h : Hypergraph) (s : State) (v : ℕ) → refusesX h s v ≤ 25
+  unfolding refusesX
+  refusals-X h s v =
+      either-le (not (isVertex h v)) 9 _ 25 (omega arith)
+      (either-le (joinsStand s) 16 _ 25 (omega arith)
+      (either-le (not (onBoard h (s .stack) v)) 10 0 25 (omega arith) (omega arith)))
+
+  refusals-N : (space : Space) (h : Hypergraph) (ceiling : ℕ → ℕ) (s : State) (bales session : ℕ) (buyers : List ℕ) → refusesN space h ceiling s bales session buyers ≤ 25
+  unfolding refusesN
+  refusals-N space h ceiling s bales session buyers =
+      either-le (not (leb 1 bales && leb bales 65535 && isBlock h session && all buyers (isNet h))) 9 _ 25 (omega arith)
+      (either-le (joinsStand s) 16 _ 25 (omega arith)
+      (either-le (namedTwice buyers) 22 _ 25 (omega arith)
+      (either-le (leb (space .lots) (lotsIn h) || ltb (space .marks) (marksIn h + length buyers)) 23 _ 25 (omega arith)
+      (either-le (not (leb (blockWeight h (s .stack) (s .block) session + bales) (ceiling session))) 14 0 25 (omega arith) (omega arith)))))
+
+  pub bounded-turn : (a : Sale) → Healthy limits a → (c : Request) → Bounded (turn limits a c .answer)
+  unfolding turnUnder ran doesX doesN
+  bounded-turn a k (runs c) = bounded-call limits small narrow (a .graph) (k .ranges) (capacities (a .graph)) (a .state) c (k .held .legal) (k .listed)
+  bounded-turn a k (callX v) = turned-bounded (refusesX (a .graph) (a .state) v) a (doesX a v) (refusals-X (a .graph) (a .state) v)
+      (λ q. metric-in limits small narrow _ (accepts-X limits a k v q .ranges) _ _)
+  bounded-turn a k (callN bales session buyers) =
+      turned-bounded (refusesN (spaceOf limits) (a .graph) (capacities (a .graph)) (a .state) bales session buyers) a (doesN a bales session buyers)
+      (refusals-N (spaceOf limits) (a .graph) (capacities (a .graph)) (a .state) bales session buyers)
+      (λ q. let t = accepts-N limits a k bales session buyers q in (omega (arith, number-le limits a k bales session buyers q, t .ranges .vertices-high), metric-in limits small narrow _ (t .ranges) _ _))
+
+  pub answers-le : (a : Sale) (calls : List Request) → Healthy limits a → length (answers limits a calls) ≤ 41 * length calls
   unfolding answers
-  answers-le s [] ok k = omega arith
-  answers-le s (c ∷ cs) ok k = omega (
+  answers-le a [] k = omega arith
+  answers-le a (c ∷ cs) k = omega (
     arith,
-    length-append (answerRow (call h s c .answer)) (answers h (call h s c .state) cs),
-    answer-le (call h s c .answer) (bounded-call limits small narrow h r (capacities h) s c ok k),
-    answers-le (call h s c .state) cs (legal-call h (capacities h) s c ok) (listed-call h (capacities h) s c k),
+    length-append (answerRow (turn limits a c .answer)) (answers limits (turn limits a c .sale) cs),
+    answer-le (turn limits a c .answer) (bounded-turn a k c),
+    answers-le (turn limits a c .sale) cs (healthy-turn limits a k c),
   )
 
-pub report-fits : (limits : Limits) → limits .vertexLimit ≤ 1024 → limits .blockLimit ≤ 16 → (h : Hypergraph) → Accepted limits h → (calls : List Call) → length calls ≤ 512 → length (run h calls) ≤ 60000
-unfolding run fresh
+pub report-fits : (limits : Limits) → limits .vertexLimit ≤ 1024 → limits .blockLimit ≤ 16 → (h : Hypergraph) → Accepted limits h → (calls : List Request) → length calls ≤ 512 → length (run limits h calls) ≤ 60000
+unfolding run after
 report-fits limits small narrow h a calls l =
-    let r = accepted-ranges limits h a in
+    let t = reached limits h a calls in
     omega (
       arith,
-      length-append (answers h (fresh h) calls) (closing h (after h (fresh h) calls)),
-      answers-le limits small narrow h r (fresh h) calls (legal-start limits h (r .loaded)) tt,
-      closing-le limits small narrow h r (after h (fresh h) calls) (reached limits h a calls .legal),
+      length-append (answers limits (opened h) calls) (closing (draftTotal h) (after limits (opened h) calls .graph) (after limits (opened h) calls .state)),
+      answers-le limits small narrow (opened h) calls (reached limits h a []),
+      closing-le limits small narrow (after limits (opened h) calls .graph) (t .ranges) (draftTotal h) (metric-in limits small narrow h (accepted-ranges limits h a) _ _) (after limits (opened h) calls .state) (t .held .legal),
     )

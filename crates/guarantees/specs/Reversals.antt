@@ -31,7 +31,7 @@ module _ (h : Hypergraph) (ceiling : ℕ → ℕ) where
   unfolding refusesM doesM
   apart-M s v t ok q =
       let a = cond-zero (not (isVertex h v && isBlock h t)) 9 _ (omega arith) q in
-      let b = cond-zero (not (onBoard (s .stack) v)) 10 _ (omega arith) (a .1) in
+      let b = cond-zero (not (onBoard h (s .stack) v)) 10 _ (omega arith) (a .1) in
       let c = cond-zero (eqb (s .block v) t) 12 _ (omega arith) (b .1) in
       (λ z. eqb-false (s .block v) t (c .0) (sym z ∙ place-at (s .block) v t), subst (λ (p : ℕ → ℕ). Apart p (s .journal)) (sym (place-back (s .block) v t)) ok)
 

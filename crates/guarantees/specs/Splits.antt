@@ -5,25 +5,26 @@ use Prim.Native.Nat.{ℕ, _≤_}
 use native.Mathlib.Decide.{ℕ-discrete}
 use native.Mathlib.Omega.{arith}
 use mathlib.Core.Path.{_≡_, refl, sym, ap, _∙_}
-use mathlib.Core.Bool.{Bool, true, cond, _&&_}
+use mathlib.Core.Bool.{Bool, true, cond, _&&_, true≢false}
 use mathlib.Core.List.{List, [], _∷_}
 use borrow.Author.Tests.{eq-eqb, ne-eqb}
 use lib.Dec.{eqb}
 use Rattle.laws.specs.Fold.{any, any-ext}
 use Rattle.laws.specs.Sum.{sumTo-change, sumTo-nil, sumTo, sumTo-ext}
 use Rattle.laws.specs.Place.{place, place-at, place-off, place-back, place-twice, place-same}
-use Rattle.model.specs.Catalogue.{Net, Hypergraph, vertices, loaded}
-use Rattle.model.specs.Measure.{Contraction, above, climb, representative, pin, weight, blockWeight, metric, onBoard}
+use Rattle.model.specs.Catalogue.{Net, Hypergraph, vertices, loaded, inSale}
+use Rattle.model.specs.Measure.{Contraction, above, climb, representative, pin, weight, blockWeight, metric, isTop, onBoard}
 use Rattle.model.specs.Machine.{uncontract}
 use Rattle.guarantees.specs.Climbs.{Joins, Sound, above-gone, above-other}
+use Rattle.guarantees.specs.Board.{board-top, board-is, board-under, board-other}
 use Rattle.guarantees.specs.Joins.{metric-join}
 use Rattle.guarantees.specs.Weights.{blockWeight-join}
 use Rattle.guarantees.specs.Ends.{Placed, At}
 
 module _ (h : Hypergraph) where
-  -- a contraction of two vertices of the hypergraph, and a stack of such
+  -- a contraction of two vertices of the hypergraph that are in the sale, and a stack of such
   abbrev pub Inside : Contraction → Type 0
-  Inside c = (1 ≤ c .into) × (c .into ≤ vertices h) × (1 ≤ c .gone) × (c .gone ≤ vertices h)
+  Inside c = (1 ≤ c .into) × (c .into ≤ vertices h) × (1 ≤ c .gone) × (c .gone ≤ vertices h) × (inSale h (c .into) ≡ true) × (inSale h (c .gone) ≡ true)
 
   abbrev pub AllInside : List Contraction → Type 0
   AllInside [] = Unit {0}
@@ -35,12 +36,12 @@ module _ (h : Hypergraph) where
     where
       go : Dec (x ≡ c .gone) → At h (c ∷ cs) (place p (c .gone) 0) x
       go (yes q) = record {
-        board = λ o. absurd (omega (arith, j .real, above-gone cs c x (sym q)));
+        board = λ o. absurd (omega (arith, j .real, above-gone cs c x (sym q), board-top h (c ∷ cs) x o));
         off = λ o. ap (place p (c .gone) 0) q ∙ place-at p (c .gone) 0;
       }
       go (no n) = record {
-        board = λ o. omega (arith, place-off p (c .gone) 0 x n, ok x xl xu .board (sym (above-other cs c x (λ r. n (sym r))) ∙ o));
-        off = λ o. place-off p (c .gone) 0 x n ∙ ok x xl xu .off (λ r. o (above-other cs c x (λ r. n (sym r)) ∙ r));
+        board = λ o. omega (arith, place-off p (c .gone) 0 x n, ok x xl xu .board (sym (board-other h cs c x (λ r. n (sym r))) ∙ o));
+        off = λ o. place-off p (c .gone) 0 x n ∙ ok x xl xu .off (sym (board-other h cs c x (λ r. n (sym r))) ∙ o);
       }
 
   pub into-on : (cs : List Contraction) (c : Contraction) → Joins cs c → above (c ∷ cs) (c .into) ≡ 0
@@ -52,12 +53,12 @@ module _ (h : Hypergraph) where
     where
       go : Dec (x ≡ c .gone) → At h cs (place p (c .gone) (p (c .into))) x
       go (yes q) = record {
-        board = λ o. omega (arith, ap (place p (c .gone) (p (c .into))) q, place-at p (c .gone) (p (c .into)), ok (c .into) (r .0) (r .1) .board (into-on cs c j));
-        off = λ o. absurd (o (ap (above cs) q ∙ j .gone-on));
+        board = λ o. omega (arith, ap (place p (c .gone) (p (c .into))) q, place-at p (c .gone) (p (c .into)), ok (c .into) (r .0) (r .1) .board (board-is h (c ∷ cs) (c .into) (into-on cs c j) (r .4)));
+        off = λ o. absurd (true≢false (sym (board-is h cs (c .gone) (j .gone-on) (r .5)) ∙ ap (onBoard h cs) (sym q) ∙ o));
       }
       go (no n) = record {
-        board = λ o. omega (arith, place-off p (c .gone) (p (c .into)) x n, ok x xl xu .board (above-other cs c x (λ r. n (sym r)) ∙ o));
-        off = λ o. place-off p (c .gone) (p (c .into)) x n ∙ ok x xl xu .off (λ r. o (sym (above-other cs c x (λ r. n (sym r))) ∙ r));
+        board = λ o. omega (arith, place-off p (c .gone) (p (c .into)) x n, ok x xl xu .board (board-other h cs c x (λ r. n (sym r)) ∙ o));
+        off = λ o. place-off p (c .gone) (p (c .into)) x n ∙ ok x xl xu .off (board-other h cs c x (λ r. n (sym r)) ∙ o);
       }
 
 module _ (h : Hypergraph) (cs : List Contraction) (c : Contraction) (s : Sound (c ∷ cs)) (r : Inside h c) (p : ℕ → ℕ) where
@@ -72,7 +73,7 @@ module _ (h : Hypergraph) (cs : List Contraction) (c : Contraction) (s : Sound (
   split-join ok = ap (place (place p (c .gone) (p (c .into))) (c .gone)) (sym zero-there) ∙ place-back p (c .gone) (p (c .into))
     where
       zero-there : p (c .gone) ≡ 0
-      zero-there = ok (c .gone) (r .2) (r .3) .off (λ o. omega (arith, s .0 .real, above-gone cs c (c .gone) refl))
+      zero-there = ok (c .gone) (r .2) (r .3) .off (board-under h (c ∷ cs) (c .gone) (λ o. omega (arith, s .0 .real, above-gone cs c (c .gone) refl)))
 
   pub blockWeight-split : Placed h (c ∷ cs) p → (b : ℕ) → blockWeight h cs (uncontract p c) b ≡ blockWeight h (c ∷ cs) p b
   blockWeight-split ok b =
@@ -111,7 +112,7 @@ pub above-none : (v : ℕ) → above [] v ≡ 0
 unfolding above
 above-none v = refl
 
-pub board-none : (v : ℕ) → onBoard [] v ≡ true
+pub board-none : (v : ℕ) → isTop [] v ≡ true
 unfolding above
 board-none v = refl
 

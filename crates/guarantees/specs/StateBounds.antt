@@ -1,5 +1,5 @@
 -- How large the machine's state gets: the stack is at most one less than the vertices (stack-le), and a call adds at most one to it (stack-call);
--- the journal is no longer than the list of calls (journal-le), and its moves are of vertices that there are (journal-in). Rests on Calls.
+-- a call adds at most one move to the journal (journal-call), whose moves are of vertices that there are (listed-call). Rests on Calls.
 -- Assumes nothing.
 use Prim.Native.Nat.{ℕ, zero, suc, _+_, _-_, _≤_}
 use native.Mathlib.Omega.{arith}
@@ -10,30 +10,35 @@ use borrow.Author.Tests.{eq-eqb, not-false}
 use lib.ListN.{length}
 use Rattle.laws.specs.Choice.{one, and-left, cond-zero}
 use Rattle.laws.specs.Fold.{All}
-use Rattle.laws.specs.Sum.{sumTo-term, sumTo-const}
-use Rattle.model.specs.Catalogue.{Hypergraph, vertices, isVertex, isBlock, capacities}
+use Rattle.laws.specs.Sum.{sumTo-term, countTo-le}
+use Rattle.model.specs.Catalogue.{Hypergraph, vertices, inSale, isVertex, isBlock}
 use Rattle.model.specs.Measure.{Contraction, above, onBoard}
-use Rattle.model.specs.Machine.{Call, callJ, callS, callM, callB, callW, callP, callA, Move, State, Step, fresh, settle, refusesJ, contract, doesJ, refusesM, doesM, doesS, doesB}
-use Rattle.model.specs.Search.{boardSize, refusesW, doesW, doesP, refusesA, doesA, callUnder, call}
-use Rattle.model.specs.Engine.{after}
+use Rattle.model.specs.Machine.{Call, callJ, callS, callM, callB, callW, callP, callA, Move, State, Step, settle, refusesJ, contract, doesJ, refusesM, doesM, doesS, doesB}
+use Rattle.model.specs.Search.{boardSize, refusesW, doesW, doesP, refusesA, doesA, callUnder}
+use Rattle.model.specs.Sale.{lotsIn}
+use Rattle.guarantees.specs.Board.{board-is}
 use Rattle.guarantees.specs.Climbs.{Sound}
 use Rattle.guarantees.specs.Calls.{Inside, AllInside, into-on, board-join, vertex-range}
 
 module _ (h : Hypergraph) where
-  -- every contraction takes one vertex off the board
-  pub board-stack : (cs : List Contraction) → Sound cs → AllInside h cs → boardSize h cs + length cs ≡ vertices h
-  unfolding boardSize above
-  board-stack [] s a = omega (arith, sumTo-const (vertices h) 1)
-  board-stack (c ∷ cs) s a = omega (arith, board-stack cs (s .1) (a .1), board-join h cs c (s .0) (a .0 .2) (a .0 .3))
+  -- every contraction takes one vertex off the board, on which all vertices in the sale were
+  pub board-stack : (cs : List Contraction) → Sound cs → AllInside h cs → boardSize h cs + length cs ≡ lotsIn h
+  unfolding boardSize above lotsIn
+  board-stack [] s a = omega arith
+  board-stack (c ∷ cs) s a = omega (arith, board-stack cs (s .1) (a .1), board-join h cs c (s .0) (a .0 .5) (a .0 .2) (a .0 .3))
+
+  pub lots-le : lotsIn h ≤ vertices h
+  unfolding lotsIn
+  lots-le = countTo-le (vertices h) (λ v. inSale h v)
 
   -- and leaves one there
   board-some : (cs : List Contraction) (c : Contraction) → Sound (c ∷ cs) → Inside h c → 1 ≤ boardSize h (c ∷ cs)
   unfolding boardSize
-  board-some cs c s r = omega (arith, sumTo-term (vertices h) (c .into) (λ x. one (onBoard (c ∷ cs) x)) (r .0) (r .1), ap one (eq-eqb (above (c ∷ cs) (c .into)) 0 (into-on h cs c (s .0))))
+  board-some cs c s r = omega (arith, sumTo-term (vertices h) (c .into) (λ x. one (onBoard h (c ∷ cs) x)) (r .0) (r .1), ap one (board-is h (c ∷ cs) (c .into) (into-on h cs c (s .0)) (r .4)))
 
   pub stack-le : (cs : List Contraction) → Sound cs → AllInside h cs → length cs ≤ vertices h - 1
   stack-le [] s a = omega arith
-  stack-le (c ∷ cs) s a = omega (arith, board-stack (c ∷ cs) s a, board-some cs c s (a .0))
+  stack-le (c ∷ cs) s a = omega (arith, board-stack (c ∷ cs) s a, board-some cs c s (a .0), lots-le)
 
   -- ---- one call
 
@@ -91,20 +96,8 @@ module _ (h : Hypergraph) where
     after-call n ceiling s callP k = empty (suc n)
     after-call n ceiling s callA k = settled n (refusesA h s (s .stack)) s (doesA h ceiling s) k (λ _. empty (suc n))
 
-    after-all : (n : ℕ) (s : State) (calls : List Call) → Q n (s .journal) → Q (n + length calls) (after h s calls .journal)
-    unfolding after
-    after-all n s [] k = subst (λ (m : ℕ). Q m (s .journal)) (zero-more n) k
-      where
-        zero-more : (n : ℕ) → n ≡ n + 0
-        zero-more n = omega arith
-    after-all n s (c ∷ cs) k = subst (λ (m : ℕ). Q m (after h (call h s c .state) cs .journal)) (one-more n (length cs)) (after-all (suc n) (call h s c .state) cs (after-call n (capacities h) s c k))
-      where
-        one-more : (n m : ℕ) → suc n + m ≡ n + suc m
-        one-more n m = omega arith
-
-  pub journal-le : (calls : List Call) → length (after h (fresh h) calls .journal) ≤ length calls
-  unfolding fresh
-  journal-le calls = omega (arith, after-all (λ n ms. length ms ≤ n) (λ n. omega arith) (λ n ms l. omega arith) (λ n ceiling s v t _ l. omega arith) (λ n m ms l. omega arith) 0 (fresh h) calls (omega arith))
+  pub journal-call : (n : ℕ) (ceiling : ℕ → ℕ) (s : State) (c : Call) → length (s .journal) ≤ n → length (callUnder h ceiling s c .state .journal) ≤ suc n
+  journal-call n ceiling s c k = after-call (λ n ms. length ms ≤ n) (λ n. omega arith) (λ n ms l. omega arith) (λ n ceiling s v t _ l. omega arith) (λ n m ms l. omega arith) n ceiling s c k
 
   -- the moves of a journal are of vertices that there are
   abbrev pub Listed : List Move → Type 0
@@ -116,7 +109,3 @@ module _ (h : Hypergraph) where
 
   pub listed-call : (ceiling : ℕ → ℕ) (s : State) (c : Call) → Listed (s .journal) → Listed (callUnder h ceiling s c .state .journal)
   listed-call ceiling s c k = after-call (λ n ms. Listed ms) (λ n. tt) (λ n ms k. k) (λ n. listed-more) (λ n m ms k. k .1) 0 ceiling s c k
-
-  pub journal-in : (calls : List Call) → Listed (after h (fresh h) calls .journal)
-  unfolding fresh
-  journal-in calls = after-all (λ n ms. Listed ms) (λ n. tt) (λ n ms k. k) (λ n. listed-more) (λ n m ms k. k .1) 0 (fresh h) calls tt

@@ -1,6 +1,6 @@
 -- A kept lot stays where its grower wants it (M-104): after every list of calls the vertex that represents a fixed vertex of the catalogue is in that
 -- vertex's block of the draft (fixed-stays), under any ceilings. Rests on Fixed and Caps. Assumes nothing.
-use Prim.Native.Nat.{ℕ, zero, suc, _*_, _≤_}
+use Prim.Native.Nat.{ℕ, zero, suc, _-_, _*_, _≤_}
 use native.Mathlib.Decide.{ℕ-discrete}
 use native.Mathlib.Omega.{arith}
 use mathlib.Core.Path.{_≡_, refl, sym, ap, ap₂, _∙_, subst}
@@ -9,23 +9,28 @@ use mathlib.Core.List.{List, [], _∷_}
 use borrow.Author.Tests.{eq-eqb, not-true}
 use lib.Dec.{eqb, ltb}
 use lib.IntN.{pos}
+use lib.ListN.{drop}
 use Rattle.laws.specs.Choice.{and-left, and-right, cond-yes, cond-no, cond-zero}
 use Rattle.laws.specs.Place.{place, place-at, place-off}
-use Rattle.model.specs.Catalogue.{Hypergraph, Limits, vertices, drafted, fixedEntry, isVertex, isBlock, capacities}
+use Rattle.model.specs.Catalogue.{Net, Hypergraph, Limits, vertices, drafted, fixedEntry, isVertex, isBlock, capacities}
 use Rattle.model.specs.Measure.{Contraction, climb, onBoard, representative, isFixed}
 use Rattle.model.specs.Machine.{Call, callJ, callS, callM, callB, callW, callP, callA, Move, State, Step, fresh, settle, refusesJ, contract, doesJ, refusesM, doesM, uncontract, doesS, doesB}
-use Rattle.model.specs.Search.{Best, none, best, Coarse, Fine, rating, canGo, canJoin, joinBest, joinTurn, boardSize, coarsen, refine, refusesW, doesW, doesP, refusesA, doesA, callUnder, call}
+use Rattle.model.specs.Search.{Best, none, best, Coarse, Fine, rating, canGo, canJoin, joinBest, joinTurn, boardSize, coarsen, refine, refusesW, doesW, doesP, refusesA, doesA, callUnder}
+use Rattle.model.specs.Sale.{Request, runs, callX, callN, Sale, opened, spaceOf, netsWithout, netsWith, changedAt, withdrawn, added, numberFor, refusesX, refusesN, doesX, doesN, ran, turnUnder, turn}
 use Rattle.model.specs.Engine.{after}
-use Rattle.model.specs.Demand.{Accepted}
+use Rattle.model.specs.Demand.{Accepted, reachedBy}
 use Rattle.guarantees.specs.Climbs.{Sound, representative-join}
+use Rattle.guarantees.specs.Splits.{representative-none}
 use Rattle.guarantees.specs.Fixed.{fixed-by}
 use Rattle.guarantees.specs.Tops.{Top, best-top}
 use Rattle.guarantees.specs.Ends.{Placed, Pair}
 use Rattle.guarantees.specs.Walks.{walked-metric}
-use Rattle.guarantees.specs.Calls.{Legal, coarsened, can-join, AllInside, placed-split, legal-J, legal-call}
+use Rattle.guarantees.specs.Calls.{Legal, coarsened, can-join, AllInside, placed-split, legal-J}
 use Rattle.guarantees.specs.Contractions.{one-block}
 use Rattle.guarantees.specs.Caps.{walked-keeps, polished-keeps}
-use Rattle.guarantees.specs.Reached.{reached}
+use Rattle.guarantees.specs.Reached.{Healthy, turned-keeps, X-told, N-told, healthy-turn, reached}
+use Rattle.guarantees.specs.Changes.{put-at, put-other}
+use Rattle.guarantees.specs.Changed.{known, drafted-other}
 
 module _ (h : Hypergraph) where
   -- each fixed vertex of the catalogue is represented in its block of the draft
@@ -96,7 +101,7 @@ module _ (h : Hypergraph) where
   module _ (ceiling : ℕ → ℕ) where
     stays-go : (cs : List Contraction) (p : ℕ → ℕ) (v t : ℕ) → Stays cs p → Pair h cs v t → canGo h ceiling cs p v t ≡ true → Stays cs (place p v t)
     unfolding canGo
-    stays-go cs p v t s r q = stays-move cs p v t (not-true _ (and-right (onBoard cs v) _ (and-left _ _ (and-left _ _ q)))) s
+    stays-go cs p v t s r q = stays-move cs p v t (not-true _ (and-right (onBoard h cs v) _ (and-left _ _ (and-left _ _ q)))) s
 
     refine-stays : (cs : List Contraction) (f : Fine) → Sound cs → AllInside h cs → Placed h cs (f .block) → Stays cs (f .block) → Stays [] (refine h ceiling cs f .block)
     unfolding refine
@@ -139,7 +144,7 @@ module _ (h : Hypergraph) where
     unfolding refusesM doesM
     kept-M s v t k q =
         let a = cond-zero (not (isVertex h v && isBlock h t)) 9 _ (omega arith) q in
-        let b = cond-zero (not (onBoard (s .stack) v)) 10 _ (omega arith) (a .1) in
+        let b = cond-zero (not (onBoard h (s .stack) v)) 10 _ (omega arith) (a .1) in
         let c = cond-zero (eqb (s .block v) t) 12 _ (omega arith) (b .1) in
         let x = cond-zero (isFixed h (s .stack) v) 20 _ (omega arith) (c .1) in
         record { stays = stays-move (s .stack) (s .block) v t (x .0) (k .stays); unfixed = (x .0, k .unfixed) }
@@ -177,16 +182,63 @@ module _ (h : Hypergraph) where
     kept-call s callP ok k = record { stays = polished-keeps h ceiling (s .stack) (Stays (s .stack)) (stays-go (s .stack)) (s .block) (k .stays); unfixed = tt }
     kept-call s callA ok k = settled (refusesA h s (s .stack)) s (doesA h ceiling s) k (kept-A s (s .stack) refl ok k)
 
-  kept-after : (s : State) (calls : List Call) → Legal h s → Kept (capacities h) s → Kept (capacities h) (after h s calls)
-  unfolding after
-  kept-after s [] ok k = k
-  kept-after s (c ∷ cs) ok k = kept-after (call h s c .state) cs (legal-call h (capacities h) s c ok) (kept-call (capacities h) s c ok k)
-
   kept-fresh : Kept (capacities h) (fresh h)
   unfolding fresh representative climb
   kept-fresh = record { stays = λ x l u e. refl; unfixed = tt }
 
--- after every list of calls a kept lot stands in its session of the draft
-pub fixed-stays : (limits : Limits) (h : Hypergraph) → Accepted limits h → (calls : List Call) → Stays h (after h (fresh h) calls .stack) (after h (fresh h) calls .block)
-unfolding after
-fixed-stays limits h a calls = kept-after h (fresh h) calls (reached limits h a [] .legal) (kept-fresh h) .stays
+-- ---- a sale: a kept lot of the present catalogue stands in its session of the loaded draft
+module _ (limits : Limits) (h₀ : Hypergraph) where
+  pub record KeptIn (a : Sale) : Type 0 where
+    pub kept : Kept (a .graph) (capacities (a .graph)) (a .state)
+    pub drafts : (x : ℕ) → 1 ≤ x → x ≤ vertices (a .graph) → fixedEntry (a .graph) x ≡ 1 → drafted (a .graph) x ≡ drafted h₀ x
+
+  module _ (a : Sale) (healthy : Healthy limits a) (k : KeptIn a) (none : a .state .stack ≡ []) (v bales session : ℕ) (nets : List Net) (vl : 1 ≤ v) (vu : v ≤ suc (vertices (a .graph))) where
+    abbrev h : Hypergraph
+    h = a .graph
+
+    abbrev next : Hypergraph
+    next = changedAt h (a .state .block) v bales session nets
+
+    not-fixed : fixedEntry next v ≡ 0
+    unfolding changedAt
+    not-fixed = put-at (h .fixed) (v - 1) 0 (omega (arith, healthy .ranges .loaded .fixed-long))
+
+    fixed-other : (x : ℕ) → 1 ≤ x → (x ≡ v → ⊥) → fixedEntry next x ≡ fixedEntry h x
+    unfolding changedAt
+    fixed-other x l n = put-other (h .fixed) (v - 1) 0 (x - 1) (omega (arith, healthy .ranges .loaded .fixed-long)) (λ e. n (omega arith))
+
+    still : (x : ℕ) → 1 ≤ x → x ≤ vertices h → fixedEntry h x ≡ 1 → a .state .block x ≡ drafted h x
+    still x l u q = ap (a .state .block) (sym (representative-none x)) ∙ subst (λ (cs : List Contraction). Stays h cs (a .state .block)) none (k .kept .stays) x l u q
+
+    kept-change : (free : List ℕ) → KeptIn (record { graph = next; free = free; changed = true; state = fresh next })
+    kept-change free = record {
+      kept = kept-fresh next;
+      drafts = λ x l u q. go x l u q (ℕ-discrete x v);
+    }
+      where
+        go : (x : ℕ) → 1 ≤ x → x ≤ vertices next → fixedEntry next x ≡ 1 → Dec (x ≡ v) → drafted next x ≡ drafted h₀ x
+        go x l u q (yes e) = absurd (omega (arith, q, ap (fixedEntry next) e, not-fixed))
+        go x l u q (no n) =
+            let w = known h (a .state .block) v bales session nets vl vu x u n in
+            let f = sym (fixed-other x l n) ∙ q in
+            drafted-other h (a .state .block) v bales session nets vl vu x l w n ∙ still x l w f ∙ k .drafts x l w f
+
+  kept-turn : (a : Sale) → Healthy limits a → KeptIn a → (c : Request) → KeptIn (turn limits a c .sale)
+  unfolding turnUnder ran doesX doesN withdrawn added
+  kept-turn a healthy k (runs c) = record { kept = kept-call (a .graph) (capacities (a .graph)) (a .state) c (healthy .held .legal) (k .kept); drafts = k .drafts }
+  kept-turn a healthy k (callX v) = turned-keeps limits KeptIn (refusesX (a .graph) (a .state) v) a (doesX a v) k
+      (λ q. let t = X-told limits a healthy v q in kept-change a healthy k (t .0) v 0 0 (netsWithout v (a .graph .nets)) (t .1) (omega (arith, t .2)) (v ∷ a .free))
+  kept-turn a healthy k (callN bales session buyers) =
+      turned-keeps limits KeptIn (refusesN (spaceOf limits) (a .graph) (capacities (a .graph)) (a .state) bales session buyers) a (doesN a bales session buyers) k
+      (λ q. let t = N-told limits a healthy bales session buyers q in
+      kept-change a healthy k (t .0) (numberFor (a .graph) (a .free)) bales session (netsWith (numberFor (a .graph) (a .free)) buyers 1 (a .graph .nets)) (t .1) (t .2) (drop 1 (a .free)))
+
+  kept-after : (a : Sale) (calls : List Request) → Healthy limits a → KeptIn a → KeptIn (after limits a calls)
+  unfolding after
+  kept-after a [] healthy k = k
+  kept-after a (c ∷ cs) healthy k = kept-after (turn limits a c .sale) cs (healthy-turn limits a healthy c) (kept-turn a healthy k c)
+
+  -- after every list of call lines a kept lot, not withdrawn since, stands in its session of the draft
+  pub fixed-stays : Accepted limits h₀ → (calls : List Request) → KeptIn (reachedBy limits h₀ calls)
+  unfolding after
+  fixed-stays a calls = kept-after (opened h₀) calls (reached limits h₀ a []) (record { kept = kept-fresh h₀; drafts = λ x l u q. refl })

@@ -15,11 +15,11 @@ use Rattle.laws.specs.Sum.{countTo, sumTo-change, countTo-full}
 use Rattle.laws.specs.Fold.{any}
 use Rattle.laws.specs.Place.{place, place-back}
 use Rattle.model.specs.Catalogue.{Hypergraph, vertices}
-use Rattle.model.specs.Measure.{Contraction, above, heaviest, metric, gain}
+use Rattle.model.specs.Measure.{Contraction, onBoard, heaviest, metric, gain}
 use Rattle.model.specs.Machine.{Move}
 use Rattle.model.specs.Search.{Best, none, best, Worth, Walk, isKept, worthOf, isOpen, walkBest, walkMove, walkTurn, walkOn, walk, walked, reversed, patience}
 use Rattle.guarantees.specs.Tops.{Top, best-top}
-use Rattle.guarantees.specs.Ends.{Placed, Pair, placed-move, can-on}
+use Rattle.guarantees.specs.Ends.{Placed, Pair, placed-move, can-board}
 use Rattle.guarantees.specs.Kept.{kept-says, kept-not, kept-self, kept-above, kept-below}
 
 pub reversed-none : (ms : List Move) (p : ℕ → ℕ) → reversed 0 ms p ≡ p
@@ -95,7 +95,7 @@ module _ (h : Hypergraph) (cs : List Contraction) where
       worth = cond b now (w .worth);
     }
 
-    module _ (p : ℕ → ℕ) (g : Going p w) (on : above cs v ≡ 0) (tl : 1 ≤ t) (tu : t ≤ h .blocks) where
+    module _ (p : ℕ → ℕ) (g : Going p w) (on : onBoard h cs v ≡ true) (tl : 1 ≤ t) (tu : t ≤ h .blocks) where
       -- a fact of each prefix: of the new one, and of the old ones
       each : (P : (ℕ → ℕ) → Type 0) → P (place (w .block) v t) → ((i : ℕ) → i ≤ w .tried → P (prefix w i)) → (i : ℕ) → i ≤ suc (w .tried) → P (after i)
       each P new old i l = go (ℕ-discrete i (suc (w .tried)))
@@ -159,9 +159,9 @@ module _ (h : Hypergraph) (ceiling : ℕ → ℕ) (cs : List Contraction) where
   unfolding isOpen
   still w v t o = not-true _ (and-right (w .candidate v) _ (and-left _ _ o))
 
-  pub open-on : (w : Walk) (v t : ℕ) → isOpen h ceiling cs w v t ≡ true → above cs v ≡ 0
+  pub open-on : (w : Walk) (v t : ℕ) → isOpen h ceiling cs w v t ≡ true → onBoard h cs v ≡ true
   unfolding isOpen
-  open-on w v t o = can-on h ceiling cs (w .block) v t (and-right (w .candidate v && not (moved h cs w v)) _ o)
+  open-on w v t o = can-board h ceiling cs (w .block) v t (and-right (w .candidate v && not (moved h cs w v)) _ o)
 
   -- every vertex has moved: no pair is open
   none-left : (w : Walk) → vertices h ≤ countTo (vertices h) (moved h cs w) → walkBest h ceiling cs w ≡ none

@@ -12,9 +12,8 @@ use Rattle.laws.specs.Choice.{cond-le}
 use Rattle.laws.specs.Fold.{sumOver, sumOver-le}
 use Rattle.laws.specs.Sum.{sumTo, sumTo-list, sumTo-mono, sumTo-swap, sumTo-once}
 use Rattle.model.specs.Catalogue.{Limits, Hypergraph, vertices, loaded, averageWeight, capacity}
-use Rattle.model.specs.Measure.{Contraction, onBoard, representative, weight, blockWeight}
+use Rattle.model.specs.Measure.{Contraction, isTop, representative, weight, blockWeight}
 use Rattle.guarantees.specs.Capacity.{nearest-le}
-use Rattle.guarantees.specs.Loads.{sum-below}
 use Rattle.guarantees.specs.Ranges.{Ranges}
 
 module _ (h : Hypergraph) where
@@ -47,7 +46,7 @@ module _ (h : Hypergraph) where
     blockWeight-le p b = omega (
       arith,
       all-weights,
-      sumTo-mono (vertices h) (λ u. cond (onBoard cs u && eqb (p u) b) (weight h cs u) 0) (weight h cs) (λ u _ _. cond-le (onBoard cs u && eqb (p u) b) (weight h cs u) (weight h cs u) (omega arith)),
+      sumTo-mono (vertices h) (λ u. cond (isTop cs u && eqb (p u) b) (weight h cs u) 0) (weight h cs) (λ u _ _. cond-le (isTop cs u && eqb (p u) b) (weight h cs u) (weight h cs u) (omega arith)),
     )
 
 -- ⌈w/k⌉ for k from 2 on: twice it is at most w + 1
@@ -61,11 +60,10 @@ half w k l = go ((w + (k - 1)) / k) (div-mul-le-self (w + (k - 1)) k)
 module _ (limits : Limits) (small : limits .vertexLimit ≤ 1024) (h : Hypergraph) (r : Ranges limits h) where
   pub loaded-le : loadedWeight h ≤ 67107840
   unfolding loadedWeight
-  loaded-le = omega (arith, sumOver-le (h .weights) _ (λ w. w) 65535 (r .loaded .weights-in) (λ w i. i .1), r .vertices-high)
+  loaded-le = omega (arith, sumOver-le (h .weights) _ (λ w. w) 65535 (r .loaded .weights-in) (λ w i. i), r .vertices-high)
 
   pub total-le : h .totalWeight ≤ 67107840
-  unfolding loadedWeight
-  total-le = omega (arith, loaded-le, r .loaded .total-is, sum-below (h .lows) (h .weights) (r .loaded .lows-long) (r .loaded .lows-in))
+  total-le = omega (arith, r .total-high)
 
   pub average-le : averageWeight h ≤ 33553920
   unfolding averageWeight

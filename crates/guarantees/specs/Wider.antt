@@ -1,5 +1,5 @@
--- What one entry accepts, an entry with wider limits reads alike (wider-reads), and so its report is the same (wider-report). Rests on model's Grammar and
--- Engine. Assumes nothing.
+-- What one entry accepts, an entry with wider limits reads alike (wider-reads). Its report may differ where an N is refused by 23 at one of them. Rests on
+-- model's Grammar. Assumes nothing.
 use Prim.Native.Nat.{ℕ, suc, _≤_}
 use native.Mathlib.Omega.{arith}
 use mathlib.Core.Path.{_≡_, refl, sym, ap, _∙_}
@@ -11,7 +11,6 @@ use lib.ListN.{length}
 use Rattle.laws.specs.Choice.{and-left, and-right}
 use Rattle.model.specs.Catalogue.{Limits}
 use Rattle.model.specs.Grammar.{Fields, at, fields, isLineOf, within, Book, Reading, unread, reading, stopped, saleLine, line, ending, lines, parts, parse}
-use Rattle.model.specs.Engine.{outcome, engine}
 
 -- once turned down, a file stays so
 stays : (limits : Limits) (n q m : ℕ) (ls : List (List ℕ)) → lines limits n (stopped q m) ls ≡ stopped q m
@@ -79,7 +78,3 @@ module _ (limits wide : Limits) (lots : limits .vertexLimit ≤ wide .vertexLimi
       go : (b : Bool) → cond b (stopped 1 0) (lines limits 1 unread (parts 10 file)) ≡ reading k → cond b (stopped 1 0) (lines wide 1 unread (parts 10 file)) ≡ reading k
       go true q = q
       go false q = wider-lines 1 unread (parts 10 file) k q
-
-  pub wider-report : (file : List ℕ) (k : Book) → parse limits file ≡ reading k → engine wide file ≡ engine limits file
-  unfolding engine
-  wider-report file k q = ap outcome (wider-reads file k q ∙ sym q)

@@ -185,7 +185,7 @@ distinct-more l x d q i j hi hj e = go (ℕ-discrete i (length l)) (ℕ-discrete
         d i j li lj (here i li ∙ sym (old i li) ∙ e ∙ old j lj ∙ sym (here j lj))
 
 -- ---- a whole list whose numbers are distinct: each stands in it once or not at all
-occ-list : (l : List ℕ) (v : ℕ) → occ l 0 (length l) v ≡ sumOver l (λ x. one (eqb x v))
+pub occ-list : (l : List ℕ) (v : ℕ) → occ l 0 (length l) v ≡ sumOver l (λ x. one (eqb x v))
 unfolding occ same
 occ-list l v = sum-ext (length l) _ (λ i. one (eqb (getD l i 0) v)) (λ i _. ap (λ (j : ℕ). one (eqb (getD l j 0) v)) (zero-add i)) ∙ sum-list l 0 (λ x. one (eqb x v))
 

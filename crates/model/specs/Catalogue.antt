@@ -24,7 +24,7 @@ pub record Net : Type 0 where
   pub pins : List ℕ
 
 -- vertex: a lot. block: a session. imbalance: the slack in thousandths.
--- totalWeight: W, the bales that the catalogue's lines announce, all together: in an estimate the lows (M-109).
+-- totalWeight: W, the bales that the catalogue's lines announce, all together: in an estimate the lows (M-109). Withdrawn and late lots leave it (M-111).
 -- lows, weights: the least and the most bales of the lots 1, 2, ..; in a sale that is no estimate both are the bales of its line. All but W goes by
 -- the most, which are the loaded bales. draft: their sessions in the file; fixed: 1 for each lot that is kept, else 0 (M-104);
 -- nets: the buyers 1, 2, ..
@@ -58,13 +58,21 @@ drafted h v = getD (h .draft) (v - 1) 0
 abbrev pub fixedEntry : Hypergraph → ℕ → ℕ
 fixedEntry h v = getD (h .fixed) (v - 1) 0
 
--- the lot is known
+-- the lot is in the sale: a lot of the file has at least 1 bale, and a withdrawn one has 0 (M-111)
+abbrev pub inSale : Hypergraph → ℕ → Bool
+inSale h v = ltb 0 (loaded h v)
+
+-- the lot is known: a number is so from its first use for good
 abbrev pub isVertex : Hypergraph → ℕ → Bool
 isVertex h v = leb 1 v && leb v (vertices h)
 
 -- the session is known
 abbrev pub isBlock : Hypergraph → ℕ → Bool
 isBlock h b = leb 1 b && leb b (h .blocks)
+
+-- the buyer is known
+abbrev pub isNet : Hypergraph → ℕ → Bool
+isNet h e = leb 1 e && leb e (length (h .nets))
 
 -- ⌈W/k⌉
 unfoldable pub averageWeight : Hypergraph → ℕ

@@ -28,5 +28,5 @@ module _ (cs : List Contraction) (block : ℕ → ℕ) where
 -- the gain table's entry of every lot on the board to every other session
 abbrev pub ClumpGains : Hypergraph → State → Tables → Type 0
 ClumpGains h s tables =
-    (v t : ℕ) → 1 ≤ v → v ≤ vertices h → onBoard (s .stack) v ≡ true → 1 ≤ t → t ≤ h .blocks → (s .block v ≡ t → ⊥)
+    (v t : ℕ) → 1 ≤ v → v ≤ vertices h → onBoard h (s .stack) v ≡ true → 1 ≤ t → t ≤ h .blocks → (s .block v ≡ t → ⊥)
     → getD (tables .gains) (16 * (v - 1) + (t - 1)) (pos 0) ≡ pos (unjoinedTotal h (inClumps (s .stack) (s .block))) -ℤ pos (unjoinedTotal h (clumpTo (s .stack) (s .block) v t))

@@ -8,8 +8,9 @@ use lib.ListN.{length, getD}
 use Rattle.laws.specs.Occurrence.{occ}
 use Rattle.model.specs.Catalogue.{Limits, Hypergraph, capacities}
 use Rattle.model.specs.Measure.{Contraction, metric}
-use Rattle.model.specs.Machine.{Call, callJ, callS, callM, callB, callW, callP, callA, Move, State, fresh}
-use Rattle.model.specs.Search.{call, WithinCeiling, LocallyBest}
+use Rattle.model.specs.Machine.{Call, callJ, callS, callM, callB, callW, callP, callA, Move, State}
+use Rattle.model.specs.Search.{WithinCeiling, LocallyBest}
+use Rattle.model.specs.Sale.{Request, runs, callX, callN, Sale, opened, turn, totalOf}
 use Rattle.model.specs.Grammar.{Book, reading, parse}
 use Rattle.model.specs.Report.{refusal}
 use Rattle.model.specs.Engine.{after, answers}
@@ -40,15 +41,19 @@ metricIn h s = metric h (s .stack) (s .block)
 abbrev pub WithinCapacity : Hypergraph → State → Type 0
 WithinCapacity h s = WithinCeiling h (capacities h) s
 
--- the machine's half: what holds of its own states, from a fresh one on
-pub record MachineHalf (h : Hypergraph) (calls : List Call) : Type 0 where
-  pub within-capacity : WithinCapacity h (after h (fresh h) calls)
+-- the sale that a list of call lines from loading leads to
+abbrev pub reachedBy : Limits → Hypergraph → List Request → Sale
+reachedBy limits h calls = after limits (opened h) calls
+
+-- the machine's half: what holds of its own states, from a fresh one on. In the list X and N may stand: the catalogue is then the one that they left
+pub record MachineHalf (limits : Limits) (h : Hypergraph) (calls : List Request) : Type 0 where
+  pub within-capacity : WithinCapacity (reachedBy limits h calls .graph) (reachedBy limits h calls .state)
   -- an accepted W, P or A anywhere in the list does not end higher than it began
-  pub never-higher : (before later : List Call) (c : Call) → calls ≡ before ++ (c ∷ later) → searches c ≡ true → refusal (call h (after h (fresh h) before) c .answer) ≡ 0
-      → metricIn h (call h (after h (fresh h) before) c .state) ≤ metricIn h (after h (fresh h) before)
+  pub never-higher : (before later : List Request) (c : Call) → calls ≡ before ++ (runs c ∷ later) → searches c ≡ true → refusal (turn limits (reachedBy limits h before) (runs c) .answer) ≡ 0
+      → totalOf (turn limits (reachedBy limits h before) (runs c) .sale) ≤ totalOf (reachedBy limits h before)
   -- and after an accepted A no single move with space lowers the total
-  pub locally-best : (before later : List Call) → calls ≡ before ++ (callA ∷ later) → refusal (call h (after h (fresh h) before) callA .answer) ≡ 0
-      → LocallyBest h (capacities h) (call h (after h (fresh h) before) callA .state)
+  pub locally-best : (before later : List Request) → calls ≡ before ++ (runs callA ∷ later) → refusal (turn limits (reachedBy limits h before) (runs callA) .answer) ≡ 0
+      → LocallyBest (reachedBy limits h before .graph) (capacities (reachedBy limits h before .graph)) (turn limits (reachedBy limits h before) (runs callA) .sale .state)
 
 -- ---- a list of calls on lent memory
 -- what stands before, between and after calls: the lent tables, the stack of joins and the record of moves, the latest first
@@ -60,11 +65,11 @@ pub record Standing : Type 0 where
 abbrev pub standing : Tables → List Contraction → List Move → Standing
 standing t stack journal = record { tables = t; stack = stack; journal = journal }
 
--- it is what a state of the machine says, where `old` is what the tables held before loading
-pub record Stands (h : Hypergraph) (old : Tables) (s : State) (x : Standing) : Type 0 where
-  pub tables : Holds h s old (x .tables)
-  pub joins : x .stack ≡ s .stack
-  pub moves : x .journal ≡ s .journal
+-- it is what a sale says, where `old` is what the tables held before loading
+pub record Stands (old : Tables) (a : Sale) (x : Standing) : Type 0 where
+  pub tables : Holds a old (x .tables)
+  pub joins : x .stack ≡ a .state .stack
+  pub moves : x .journal ≡ a .state .journal
 
 -- each buyer's present marks are its loaded ones: as many, and every number as often
 pub record LoadedSets (h : Hypergraph) (t : Tables) : Type 0 where
@@ -75,13 +80,13 @@ pub record LoadedSets (h : Hypergraph) (t : Tables) : Type 0 where
 -- Demand 3, of every accepted catalogue and every list of at most 512 calls, from a fresh machine and from tables as loading left them.
 -- `old` is what the tables held before loading; `left` is what stands after the calls, `lines` are the answers' bytes, whose totals are
 -- the machine's, and `total` is the one that the closing report prints
-pub record Demand3 (limits : Limits) (h : Hypergraph) (calls : List Call) (old : Tables) (left : Standing) (lines : List ℕ) (total : ℕ) : Type 0 where
+pub record Demand3 (limits : Limits) (h : Hypergraph) (calls : List Request) (old : Tables) (left : Standing) (lines : List ℕ) (total : ℕ) : Type 0 where
   pub accepted : Accepted limits h
   pub few : length calls ≤ 512
   -- joins, record of moves and every entry of the tables are the machine's
-  pub stands : Stands h old (after h (fresh h) calls) left
-  -- with no join standing the mark sets are the loaded ones
-  pub unjoined : left .stack ≡ [] → LoadedSets h (left .tables)
-  pub answered : lines ≡ answers h (fresh h) calls
-  pub total-is : total ≡ metricIn h (after h (fresh h) calls)
-  pub machine : MachineHalf h calls
+  pub stands : Stands old (reachedBy limits h calls) left
+  -- with no join standing the mark sets are the loaded ones, less withdrawals plus additions
+  pub unjoined : left .stack ≡ [] → LoadedSets (reachedBy limits h calls .graph) (left .tables)
+  pub answered : lines ≡ answers limits (opened h) calls
+  pub total-is : total ≡ totalOf (reachedBy limits h calls)
+  pub machine : MachineHalf limits h calls

@@ -9,8 +9,9 @@ use Rattle.laws.specs.Fold.{sumOver, any, all}
 use Rattle.model.specs.Catalogue.{Hypergraph, mainLimits, fineLimits, averageWeight, nearest, capacity}
 use Rattle.model.specs.Measure.{above, climb, representative, weight, blockWeight}
 use Rattle.model.specs.Machine.{callM, callW}
+use Rattle.model.specs.Sale.{runs}
 use Rattle.model.specs.Report.{digitsOf, digits}
-use Rattle.model.specs.Grammar.{Reading, reading, stopped, marked, wrong, bytes, same, parts, isNumber, onward, value, fields, isLine, saleLine, overfull, grown, withLot, endsInK, beforeK, lotLine, mark, marking, withNet, netRead, buyLine, asked, withCall, callLine, line, ending, lines, parse}
+use Rattle.model.specs.Grammar.{Reading, reading, stopped, marked, wrong, bytes, same, parts, isNumber, onward, value, fields, isLine, saleLine, overfull, grown, withLot, endsInK, beforeK, lotLine, mark, marking, withNet, netRead, buyLine, values, asked, withCall, callLine, line, ending, lines, parse}
 
 -- a text, so many times
 unfoldable pub many : ℕ → List ℕ → List ℕ
@@ -110,9 +111,9 @@ pub edges :
       buyers = 1;
       graph = record { blocks = 16; imbalance = 1000; totalWeight = 1; lows = 1 ∷ []; weights = 1 ∷ []; draft = 16 ∷ []; fixed = 0 ∷ []; nets = record { weight = 1000; pins = 1 ∷ [] } ∷ [] };
       marks = 1;
-      calls = callM 999999999 0 ∷ callW 1 1 ∷ [];
+      calls = runs (callM 999999999 0) ∷ runs (callW 1 1) ∷ [];
     }))
-unfolding many digitsOf digits sum sumTo foldTo sumOver any all averageWeight nearest capacity above climb representative weight blockWeight bytes same parts isNumber onward value fields isLine saleLine overfull grown withLot endsInK beforeK lotLine mark marking withNet netRead buyLine asked withCall callLine line ending lines parse
+unfolding many digitsOf digits sum sumTo foldTo sumOver any all averageWeight nearest capacity above climb representative weight blockWeight bytes same parts isNumber onward value fields isLine saleLine overfull grown withLot endsInK beforeK lotLine mark marking withNet netRead buyLine values asked withCall callLine line ending lines parse
 edges = (refl, refl, refl, refl, refl, refl, refl, refl, refl, refl, refl, refl, refl, refl, refl, refl, refl, refl, refl, refl, refl, refl, refl, refl, refl, refl, refl, refl, refl, refl, refl, refl, refl, refl, refl, refl, refl, refl, refl, refl, refl, refl, refl, refl, refl, refl, refl, refl, refl, refl, refl)
 
 -- M-104: a LOT line may end in `,K`. Any other end is 2, and so is `,K` on another line; the form of the whole line comes before its ranges
@@ -142,7 +143,7 @@ pub kept-edges :
     × (says (bytes "SALE,1,0,2,1000\nLOT,0,1,K\n") ≡ stopped 3 2)
     × (says (bytes "SALE,1,0,2,1000\nLOT,7,3,K\n") ≡ stopped 3 2)
     × (says (bytes "SALE,1,0,2,0\nLOT,7,1,K\n") ≡ stopped 6 2)
-unfolding sum sumTo foldTo sumOver any all averageWeight nearest capacity above climb representative weight blockWeight bytes same parts isNumber onward value fields isLine saleLine overfull grown withLot endsInK beforeK lotLine mark marking withNet netRead buyLine asked withCall callLine line ending lines parse
+unfolding sum sumTo foldTo sumOver any all averageWeight nearest capacity above climb representative weight blockWeight bytes same parts isNumber onward value fields isLine saleLine overfull grown withLot endsInK beforeK lotLine mark marking withNet netRead buyLine values asked withCall callLine line ending lines parse
 kept-edges = (refl, refl, refl, refl, refl, refl, refl, refl, refl, refl, refl, refl, refl, refl, refl, refl, refl, refl)
 
 -- M-109, an estimate: low and high, then 21, then the session; `,K` behind them as in a sale. W is the sum of the lows
@@ -173,7 +174,7 @@ pub estimate-edges :
     -- 6: the highs of a session against the cap of the lows
     × (says (bytes "EST,2,0,2,0\nLOT,5,6,1\nLOT,5,5,2\n") ≡ stopped 6 3)
     × (says (bytes "SALE,2,0,2,0\nLOT,6,1\nLOT,5,2\nx\n") ≡ stopped 2 4)
-unfolding sum sumTo foldTo sumOver any all averageWeight nearest capacity above climb representative weight blockWeight bytes same parts isNumber onward value fields isLine saleLine overfull grown withLot endsInK beforeK lotLine mark marking withNet netRead buyLine asked withCall callLine line ending lines parse
+unfolding sum sumTo foldTo sumOver any all averageWeight nearest capacity above climb representative weight blockWeight bytes same parts isNumber onward value fields isLine saleLine overfull grown withLot endsInK beforeK lotLine mark marking withNet netRead buyLine values asked withCall callLine line ending lines parse
 estimate-edges = (refl, refl, refl, refl, refl, refl, refl, refl, refl, refl, refl, refl, refl, refl, refl, refl)
 
 -- M-102, the superfine desk's entry: 257 lots and 9 sessions are out of range; 256 and 8 are read, so that the first LOT line is missing
@@ -184,5 +185,5 @@ pub fine-edges :
     × (says (bytes "SALE,257,0,9,0\n") ≡ stopped 2 2)
     -- sessions of the draft go by the file's own count, not by the limit
     × (parse fineLimits (bytes "SALE,1,0,2,1000\nLOT,7,3\n") ≡ stopped 3 2)
-unfolding digitsOf digits sum sumTo foldTo sumOver any all averageWeight nearest capacity above climb representative weight blockWeight bytes same parts isNumber onward value fields isLine saleLine overfull grown withLot endsInK beforeK lotLine mark marking withNet netRead buyLine asked withCall callLine line ending lines parse
+unfolding digitsOf digits sum sumTo foldTo sumOver any all averageWeight nearest capacity above climb representative weight blockWeight bytes same parts isNumber onward value fields isLine saleLine overfull grown withLot endsInK beforeK lotLine mark marking withNet netRead buyLine values asked withCall callLine line ending lines parse
 fine-edges = (refl, refl, refl, refl, refl)

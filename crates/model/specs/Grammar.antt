@@ -1,10 +1,10 @@
 -- Document 01, "The sale file" and "When the hammer stays up": lines, fields, numbers, and the refusals 1 to 7 and 21 in order. Rests on
--- Machine for the calls and on Measure for the draft's weights. Assumes nothing.
+-- Sale for the calls and on Measure for the draft's weights. Assumes nothing.
 use Prim.Native.Nat.{ℕ, zero, suc, _+_, _-_, _*_}
 use Prim.Native.String.{String, [] as endText, _∷_ as _then_}
 use Prim.Native.Char.{code}
 use mathlib.Core.Bool.{Bool, true, false, not, _&&_, _||_, cond}
-use mathlib.Core.List.{List, [], _∷_, _++_}
+use mathlib.Core.List.{List, [], _∷_, _++_, map}
 use lib.Dec.{eqb, leb, ltb}
 use lib.ListN.{length, getD, drop, take}
 use Rattle.laws.specs.Choice.{one}
@@ -12,7 +12,8 @@ use Rattle.laws.specs.Fold.{all, any}
 use Rattle.laws.specs.Sum.{foldTo}
 use Rattle.model.specs.Catalogue.{Limits, Hypergraph, vertices, isVertex, isBlock, capacity, drafted}
 use Rattle.model.specs.Measure.{blockWeight}
-use Rattle.model.specs.Machine.{Call, callJ, callS, callM, callB, callW, callP, callA}
+use Rattle.model.specs.Machine.{callJ, callS, callM, callB, callW, callP, callA}
+use Rattle.model.specs.Sale.{Request, runs, callX, callN}
 
 -- ---- bytes
 -- the bytes of a text of ASCII
@@ -87,7 +88,7 @@ pub record Book : Type 0 where
   pub buyers : ℕ
   pub graph : Hypergraph
   pub marks : ℕ
-  pub calls : List Call
+  pub calls : List Request
 
 -- nothing yet; the first line and perhaps more; or refused, with the refusal's number and the line's
 pub data Reading : Type 0 where
@@ -209,19 +210,25 @@ buyLine n k fs =
 
 -- a call line's call, or none
 pub data Asked : Type 0 where
-  asks : Call → Asked
+  asks : Request → Asked
   nothing : Asked
 
--- the seven call lines: J,u,v · S · M,u,t · B · W,u,v · P · A
+-- the numbers of a line
+unfoldable pub values : Fields → List ℕ
+values fs = map value fs
+
+-- the call lines: J,u,v · S · M,u,t · B · W,u,v · P · A · X,u · N,bales,session,buyer,.. with zero or more buyers
 unfoldable pub asked : Fields → Asked
 asked fs =
-    cond (isLineOf "J" 2 fs) (asks (callJ (at fs 1) (at fs 2)))
-    (cond (isLineOf "S" 0 fs) (asks callS)
-    (cond (isLineOf "M" 2 fs) (asks (callM (at fs 1) (at fs 2)))
-    (cond (isLineOf "B" 0 fs) (asks callB)
-    (cond (isLineOf "W" 2 fs) (asks (callW (at fs 1) (at fs 2)))
-    (cond (isLineOf "P" 0 fs) (asks callP)
-    (cond (isLineOf "A" 0 fs) (asks callA) nothing))))))
+    cond (isLineOf "J" 2 fs) (asks (runs (callJ (at fs 1) (at fs 2))))
+    (cond (isLineOf "S" 0 fs) (asks (runs callS))
+    (cond (isLineOf "M" 2 fs) (asks (runs (callM (at fs 1) (at fs 2))))
+    (cond (isLineOf "B" 0 fs) (asks (runs callB))
+    (cond (isLineOf "W" 2 fs) (asks (runs (callW (at fs 1) (at fs 2))))
+    (cond (isLineOf "P" 0 fs) (asks (runs callP))
+    (cond (isLineOf "A" 0 fs) (asks (runs callA))
+    (cond (isLineOf "X" 1 fs) (asks (callX (at fs 1)))
+    (cond (isLine "N" fs && leb 3 (length fs)) (asks (callN (at fs 1) (at fs 2) (values (drop 3 fs)))) nothing))))))))
 
 -- one call more, or 2
 unfoldable pub withCall : ℕ → Book → Asked → Reading
@@ -262,7 +269,7 @@ lines limits n r (l ∷ (m ∷ ls)) = lines limits (suc n) (line limits n r l) (
 unfoldable pub parse : Limits → List ℕ → Reading
 parse limits file = cond (ltb 60000 (length file)) (stopped 1 0) (lines limits 1 unread (parts 10 file))
 
--- ---- calls as three numbers
+-- ---- calls as three numbers each, and operands
 -- the letters of calls, as bytes
 abbrev pub letterJ : ℕ
 letterJ = 74
@@ -285,13 +292,31 @@ letterP = 80
 abbrev pub letterA : ℕ
 letterA = 65
 
--- a call by its letter's byte and its two numbers, as tables hold it; numbers that a call has no use for are not read
-unfoldable pub callOf : ℕ → ℕ → ℕ → Asked
-callOf letter x y =
-    cond (eqb letter letterJ) (asks (callJ x y))
-    (cond (eqb letter letterS) (asks callS)
-    (cond (eqb letter letterM) (asks (callM x y))
-    (cond (eqb letter letterB) (asks callB)
-    (cond (eqb letter letterW) (asks (callW x y))
-    (cond (eqb letter letterP) (asks callP)
-    (cond (eqb letter letterA) (asks callA) nothing))))))
+abbrev pub letterX : ℕ
+letterX = 88
+
+abbrev pub letterN : ℕ
+letterN = 78
+
+-- N's numbers: a stretch of the operands, its first place and how many
+abbrev pub stretchOf : List ℕ → ℕ → ℕ → List ℕ
+stretchOf operands first count = take count (drop first operands)
+
+-- N by its stretch: bales, session, buyers
+unfoldable pub lateOf : List ℕ → Asked
+lateOf [] = nothing
+lateOf (bales ∷ []) = nothing
+lateOf (bales ∷ (session ∷ buyers)) = asks (callN bales session buyers)
+
+-- a call by its letter's byte and its two numbers, as tables hold it, with the operands; numbers that a call has no use for are not read
+unfoldable pub callOf : List ℕ → ℕ → ℕ → ℕ → Asked
+callOf operands letter x y =
+    cond (eqb letter letterJ) (asks (runs (callJ x y)))
+    (cond (eqb letter letterS) (asks (runs callS))
+    (cond (eqb letter letterM) (asks (runs (callM x y)))
+    (cond (eqb letter letterB) (asks (runs callB))
+    (cond (eqb letter letterW) (asks (runs (callW x y)))
+    (cond (eqb letter letterP) (asks (runs callP))
+    (cond (eqb letter letterA) (asks (runs callA))
+    (cond (eqb letter letterX) (asks (callX x))
+    (cond (eqb letter letterN) (lateOf (stretchOf operands x y)) nothing))))))))

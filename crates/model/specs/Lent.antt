@@ -6,7 +6,8 @@ use mathlib.Core.List.{List, [], _∷_, _++_, map}
 use lib.IntN.{ℤ}
 use lib.ListN.{length, getD}
 use Rattle.model.specs.Measure.{Contraction}
-use Rattle.model.specs.Machine.{Call, Move}
+use Rattle.model.specs.Machine.{Move}
+use Rattle.model.specs.Sale.{Request}
 use Rattle.model.specs.Grammar.{Asked, asks, nothing, callOf}
 use Rattle.model.specs.Memory.{Tables, Memory}
 
@@ -97,16 +98,16 @@ inTables output weights blocks aboves fixed t = record {
 abbrev pub inRecords : {A : Type 0} → (bales session above kept : A → ℕ) → List ℕ → List A → Tables → Memory
 inRecords bales session above kept output lots t = inTables output (map bales lots) (map session lots) (map above lots) (map kept lots) t
 
--- ---- calls, three numbers each
+-- ---- calls, three numbers each, and operands
 -- a call as a list, which is empty where there is none
-abbrev pub listed : Asked → List Call
+abbrev pub listed : Asked → List Request
 listed (asks c) = c ∷ []
 listed nothing = []
 
 -- the first c calls of a table: the letter's byte and two numbers
-unfoldable pub callsOf : ℕ → List ℕ → List Call
-callsOf zero t = []
-callsOf (suc c) t = callsOf c t ++ listed (callOf (getD t (3 * c) 0) (getD t (3 * c + 1) 0) (getD t (3 * c + 2) 0))
+unfoldable pub callsOf : List ℕ → ℕ → List ℕ → List Request
+callsOf operands zero t = []
+callsOf operands (suc c) t = callsOf operands c t ++ listed (callOf operands (getD t (3 * c) 0) (getD t (3 * c + 1) 0) (getD t (3 * c + 2) 0))
 
 -- ---- the stack of joins and the record of moves
 -- two arrays and a length

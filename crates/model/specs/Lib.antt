@@ -3,6 +3,7 @@
 -- Measure    representative, pins, pin counts, weights, connectivity metric, gain and its halves
 -- Machine    the plain machine's state; the calls J, S, M, B and their refusals
 -- Search     the best pair, walks, polish, ratings; the calls W, P, A; what every call does
+-- Sale       request M-111: a sale, whose catalogue X and N change; what every call line does
 -- Grammar    the sale file: lines, fields, numbers, refusals 1 to 7 and 21
 -- Report     answers and the closing report as bytes
 -- Engine     a list of calls; the file to a code and a report
@@ -30,6 +31,7 @@ pub mod Catalogue
 pub mod Measure
 pub mod Machine
 pub mod Search
+pub mod Sale
 pub mod Grammar
 pub mod Report
 pub mod Engine

@@ -7,7 +7,7 @@ use Rattle.laws.specs.Place.{place}
 use Rattle.model.specs.Catalogue.{Hypergraph, drafted, isVertex, isBlock}
 use Rattle.model.specs.Measure.{Contraction, onBoard, weight, isFixed, metric, freed, drawn, hasRoom}
 
--- a call line
+-- a call of the machine: seven of the nine call lines. X and N change the catalogue that it runs on (Sale)
 pub data Call : Type 0 where
   callJ : ℕ → ℕ → Call
   callS : Call
@@ -26,6 +26,8 @@ pub data Answer : Type 0 where
   saysW : ℕ → ℕ → ℕ → Answer
   saysP : ℕ → ℕ → Answer
   saysA : ℕ → ℕ → ℕ → ℕ → ℕ → Answer
+  saysX : ℕ → Answer
+  saysN : ℕ → ℕ → Answer
   saysNO : ℕ → Answer
 
 -- a move on the record of moves: the lot, and the session that it left
@@ -60,7 +62,7 @@ module _ (h : Hypergraph) (s : State) where
   refusesJ u v =
       cond (not (isVertex h u && isVertex h v)) 9
       (cond (eqb u v) 11
-      (cond (not (onBoard (s .stack) u && onBoard (s .stack) v)) 10
+      (cond (not (onBoard h (s .stack) u && onBoard h (s .stack) v)) 10
       (cond (not (eqb (s .block u) (s .block v))) 13 0)))
 
   -- a join: v leaves the board, and (u,v) goes on the stack
@@ -75,7 +77,7 @@ module _ (h : Hypergraph) (s : State) where
 unfoldable pub refusesM : Hypergraph → (ℕ → ℕ) → State → ℕ → ℕ → ℕ
 refusesM h ceiling s v t =
     cond (not (isVertex h v && isBlock h t)) 9
-    (cond (not (onBoard (s .stack) v)) 10
+    (cond (not (onBoard h (s .stack) v)) 10
     (cond (eqb (s .block v) t) 12
     (cond (isFixed h (s .stack) v) 20
     (cond (not (hasRoom h ceiling (s .stack) (s .block) v t)) 14 0))))

@@ -7,28 +7,32 @@ use lib.IntN.{ℤ, pos, _-ℤ_}
 use lib.ListN.{length}
 use Rattle.laws.specs.Sum.{sumTo, countTo, foldTo}
 use Rattle.laws.specs.Fold.{sumOver, any}
-use Rattle.model.specs.Catalogue.{Net, Hypergraph, vertices, loaded, fixedEntry}
+use Rattle.model.specs.Catalogue.{Net, Hypergraph, vertices, loaded, inSale, fixedEntry}
 
 -- contraction: a join (u,v). `gone` is v, which left the board; `into` is u, which stands for it
 pub record Contraction : Type 0 where
   pub into : ℕ
   pub gone : ℕ
 
--- the lot above: the one that v was joined into, and 0 for a lot on the board. The stack has its latest join first
+-- the lot above: the one that v was joined into, and 0 for a lot under no other. The stack has its latest join first
 unfoldable pub above : List Contraction → ℕ → ℕ
 above [] v = 0
 above (c ∷ cs) v = cond (eqb (c .gone) v) (c .into) (above cs v)
 
--- on the board
-abbrev pub onBoard : List Contraction → ℕ → Bool
-onBoard cs v = eqb (above cs v) 0
+-- under no other lot
+abbrev pub isTop : List Contraction → ℕ → Bool
+isTop cs v = eqb (above cs v) 0
+
+-- on the board: under no other lot, and in the sale (M-111)
+abbrev pub onBoard : Hypergraph → List Contraction → ℕ → Bool
+onBoard h cs v = isTop cs v && inSale h v
 
 -- stand, by a climb of at most `steps` joins
 unfoldable pub climb : ℕ → List Contraction → ℕ → ℕ
 climb zero cs v = v
 climb (suc steps) cs v =
     let higher : ℕ = climb steps cs (above cs v) in
-    cond (onBoard cs v) v higher
+    cond (isTop cs v) v higher
 
 -- representative: stand(lot). No climb is longer than the stack
 unfoldable pub representative : List Contraction → ℕ → ℕ
@@ -54,7 +58,7 @@ module _ (h : Hypergraph) (cs : List Contraction) where
 
   -- the lots that W and P, and the joining in A, do not pass over: those on the board that are not kept
   abbrev pub mayMove : ℕ → Bool
-  mayMove v = onBoard cs v && not (isFixed v)
+  mayMove v = onBoard h cs v && not (isFixed v)
 
   -- two board lots share a present mark set
   unfoldable pub adjacent : ℕ → ℕ → Bool
@@ -62,9 +66,9 @@ module _ (h : Hypergraph) (cs : List Contraction) where
 
 -- the same, and the partition: the session of each board lot
 module _ (h : Hypergraph) (cs : List Contraction) (block : ℕ → ℕ) where
-  -- a session's bales: those of its board lots together
+  -- a session's bales: those of its board lots together (a withdrawn lot is in no session)
   unfoldable pub blockWeight : ℕ → ℕ
-  blockWeight b = sumTo (vertices h) (λ u. cond (onBoard cs u && eqb (block u) b) (weight h cs u) 0)
+  blockWeight b = sumTo (vertices h) (λ u. cond (isTop cs u && eqb (block u) b) (weight h cs u) 0)
 
   -- the heaviest session's bales
   unfoldable pub heaviest : ℕ

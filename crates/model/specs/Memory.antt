@@ -11,8 +11,9 @@ use Rattle.laws.specs.Choice.{one}
 use Rattle.laws.specs.Sum.{sumTo}
 use Rattle.laws.specs.Occurrence.{occ}
 use Rattle.model.specs.Catalogue.{Limits, Net, Hypergraph, vertices, fixedEntry}
-use Rattle.model.specs.Measure.{Contraction, above, onBoard, pin, size, weight, pinCount, gain}
-use Rattle.model.specs.Machine.{State, fresh}
+use Rattle.model.specs.Measure.{Contraction, above, isTop, onBoard, pin, size, weight, pinCount, gain}
+use Rattle.model.specs.Machine.{State}
+use Rattle.model.specs.Sale.{Sale, opened}
 use Rattle.model.specs.Index.{ranked}
 use Rattle.model.specs.Grammar.{Reading, unread, reading, stopped, parse}
 use Rattle.model.specs.Engine.{after, outcome}
@@ -84,19 +85,19 @@ weightWhenGone h (c ∷ cs) v = cond (eqb (c .gone) v) (weight h cs v) (weightWh
 module _ (h : Hypergraph) (cs : List Contraction) (block : ℕ → ℕ) where
   -- a lot's record: bales
   unfoldable pub weightEntry : ℕ → ℕ
-  weightEntry v = cond (onBoard cs v) (weight h cs v) (weightWhenGone h cs v)
+  weightEntry v = cond (isTop cs v) (weight h cs v) (weightWhenGone h cs v)
 
   -- its session, 0 off the board
   unfoldable pub blockEntry : ℕ → ℕ
-  blockEntry v = cond (onBoard cs v) (block v) 0
+  blockEntry v = cond (onBoard h cs v) (block v) 0
 
   -- gains, 0 off the board
   unfoldable pub gainEntry : ℕ → ℕ → ℤ
-  gainEntry v b = cond (onBoard cs v) (gain h cs block v b) (pos 0)
+  gainEntry v b = cond (onBoard h cs v) (gain h cs block v b) (pos 0)
 
   -- the index: place j of a lot's row has its j-th session in the order of choice, and 0 past the last; off the board the row has zeros
   unfoldable pub indexEntry : ℕ → ℕ → ℕ
-  indexEntry v j = cond (onBoard cs v) (getD (ranked (gain h cs block) v (block v) (h .blocks)) (j - 1) 0) 0
+  indexEntry v j = cond (onBoard h cs v) (getD (ranked (gain h cs block) v (block v) (h .blocks)) (j - 1) 0) 0
 
   -- connectivity set: the visited sessions, one bit each; session b is bit b − 1 counted from the lowest
   unfoldable pub mask : Net → ℕ
@@ -120,24 +121,35 @@ unfoldable pub takenOut : List Contraction → Net → List ℕ
 takenOut [] e = []
 takenOut (c ∷ cs) e = cond (pin cs e (c .into) && pin cs e (c .gone)) (c .gone ∷ takenOut cs e) (takenOut cs e)
 
+-- a place of a mark table past the last mark: it keeps what it held, and once an X or N has been accepted it holds 0 up to the 8,192nd (M-111)
+unfoldable pub pastMarks : Bool → List ℕ → ℕ → ℕ
+pastMarks changed old i = cond (changed && ltb i 8192) 0 (getD old i 0)
+
+-- marks as loaded, buyer by buyer
+pub record Loaded (h : Hypergraph) (changed : Bool) (old new : List ℕ) : Type 0 where
+  pub as-long : length new ≡ length old
+  pub marks : (i : ℕ) → i < length (allPins (h .nets)) → getD new i 0 ≡ getD (allPins (h .nets)) i 0
+  pub past : (i : ℕ) → length (allPins (h .nets)) ≤ i → i < length old → getD new i 0 ≡ pastMarks changed old i
+
 -- marks as they stand. In a buyer's stretch each present mark stands once and no other number does, the lowest first; the places past that
 -- set within the loaded stretch hold the marks that joins took out
-pub record Pins (h : Hypergraph) (cs : List Contraction) (old new : List ℕ) : Type 0 where
+pub record Pins (h : Hypergraph) (changed : Bool) (cs : List Contraction) (old new : List ℕ) : Type 0 where
   pub as-long : length new ≡ length old
   pub sets : (e v : ℕ) → 1 ≤ e → e ≤ length (h .nets) → occ new (firstPlace h e) (size h cs (net h e)) v ≡ one (pin cs (net h e) v)
   pub rising : (e i j : ℕ) → 1 ≤ e → e ≤ length (h .nets) → i < j → j < size h cs (net h e) → getD new (firstPlace h e + i) 0 < getD new (firstPlace h e + j) 0
   pub whole : (e : ℕ) → 1 ≤ e → e ≤ length (h .nets) → size h cs (net h e) + length (takenOut cs (net h e)) ≡ length (net h e .pins)
   pub taken : (e i : ℕ) → 1 ≤ e → e ≤ length (h .nets) → i < length (takenOut cs (net h e)) → getD new (firstPlace h e + (size h cs (net h e) + i)) 0 ≡ getD (takenOut cs (net h e)) i 0
-  pub past : (i : ℕ) → length (allPins (h .nets)) ≤ i → i < length old → getD new i 0 ≡ getD old i 0
+  pub past : (i : ℕ) → length (allPins (h .nets)) ≤ i → i < length old → getD new i 0 ≡ pastMarks changed old i
 
--- what the tables hold for a state of the machine, where `old` is what they held before the file was read
-pub record Holds (h : Hypergraph) (s : State) (old new : Tables) : Type 0 where
+-- what the tables hold for a catalogue, which an X or N has changed or none has, and a state of the machine, where `old` is what they held before the file
+-- was read
+pub record HoldsFor (changed : Bool) (h : Hypergraph) (s : State) (old new : Tables) : Type 0 where
   pub weights : Column (vertices h) (weightEntry h (s .stack) (s .block)) (old .weights) (new .weights)
   pub blocks : Column (vertices h) (blockEntry h (s .stack) (s .block)) (old .blocks) (new .blocks)
   pub aboves : Column (vertices h) (above (s .stack)) (old .aboves) (new .aboves)
   pub fixed : Column (vertices h) (fixedEntry h) (old .fixed) (new .fixed)
-  pub loadedPins : Filled 0 (λ i. ltb i (length (allPins (h .nets)))) (λ i. getD (allPins (h .nets)) i 0) (old .loadedPins) (new .loadedPins)
-  pub presentPins : Pins h (s .stack) (old .presentPins) (new .presentPins)
+  pub loadedPins : Loaded h changed (old .loadedPins) (new .loadedPins)
+  pub presentPins : Pins h changed (s .stack) (old .presentPins) (new .presentPins)
   pub firsts : Column (length (h .nets)) (firstPlace h) (old .firsts) (new .firsts)
   pub loadedSizes : Column (length (h .nets)) (λ e. length (net h e .pins)) (old .loadedSizes) (new .loadedSizes)
   pub presentSizes : Column (length (h .nets)) (λ e. size h (s .stack) (net h e)) (old .presentSizes) (new .presentSizes)
@@ -145,6 +157,10 @@ pub record Holds (h : Hypergraph) (s : State) (old new : Tables) : Type 0 where
   pub gains : Grid (pos 0) (vertices h) (h .blocks) (gainEntry h (s .stack) (s .block)) (old .gains) (new .gains)
   pub index : Grid 0 (vertices h) (h .blocks) (indexEntry h (s .stack) (s .block)) (old .index) (new .index)
   pub visited : Column (length (h .nets)) (λ e. mask h (s .stack) (s .block) (net h e)) (old .visited) (new .visited)
+
+-- what they hold for a sale
+abbrev pub Holds : Sale → Tables → Tables → Type 0
+Holds a old new = HoldsFor (a .changed) (a .graph) (a .state) old new
 
 -- ---- a buyer's marks, handed out
 -- a stretch of a table: its first place and how many places it has
@@ -172,16 +188,16 @@ pub record Written (report old new : List ℕ) (written : ℕ) : Type 0 where
   pub output : new ≡ report ++ drop written old
 
 -- after an accepted file all tables are told; after 1 to 7 and 21 they are free
-abbrev pub TablesLeft : Reading → Tables → Tables → Type 0
-TablesLeft (reading k) old new = Holds (k .graph) (after (k .graph) (fresh (k .graph)) (k .calls)) old new
-TablesLeft (stopped q n) old new = Unit {0}
-TablesLeft unread old new = Unit {0}
+abbrev pub TablesLeft : Limits → Reading → Tables → Tables → Type 0
+TablesLeft limits (reading k) old new = Holds (after limits (opened (k .graph)) (k .calls)) old new
+TablesLeft limits (stopped q n) old new = Unit {0}
+TablesLeft limits unread old new = Unit {0}
 
 -- 0, 1 to 7 or 21: the code, the output and the tables
-pub record Worked (r : Reading) (old new : Memory) (code written : ℕ) : Type 0 where
-  pub code-is : code ≡ outcome r .code
-  pub output : Written (outcome r .report) (old .output) (new .output) written
-  pub tables : TablesLeft r (old .tables) (new .tables)
+pub record Worked (limits : Limits) (r : Reading) (old new : Memory) (code written : ℕ) : Type 0 where
+  pub code-is : code ≡ outcome limits r .code
+  pub output : Written (outcome limits r .report) (old .output) (new .output) written
+  pub tables : TablesLeft limits r (old .tables) (new .tables)
 
 -- 8 touches nothing and reports 0 bytes written
 pub record Untouched (old new : Memory) (code written : ℕ) : Type 0 where
@@ -190,10 +206,10 @@ pub record Untouched (old new : Memory) (code written : ℕ) : Type 0 where
   pub kept : new ≡ old
 
 -- the engine's promise, by whether lent memory is long enough (8 is tested first)
-abbrev pub Served : Bool → Reading → Memory → Memory → ℕ → ℕ → Type 0
-Served false r old new code written = Untouched old new code written
-Served true r old new code written = Worked r old new code written
+abbrev pub Served : Limits → Bool → Reading → Memory → Memory → ℕ → ℕ → Type 0
+Served limits false r old new code written = Untouched old new code written
+Served limits true r old new code written = Worked limits r old new code written
 
 -- the engine on a file and lent memory: its return and all lent memory at exit
 abbrev pub Serves : Limits → List ℕ → Memory → Memory → ℕ → ℕ → Type 0
-Serves limits file old new code written = Served (longMemory limits old) (parse limits file) old new code written
+Serves limits file old new code written = Served limits (longMemory limits old) (parse limits file) old new code written

@@ -21,7 +21,7 @@ module _ (h : Hypergraph) (s : State) (t : Tables) where
 
   -- the pair of a board lot and another session
   abbrev pub isPair : ℕ → ℕ → Bool
-  isPair v b = onBoard (s .stack) v && not (eqb (s .block v) b)
+  isPair v b = onBoard h (s .stack) v && not (eqb (s .block v) b)
 
   -- the index holds each pair of a board lot and another session once and no other
   abbrev pub EachPairOnce : Type 0

@@ -5,9 +5,9 @@ use mathlib.Core.Bool.{cond}
 use mathlib.Core.List.{List, [], _∷_, _++_}
 use lib.Dec.{ltb}
 use Rattle.laws.specs.Sum.{foldTo}
-use Rattle.model.specs.Catalogue.{Net, Hypergraph, vertices}
+use Rattle.model.specs.Catalogue.{Net, Hypergraph, vertices, inSale}
 use Rattle.model.specs.Measure.{representative, connectivity, metric}
-use Rattle.model.specs.Machine.{Answer, saysJ, saysS, saysM, saysB, saysW, saysP, saysA, saysNO, State, fresh}
+use Rattle.model.specs.Machine.{Answer, saysJ, saysS, saysM, saysB, saysW, saysP, saysA, saysX, saysN, saysNO, State, fresh}
 use Rattle.model.specs.Grammar.{bytes}
 
 -- the digits of n, of which there are at most suc fuel
@@ -39,6 +39,8 @@ refusal (saysB v b c) = 0
 refusal (saysW t k c) = 0
 refusal (saysP m c) = 0
 refusal (saysA j t k m c) = 0
+refusal (saysX c) = 0
+refusal (saysN v c) = 0
 refusal (saysNO q) = q
 
 -- the line of an answer
@@ -50,20 +52,22 @@ answerRow (saysB v b c) = row "B" (digits v ∷ digits b ∷ digits c ∷ [])
 answerRow (saysW t k c) = row "W" (digits t ∷ digits k ∷ digits c ∷ [])
 answerRow (saysP m c) = row "P" (digits m ∷ digits c ∷ [])
 answerRow (saysA j t k m c) = row "A" (digits j ∷ digits t ∷ digits k ∷ digits m ∷ digits c ∷ [])
+answerRow (saysX c) = row "X" (digits c ∷ [])
+answerRow (saysN v c) = row "N" (digits v ∷ digits c ∷ [])
 answerRow (saysNO q) = row "NO" (digits q ∷ [])
 
--- LOT,number,session of stand: the lots 1..n
+-- LOT,number,session of stand: the lots in the sale, in order of number
 unfoldable pub lotRows : Hypergraph → State → List ℕ
-lotRows h s = foldTo (vertices h) (λ out v. out ++ row "LOT" (digits v ∷ digits (s .block (representative (s .stack) v)) ∷ [])) []
+lotRows h s = foldTo (vertices h) (λ out v. cond (inSale h v) (out ++ row "LOT" (digits v ∷ digits (s .block (representative (s .stack) v)) ∷ [])) out) []
 
 -- BUY,number,visited: the buyers from number i on
 unfoldable pub buyRows : Hypergraph → State → ℕ → List Net → List ℕ
 buyRows h s i [] = []
 buyRows h s i (e ∷ es) = row "BUY" (digits i ∷ digits (connectivity h (s .stack) (s .block) e) ∷ []) ++ buyRows h s (suc i) es
 
--- the closing report
-unfoldable pub closing : Hypergraph → State → List ℕ
-closing h s =
-    row "TOTAL" (digits (metric h [] (fresh h .block)) ∷ digits (metric h (s .stack) (s .block)) ∷ [])
+-- the closing report, behind the draft's total
+unfoldable pub closing : ℕ → Hypergraph → State → List ℕ
+closing draft h s =
+    row "TOTAL" (digits draft ∷ digits (metric h (s .stack) (s .block)) ∷ [])
     ++ lotRows h s
     ++ buyRows h s 1 (h .nets)

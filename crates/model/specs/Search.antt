@@ -166,7 +166,7 @@ module _ (h : Hypergraph) (cs : List Contraction) where
 
   -- lots on the board
   unfoldable pub boardSize : ℕ
-  boardSize = countTo (vertices h) (λ v. onBoard cs v)
+  boardSize = countTo (vertices h) (λ v. onBoard h cs v)
 
 -- what A has after its joins
 pub record Coarse : Type 0 where
@@ -196,7 +196,7 @@ module _ (h : Hypergraph) where
 unfoldable pub refusesW : Hypergraph → State → ℕ → ℕ → ℕ
 refusesW h s u v =
     cond (not (isVertex h u && isVertex h v)) 9
-    (cond (not (onBoard (s .stack) u && onBoard (s .stack) v)) 10 0)
+    (cond (not (onBoard h (s .stack) u && onBoard h (s .stack) v)) 10 0)
 
 -- A while a join stands: 16
 unfoldable pub refusesA : Hypergraph → State → List Contraction → ℕ

@@ -7,15 +7,16 @@ use lib.IntN.{pos, negsuc}
 use Rattle.laws.specs.Sum.{sum, sumTo}
 use Rattle.laws.specs.Fold.{sumOver, any}
 use Rattle.laws.specs.Place.{place}
-use Rattle.model.specs.Catalogue.{Hypergraph, averageWeight, nearest, capacity, drafted}
+use Rattle.model.specs.Catalogue.{Hypergraph, mainLimits, averageWeight, nearest, capacity, drafted}
 use Rattle.model.specs.Measure.{Contraction, above, climb, representative, pin, size, pinCount, weight, isFixed, mayMove, blockWeight, connectivity, metric, freed, drawn, gain, hasRoom}
 use Rattle.model.specs.Index.{ahead, insert, ranked}
 use Rattle.model.specs.Memory.{indexEntry}
 use Rattle.model.specs.Machine.{callM, fresh, settle, refusesM, doesM}
-use Rattle.model.specs.Search.{rating, callUnder, call}
+use Rattle.model.specs.Search.{rating, callUnder}
+use Rattle.model.specs.Sale.{runs, opened, ran, turnUnder, turn}
 use Rattle.model.specs.Report.{refusal}
 use Rattle.model.specs.Clump.{unjoinedTotal, inClumps, clumpTo}
-use Rattle.model.specs.Order.{isMove, AcceptedMoves, sessionOf}
+use Rattle.model.specs.Order.{isMove, asksMove, AcceptedMoves, sessionOf}
 
 -- the worked sale's catalogue
 abbrev pub five : Hypergraph
@@ -155,11 +156,11 @@ clump-table = (refl, refl, refl, refl, refl, refl)
 -- the worked sale 1 and 3 change places if 1 goes first, and not if 3 does
 pub order-table :
     (sessionOf (record { stack = three; block = threeIn; journal = [] }) 3 ≡ 1)
-    × AcceptedMoves five (fresh five) (callM 1 2 ∷ callM 1 1 ∷ [])
-    × AcceptedMoves five (fresh five) (callM 1 2 ∷ callM 3 1 ∷ [])
-    × (refusal (call five (fresh five) (callM 3 1) .answer) ≡ 14)
+    × AcceptedMoves mainLimits (opened five) (runs (callM 1 2) ∷ runs (callM 1 1) ∷ [])
+    × AcceptedMoves mainLimits (opened five) (runs (callM 1 2) ∷ runs (callM 3 1) ∷ [])
+    × (refusal (turn mainLimits (opened five) (runs (callM 3 1)) .answer) ≡ 14)
 unfolding sum sumTo sumOver any averageWeight nearest capacity above climb representative pin pinCount weight isFixed blockWeight connectivity metric freed drawn gain hasRoom place
-    fresh settle refusesM doesM callUnder refusal isMove AcceptedMoves
+    fresh settle refusesM doesM callUnder ran turnUnder refusal isMove asksMove AcceptedMoves
 order-table = (refl, (refl, refl, (refl, refl, tt)), (refl, refl, (refl, refl, tt)), refl)
 
 -- stand climbs: 3 was joined into 2, then 2 into 1
