@@ -1,95 +1,108 @@
 -- The lines with a fixed number of fields: which answer the tests give. Rests on Line of specs.
 use Prim.Native.Nat.{ℕ}
 use mathlib.Core.Path.{_≡_, refl, sym, _∙_}
-use mathlib.Core.List.{[], _∷_}
+use mathlib.Core.List.{List, [], _∷_}
 use mathlib.Core.Bool.{Bool, true, false, not, _&&_, _||_, cond}
 use Rattle.model.specs.Catalogue.{Limits}
 use Rattle.model.specs.Machine.{callJ, callS, callM, callB, callW, callP, callA}
+use Rattle.model.specs.Sale.{runs, callX}
+use Rattle.model.specs.ListEntry.{isEntry}
 use Rattle.model.specs.Grammar.{Fields, bytes, reading, stopped, at, isLineOf, within, Asked, asks, nothing, asked, callOf, saleLine}
-use Rattle.lines.specs.Line.{Named, book}
+use Rattle.lines.specs.Line.{Named, isLate, lateAsked, book}
 
-abbrev choose : Fields → Bool → Bool → Bool → Bool → Bool → Bool → Bool → Asked
-choose fs j s m b w p a =
-    cond j (asks (callJ (at fs 1) (at fs 2)))
-    (cond s (asks callS)
-    (cond m (asks (callM (at fs 1) (at fs 2)))
-    (cond b (asks callB)
-    (cond w (asks (callW (at fs 1) (at fs 2)))
-    (cond p (asks callP)
-    (cond a (asks callA) nothing))))))
+-- the tests in turn, and what an N line asks or nothing
+abbrev choose : Fields → Bool → Bool → Bool → Bool → Bool → Bool → Bool → Bool → Asked → Asked
+choose fs j s m b w p a x r =
+    cond j (asks (runs (callJ (at fs 1) (at fs 2))))
+    (cond s (asks (runs callS))
+    (cond m (asks (runs (callM (at fs 1) (at fs 2))))
+    (cond b (asks (runs callB))
+    (cond w (asks (runs (callW (at fs 1) (at fs 2))))
+    (cond p (asks (runs callP))
+    (cond a (asks (runs callA))
+    (cond x (asks (callX (at fs 1))) r)))))))
 
-module _ (fs : Fields) (j s m b w p a : Bool) where
-  chose-J : j ≡ true → choose fs j s m b w p a ≡ asks (callJ (at fs 1) (at fs 2))
+module _ (fs : Fields) (j s m b w p a x : Bool) (r : Asked) where
+  chose-J : j ≡ true → choose fs j s m b w p a x r ≡ asks (runs (callJ (at fs 1) (at fs 2)))
   chose-J e = rw e
 
   module _ (ej : j ≡ false) where
-    chose-S : s ≡ true → choose fs j s m b w p a ≡ asks callS
+    chose-S : s ≡ true → choose fs j s m b w p a x r ≡ asks (runs callS)
     chose-S e = rw (ej, e)
 
     module _ (es : s ≡ false) where
-      chose-M : m ≡ true → choose fs j s m b w p a ≡ asks (callM (at fs 1) (at fs 2))
+      chose-M : m ≡ true → choose fs j s m b w p a x r ≡ asks (runs (callM (at fs 1) (at fs 2)))
       chose-M e = rw (ej, es, e)
 
       module _ (em : m ≡ false) where
-        chose-B : b ≡ true → choose fs j s m b w p a ≡ asks callB
+        chose-B : b ≡ true → choose fs j s m b w p a x r ≡ asks (runs callB)
         chose-B e = rw (ej, es, em, e)
 
         module _ (eb : b ≡ false) where
-          chose-W : w ≡ true → choose fs j s m b w p a ≡ asks (callW (at fs 1) (at fs 2))
+          chose-W : w ≡ true → choose fs j s m b w p a x r ≡ asks (runs (callW (at fs 1) (at fs 2)))
           chose-W e = rw (ej, es, em, eb, e)
 
           module _ (ew : w ≡ false) where
-            chose-P : p ≡ true → choose fs j s m b w p a ≡ asks callP
+            chose-P : p ≡ true → choose fs j s m b w p a x r ≡ asks (runs callP)
             chose-P e = rw (ej, es, em, eb, ew, e)
 
             module _ (ep : p ≡ false) where
-              chose-A : a ≡ true → choose fs j s m b w p a ≡ asks callA
+              chose-A : a ≡ true → choose fs j s m b w p a x r ≡ asks (runs callA)
               chose-A e = rw (ej, es, em, eb, ew, ep, e)
 
-              chose-none : a ≡ false → choose fs j s m b w p a ≡ nothing
-              chose-none e = rw (ej, es, em, eb, ew, ep, e)
+              module _ (ea : a ≡ false) where
+                chose-X : x ≡ true → choose fs j s m b w p a x r ≡ asks (callX (at fs 1))
+                chose-X e = rw (ej, es, em, eb, ew, ep, ea, e)
 
-chosen : (fs : Fields) → asked fs ≡ choose fs (isLineOf "J" 2 fs) (isLineOf "S" 0 fs) (isLineOf "M" 2 fs) (isLineOf "B" 0 fs) (isLineOf "W" 2 fs) (isLineOf "P" 0 fs) (isLineOf "A" 0 fs)
+                chose-rest : x ≡ false → choose fs j s m b w p a x r ≡ r
+                chose-rest e = rw (ej, es, em, eb, ew, ep, ea, e)
+
+chosen : (fs : Fields) → asked fs ≡ choose fs (isLineOf "J" 2 fs) (isLineOf "S" 0 fs) (isLineOf "M" 2 fs) (isLineOf "B" 0 fs) (isLineOf "W" 2 fs) (isLineOf "P" 0 fs) (isLineOf "A" 0 fs) (isLineOf "X" 1 fs) (cond (isLate fs) (lateAsked fs) nothing)
 unfolding asked
 chosen fs = refl
 
 module _ (fs : Fields) where
   pub asked-J : (x y : ℕ) → x ≡ at fs 1 → y ≡ at fs 2 → isLineOf "J" 2 fs ≡ true → Named fs 74 x y
-  unfolding callOf
-  asked-J x y p q e = record { call = callJ (at fs 1) (at fs 2); is = rw (p, q); says = chosen fs ∙ chose-J fs (isLineOf "J" 2 fs) (isLineOf "S" 0 fs) (isLineOf "M" 2 fs) (isLineOf "B" 0 fs) (isLineOf "W" 2 fs) (isLineOf "P" 0 fs) (isLineOf "A" 0 fs) e }
+  unfolding callOf isEntry
+  asked-J x y p q e = record { call = runs (callJ (at fs 1) (at fs 2)); is = λ o. rw (p, q); says = chosen fs ∙ chose-J fs (isLineOf "J" 2 fs) (isLineOf "S" 0 fs) (isLineOf "M" 2 fs) (isLineOf "B" 0 fs) (isLineOf "W" 2 fs) (isLineOf "P" 0 fs) (isLineOf "A" 0 fs) (isLineOf "X" 1 fs) (cond (isLate fs) (lateAsked fs) nothing) e; entry = λ n. refl }
 
   module _ (ej : isLineOf "J" 2 fs ≡ false) where
     pub asked-S : isLineOf "S" 0 fs ≡ true → Named fs 83 0 0
-    unfolding callOf
-    asked-S e = record { call = callS; is = refl; says = chosen fs ∙ chose-S fs (isLineOf "J" 2 fs) (isLineOf "S" 0 fs) (isLineOf "M" 2 fs) (isLineOf "B" 0 fs) (isLineOf "W" 2 fs) (isLineOf "P" 0 fs) (isLineOf "A" 0 fs) ej e }
+    unfolding callOf isEntry
+    asked-S e = record { call = runs callS; is = λ o. refl; says = chosen fs ∙ chose-S fs (isLineOf "J" 2 fs) (isLineOf "S" 0 fs) (isLineOf "M" 2 fs) (isLineOf "B" 0 fs) (isLineOf "W" 2 fs) (isLineOf "P" 0 fs) (isLineOf "A" 0 fs) (isLineOf "X" 1 fs) (cond (isLate fs) (lateAsked fs) nothing) ej e; entry = λ n. refl }
 
     module _ (es : isLineOf "S" 0 fs ≡ false) where
       pub asked-M : (x y : ℕ) → x ≡ at fs 1 → y ≡ at fs 2 → isLineOf "M" 2 fs ≡ true → Named fs 77 x y
-      unfolding callOf
-      asked-M x y p q e = record { call = callM (at fs 1) (at fs 2); is = rw (p, q); says = chosen fs ∙ chose-M fs (isLineOf "J" 2 fs) (isLineOf "S" 0 fs) (isLineOf "M" 2 fs) (isLineOf "B" 0 fs) (isLineOf "W" 2 fs) (isLineOf "P" 0 fs) (isLineOf "A" 0 fs) ej es e }
+      unfolding callOf isEntry
+      asked-M x y p q e = record { call = runs (callM (at fs 1) (at fs 2)); is = λ o. rw (p, q); says = chosen fs ∙ chose-M fs (isLineOf "J" 2 fs) (isLineOf "S" 0 fs) (isLineOf "M" 2 fs) (isLineOf "B" 0 fs) (isLineOf "W" 2 fs) (isLineOf "P" 0 fs) (isLineOf "A" 0 fs) (isLineOf "X" 1 fs) (cond (isLate fs) (lateAsked fs) nothing) ej es e; entry = λ n. refl }
 
       module _ (em : isLineOf "M" 2 fs ≡ false) where
         pub asked-B : isLineOf "B" 0 fs ≡ true → Named fs 66 0 0
-        unfolding callOf
-        asked-B e = record { call = callB; is = refl; says = chosen fs ∙ chose-B fs (isLineOf "J" 2 fs) (isLineOf "S" 0 fs) (isLineOf "M" 2 fs) (isLineOf "B" 0 fs) (isLineOf "W" 2 fs) (isLineOf "P" 0 fs) (isLineOf "A" 0 fs) ej es em e }
+        unfolding callOf isEntry
+        asked-B e = record { call = runs callB; is = λ o. refl; says = chosen fs ∙ chose-B fs (isLineOf "J" 2 fs) (isLineOf "S" 0 fs) (isLineOf "M" 2 fs) (isLineOf "B" 0 fs) (isLineOf "W" 2 fs) (isLineOf "P" 0 fs) (isLineOf "A" 0 fs) (isLineOf "X" 1 fs) (cond (isLate fs) (lateAsked fs) nothing) ej es em e; entry = λ n. refl }
 
         module _ (eb : isLineOf "B" 0 fs ≡ false) where
           pub asked-W : (x y : ℕ) → x ≡ at fs 1 → y ≡ at fs 2 → isLineOf "W" 2 fs ≡ true → Named fs 87 x y
-          unfolding callOf
-          asked-W x y p q e = record { call = callW (at fs 1) (at fs 2); is = rw (p, q); says = chosen fs ∙ chose-W fs (isLineOf "J" 2 fs) (isLineOf "S" 0 fs) (isLineOf "M" 2 fs) (isLineOf "B" 0 fs) (isLineOf "W" 2 fs) (isLineOf "P" 0 fs) (isLineOf "A" 0 fs) ej es em eb e }
+          unfolding callOf isEntry
+          asked-W x y p q e = record { call = runs (callW (at fs 1) (at fs 2)); is = λ o. rw (p, q); says = chosen fs ∙ chose-W fs (isLineOf "J" 2 fs) (isLineOf "S" 0 fs) (isLineOf "M" 2 fs) (isLineOf "B" 0 fs) (isLineOf "W" 2 fs) (isLineOf "P" 0 fs) (isLineOf "A" 0 fs) (isLineOf "X" 1 fs) (cond (isLate fs) (lateAsked fs) nothing) ej es em eb e; entry = λ n. refl }
 
           module _ (ew : isLineOf "W" 2 fs ≡ false) where
             pub asked-P : isLineOf "P" 0 fs ≡ true → Named fs 80 0 0
-            unfolding callOf
-            asked-P e = record { call = callP; is = refl; says = chosen fs ∙ chose-P fs (isLineOf "J" 2 fs) (isLineOf "S" 0 fs) (isLineOf "M" 2 fs) (isLineOf "B" 0 fs) (isLineOf "W" 2 fs) (isLineOf "P" 0 fs) (isLineOf "A" 0 fs) ej es em eb ew e }
+            unfolding callOf isEntry
+            asked-P e = record { call = runs callP; is = λ o. refl; says = chosen fs ∙ chose-P fs (isLineOf "J" 2 fs) (isLineOf "S" 0 fs) (isLineOf "M" 2 fs) (isLineOf "B" 0 fs) (isLineOf "W" 2 fs) (isLineOf "P" 0 fs) (isLineOf "A" 0 fs) (isLineOf "X" 1 fs) (cond (isLate fs) (lateAsked fs) nothing) ej es em eb ew e; entry = λ n. refl }
 
             module _ (ep : isLineOf "P" 0 fs ≡ false) where
               pub asked-A : isLineOf "A" 0 fs ≡ true → Named fs 65 0 0
-              unfolding callOf
-              asked-A e = record { call = callA; is = refl; says = chosen fs ∙ chose-A fs (isLineOf "J" 2 fs) (isLineOf "S" 0 fs) (isLineOf "M" 2 fs) (isLineOf "B" 0 fs) (isLineOf "W" 2 fs) (isLineOf "P" 0 fs) (isLineOf "A" 0 fs) ej es em eb ew ep e }
+              unfolding callOf isEntry
+              asked-A e = record { call = runs callA; is = λ o. refl; says = chosen fs ∙ chose-A fs (isLineOf "J" 2 fs) (isLineOf "S" 0 fs) (isLineOf "M" 2 fs) (isLineOf "B" 0 fs) (isLineOf "W" 2 fs) (isLineOf "P" 0 fs) (isLineOf "A" 0 fs) (isLineOf "X" 1 fs) (cond (isLate fs) (lateAsked fs) nothing) ej es em eb ew ep e; entry = λ n. refl }
 
-              pub asked-none : isLineOf "A" 0 fs ≡ false → nothing ≡ asked fs
-              asked-none e = sym (chosen fs ∙ chose-none fs (isLineOf "J" 2 fs) (isLineOf "S" 0 fs) (isLineOf "M" 2 fs) (isLineOf "B" 0 fs) (isLineOf "W" 2 fs) (isLineOf "P" 0 fs) (isLineOf "A" 0 fs) ej es em eb ew ep e)
+              module _ (ea : isLineOf "A" 0 fs ≡ false) where
+                pub asked-X : (x : ℕ) → x ≡ at fs 1 → isLineOf "X" 1 fs ≡ true → Named fs 88 x 0
+                unfolding callOf isEntry
+                asked-X x p e = record { call = callX (at fs 1); is = λ o. rw p; says = chosen fs ∙ chose-X fs (isLineOf "J" 2 fs) (isLineOf "S" 0 fs) (isLineOf "M" 2 fs) (isLineOf "B" 0 fs) (isLineOf "W" 2 fs) (isLineOf "P" 0 fs) (isLineOf "A" 0 fs) (isLineOf "X" 1 fs) (cond (isLate fs) (lateAsked fs) nothing) ej es em eb ew ep ea e; entry = λ n. refl }
+
+                pub asked-rest : isLineOf "X" 1 fs ≡ false → asked fs ≡ cond (isLate fs) (lateAsked fs) nothing
+                asked-rest e = chosen fs ∙ chose-rest fs (isLineOf "J" 2 fs) (isLineOf "S" 0 fs) (isLineOf "M" 2 fs) (isLineOf "B" 0 fs) (isLineOf "W" 2 fs) (isLineOf "P" 0 fs) (isLineOf "A" 0 fs) (isLineOf "X" 1 fs) (cond (isLate fs) (lateAsked fs) nothing) ej es em eb ew ep ea e
 
 -- ---- SALE, EST
 module _ (limits : Limits) (n : ℕ) (fs : Fields) where
@@ -169,6 +182,14 @@ word-P = refl
 pub word-A : bytes "A" ≡ 65 ∷ []
 unfolding bytes
 word-A = refl
+
+pub word-X : bytes "X" ≡ 88 ∷ []
+unfolding bytes
+word-X = refl
+
+pub word-N : bytes "N" ≡ 78 ∷ []
+unfolding bytes
+word-N = refl
 
 pub word-SALE : bytes "SALE" ≡ 83 ∷ 65 ∷ 76 ∷ 69 ∷ []
 unfolding bytes

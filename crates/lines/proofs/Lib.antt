@@ -4,4 +4,5 @@ pub mod LotLines
 pub mod Stamps
 pub mod Fields
 pub mod Bids
+pub mod Operands
 pub mod Ranges

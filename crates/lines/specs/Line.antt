@@ -1,24 +1,25 @@
--- What the functions for the first line, a lot line and a call line answer. Rests on model's grammar. Assumes nothing.
+-- What the functions for the first line, a lot line and a call line other than N answer. Rests on model's grammar. Assumes nothing.
 use Prim.Native.Nat.{ℕ, _≤_}
 use mathlib.Core.Path.{_≡_}
 use mathlib.Core.Bool.{Bool, true, cond, not, _&&_, _||_}
 use mathlib.Core.List.{List, []}
-use lib.Dec.{eqb, ltb}
-use lib.ListN.{getD}
+use lib.Dec.{eqb, leb, ltb}
+use lib.ListN.{length, getD, drop}
 use lib.Seq.{slice}
 use Rattle.model.specs.Catalogue.{Limits, Hypergraph}
-use Rattle.model.specs.Machine.{Call}
-use Rattle.model.specs.Grammar.{Fields, Book, Reading, reading, stopped, asks, nothing, asked, callOf, grown, withLot, endsInK, beforeK, fields, within, isLineOf, saleLine, lotLine}
+use Rattle.model.specs.Sale.{Request, callN}
+use Rattle.model.specs.Grammar.{Fields, at, values, Book, Reading, reading, stopped, Asked, asks, nothing, asked, callOf, grown, withLot, endsInK, beforeK, fields, within, isLine, isLineOf, saleLine, lotLine}
+use Rattle.model.specs.ListEntry.{isEntry}
 use Rattle.text.specs.Field.{Numbered}
-use Rattle.lines.specs.declared.Ask.{Ask}
-use Rattle.lines.specs.declared.Ask.the-variants.{Asks, Nothing}
+use Rattle.lines.specs.declared.Short.{Short}
+use Rattle.lines.specs.declared.Short.the-variants.{Calls, Other}
 use Rattle.lines.specs.declared.Head.{Head}
 use Rattle.lines.specs.declared.Head.the-variants.{Sale, NoSale}
 use Rattle.lines.specs.declared.Lot.{Lot}
 use Rattle.lines.specs.declared.Lot.the-variants.{Of, NoLot}
 
 -- a book by its parts
-abbrev pub book : Bool → ℕ → ℕ → Hypergraph → ℕ → List Call → Book
+abbrev pub book : Bool → ℕ → ℕ → Hypergraph → ℕ → List Request → Book
 book estimated lots buyers h marks calls = record { estimated = estimated; lots = lots; buyers = buyers; graph = h; marks = marks; calls = calls }
 
 -- limits by their parts
@@ -29,16 +30,24 @@ limitsOf v b = record { vertexLimit = v; blockLimit = b }
 abbrev pub Past : ℕ → List ℕ → List ℕ → Type 0
 Past n old new = (x : ℕ) → n ≤ x → getD new x 0 ≡ getD old x 0
 
--- three numbers stand for a line's call
+-- three numbers stand for a line's call, whatever the operands are
 pub record Named (fs : Fields) (k a b : ℕ) : Type 0 where
-  pub call : Call
-  pub is : callOf k a b ≡ asks call
+  pub call : Request
+  pub is : (operands : List ℕ) → callOf operands k a b ≡ asks call
   pub says : asked fs ≡ asks call
+  pub entry : (n : ℕ) → isEntry n k a b ≡ true
 
--- a call line
-abbrev pub CallRead : Fields → Ask → Type 0
-CallRead fs (Asks k a b) = Named fs k a b
-CallRead fs Nothing = nothing ≡ asked fs
+-- an N line, and what it asks
+abbrev pub isLate : Fields → Bool
+isLate fs = isLine "N" fs && leb 3 (length fs)
+
+abbrev pub lateAsked : Fields → Asked
+lateAsked fs = asks (callN (at fs 1) (at fs 2) (values (drop 3 fs)))
+
+-- a call line with a fixed number of fields; any other is an N line or none
+abbrev pub ShortRead : Fields → Short → Type 0
+ShortRead fs (Calls k a b) = Named fs k a b
+ShortRead fs Other = asked fs ≡ cond (isLate fs) (lateAsked fs) nothing
 
 -- ---- the first line
 -- it announces a sale or an estimate, and its four numbers are there

@@ -1,17 +1,24 @@
 // One line of a sale file: the first line, a lot's, a buyer's, a call's. Each function is proved against a definition of model.
 use text::between;
 ghost use mathlib.Core.Path.{_≡_};
-ghost use Prim.Native.Nat.{_≤_};
+ghost use Prim.Native.Nat.{_*_, _≤_, _<_};
 ghost use lib.ListN.{length};
 ghost use lib.Seq.{slice};
 ghost use Rattle.model.specs.Grammar.{parts, fields};
-ghost use Rattle.lines.specs.Line.{limitsOf, CallRead, Announces, SaleRead, FieldsEnd, numbersOf, balesRefusal, sessionRefusal, firstOf, LotRead};
+ghost use Rattle.lines.specs.Line.{limitsOf, ShortRead, Announces, SaleRead, FieldsEnd, numbersOf, balesRefusal, sessionRefusal, firstOf, LotRead};
+ghost use Rattle.lines.specs.Late.{OperandsRead, LateRead, CallRead};
 ghost use Rattle.lines.specs.Mark.{Fresh, MarkOne, refusalOf, MarksRead, WeightRead, BuyRead};
 
-// A call line's call: the byte of its letter and its numbers.
+// A call line's call: the byte of its letter, its numbers and how many operands are in use behind it.
 pub enum Ask {
-    Asks(u32, u32, u32),
+    Asks(u32, u32, u32, usize),
     Nothing,
+}
+
+// The call of a line with a fixed number of fields: the byte of its letter and its numbers.
+pub enum Short {
+    Calls(u32, u32, u32),
+    Other,
 }
 
 // The first line: lots, buyers, sessions, slack and whether the file is an estimate.
@@ -38,45 +45,108 @@ pub enum Buy {
     NoBuy(u8),
 }
 
-// The call of a call line.
-pub fn call_line(s: &[u8], at: usize, end: usize) -> Ask
+// The call of a call line other than N.
+fn short_line(s: &[u8], at: usize, end: usize) -> Short
     requires { ⌜ (at ≤ end) × (end ≤ length (now s)) ⌝ }
-    ensures { λ r. ⌜ CallRead (fields (slice at end (now (s .entry)))) r ⌝ }
+    ensures { λ r. ⌜ ShortRead (fields (slice at end (now (s .entry)))) r ⌝ }
 {
     if text::form(s, at, end, b"J") == 3 {
-        return Ask::Asks(
+        return Short::Calls(
             text::letters::J,
             text::get(s, at, end, 1),
             text::get(s, at, end, 2),
         );
     }
     if text::form(s, at, end, b"S") == 1 {
-        return Ask::Asks(text::letters::S, 0, 0);
+        return Short::Calls(text::letters::S, 0, 0);
     }
     if text::form(s, at, end, b"M") == 3 {
-        return Ask::Asks(
+        return Short::Calls(
             text::letters::M,
             text::get(s, at, end, 1),
             text::get(s, at, end, 2),
         );
     }
     if text::form(s, at, end, b"B") == 1 {
-        return Ask::Asks(text::letters::B, 0, 0);
+        return Short::Calls(text::letters::B, 0, 0);
     }
     if text::form(s, at, end, b"W") == 3 {
-        return Ask::Asks(
+        return Short::Calls(
             text::letters::W,
             text::get(s, at, end, 1),
             text::get(s, at, end, 2),
         );
     }
     if text::form(s, at, end, b"P") == 1 {
-        return Ask::Asks(text::letters::P, 0, 0);
+        return Short::Calls(text::letters::P, 0, 0);
     }
     if text::form(s, at, end, b"A") == 1 {
-        return Ask::Asks(text::letters::A, 0, 0);
+        return Short::Calls(text::letters::A, 0, 0);
     }
-    Ask::Nothing
+    if text::form(s, at, end, b"X") == 2 {
+        return Short::Calls(text::letters::X, text::get(s, at, end, 1), 0);
+    }
+    Short::Other
+}
+
+// The numbers in the fields from `at` to `end`, into the operands from `first` on: where they end there, or 0 where a field is no number.
+// A number and the comma before it take two bytes, so that operands half as many as the bytes are enough.
+fn read_operands(s: &[u8], at: usize, end: usize, first: usize, operands: &mut [u32]) -> usize
+    requires { ⌜ (2 * first < at) × (at ≤ end) × (end ≤ length (now s)) × (end ≤ 2 * length (now operands)) ⌝ }
+    ensures { λ r. ⌜ OperandsRead (parts 44 (slice at end (now (s .entry)))) first end r (now (operands .entry)) (now (operands .exit)) ⌝ }
+{
+    let mut i = at;
+    let mut m = first;
+    loop {
+        let f = text::read_number(s, i, end);
+        let e = f.end;
+        if e == i {
+            return 0;
+        }
+        operands[m] = f.value;
+        m += 1;
+        if e == end {
+            return m;
+        }
+        i = e + 1;
+    }
+}
+
+// The numbers of an N line, into the operands from `first` on: where they end there, or 0 where the line is none.
+fn late_line(s: &[u8], at: usize, end: usize, first: usize, operands: &mut [u32]) -> usize
+    requires { ⌜ (2 * first ≤ at) × (at ≤ end) × (end ≤ length (now s)) × (end ≤ 2 * length (now operands)) ⌝ }
+    ensures { λ r. ⌜ LateRead (fields (slice at end (now (s .entry)))) first end r (now (operands .entry)) (now (operands .exit)) ⌝ }
+{
+    let a = text::find(s, at, end, b',');
+    if !text::word(s, at, a, b"N") {
+        return 0;
+    }
+    if a == end {
+        return 0;
+    }
+    let m = read_operands(s, a + 1, end, first, operands);
+    if m < first + 2 {
+        return 0;
+    }
+    m
+}
+
+// The call of a call line. The numbers of an N line go behind the `used` operands: its own two numbers are where they begin and how many
+// they are. A line that is no call may change operands behind those in use.
+pub fn call_line(s: &[u8], at: usize, end: usize, used: usize, operands: &mut [u32]) -> Ask
+    requires { ⌜ (2 * used ≤ at) × (at ≤ end) × (end ≤ length (now s)) × (end ≤ 2 * length (now operands)) × (end ≤ 60000) ⌝ }
+    ensures { λ r. ⌜ CallRead (fields (slice at end (now (s .entry)))) end used r (now (operands .entry)) (now (operands .exit)) ⌝ }
+{
+    match short_line(s, at, end) {
+        Short::Calls(k, a, b) => Ask::Asks(k, a, b, used),
+        Short::Other => {
+            let m = late_line(s, at, end, used, operands);
+            if m == 0 {
+                return Ask::Nothing;
+            }
+            Ask::Asks(text::letters::N, used as u32, (m - used) as u32, m)
+        }
+    }
 }
 
 // The numbers of the first line.

@@ -1,7 +1,7 @@
 -- An accepted file: its tables are those of a fresh machine, its numbers fit, and no session is above its cap. Rests on Fill, Stretches and guarantees' laws of accepted files.
 use Prim.Native.Nat.{ℕ, zero, suc, _+_, _-_, _*_, _/_, _≤_, _<_}
 use mathlib.Core.Path.{_≡_, refl, ap, sym, _∙_}
-use mathlib.Core.Bool.{Bool, cond}
+use mathlib.Core.Bool.{Bool, false, cond}
 use mathlib.Core.List.{List, []}
 use native.Mathlib.Omega.{arith}
 use native.Mathlib.Nat.{div-le-self}
@@ -15,10 +15,11 @@ use Rattle.model.specs.Catalogue.{Limits, Hypergraph, vertices, fixedEntry, dra
 use Rattle.model.specs.Measure.{pin, size, weight}
 use Rattle.model.specs.Machine.{fresh}
 use Rattle.model.specs.Grammar.{Book, reading, parse}
-use Rattle.model.specs.Memory.{Filled, net, allPins, firstPlace, weightEntry, blockEntry, weightWhenGone, takenOut}
+use Rattle.model.specs.Memory.{Filled, net, allPins, firstPlace, weightEntry, blockEntry, weightWhenGone, takenOut, pastMarks}
 use Rattle.model.specs.Lent.{callsOf, lists}
 use Rattle.guarantees.specs.Caps.{Capped}
-use Rattle.guarantees.specs.Loads.{Loaded as Good, sum-below, parsed, held-start}
+use Rattle.guarantees.specs.Loads.{Loaded as Good, sum-below, parsed, held-start, loaded-sale}
+use Rattle.guarantees.specs.Board.{board-is}
 use Rattle.guarantees.specs.Splits.{board-none, above-none, weight-none}
 use Rattle.laws.specs.Rising.{Rising}
 use Rattle.pins.specs.Sorting.{start, SortableNets}
@@ -38,9 +39,9 @@ refused-accepted : {A : Type 0} {q n : ℕ} {z : Sizes} → Refused q n ≡ Acce
 refused-accepted e = absurd (let z : _≡_ {A = ℕ} 0 1 = cc in omega arith)
 
 -- a refused file
-pub refused : (limits : Limits) (file : List ℕ) (r : Outcome) (q n : ℕ) (w₀ d₀ fx₀ a pp pc f₀ c₀ lp₀ w d fx nw lo f c lp calls : List ℕ) → FileRead limits file r w₀ d₀ fx₀ f₀ c₀ lp₀ w d fx nw lo f c lp calls → r ≡ Stopped q n
-    → Loads limits file (Refused q n) (lists w₀ d₀ a fx₀ lp₀ pp f₀ c₀ pc) (lists w d a fx lp pp f c pc) nw lo calls
-refused limits file r q n w₀ d₀ fx₀ a pp pc f₀ c₀ lp₀ w d fx nw lo f c lp calls read is = record { estimated = read .estimated; says = ap (λ (x : Outcome). told (read .estimated) x w d fx nw lo f c lp calls) (sym is) ∙ read .says; accepts = λ z y. refused-accepted y }
+pub refused : (limits : Limits) (file : List ℕ) (r : Outcome) (q n : ℕ) (w₀ d₀ fx₀ a pp pc f₀ c₀ lp₀ w d fx nw lo f c lp calls ops : List ℕ) → FileRead limits file r w₀ d₀ fx₀ f₀ c₀ lp₀ w d fx nw lo f c lp calls ops → r ≡ Stopped q n
+    → Loads limits file (Refused q n) (lists w₀ d₀ a fx₀ lp₀ pp f₀ c₀ pc) (lists w d a fx lp pp f c pc) nw lo calls ops
+refused limits file r q n w₀ d₀ fx₀ a pp pc f₀ c₀ lp₀ w d fx nw lo f c lp calls ops read is = record { estimated = read .estimated; says = ap (λ (x : Outcome). told (read .estimated) x w d fx nw lo f c lp calls ops) (sym is) ∙ read .says; accepts = λ z y. refused-accepted y }
 
 -- ---- weights are small
 pub small-average : (limits : Limits) (h : Hypergraph) → Good limits h → vertices h ≤ 1024 → (k : ℕ) → averageOf k (h .lows) ≤ 67107855 + k
@@ -48,20 +49,20 @@ small-average limits h g l k =
     let s = sumOver-le (h .weights) (λ w. (1 ≤ w) × (w ≤ 65535)) (λ w. w) 65535 (g .weights-in) (λ w r. r .1) in
     omega (arith, sum-below (h .lows) (h .weights) (g .lows-long) (g .lows-in), div-le-self (sumOver (h .lows) (λ w. w) + (k - 1)) k)
 
-module _ (limits : Limits) (file : List ℕ) (l b k t m n : ℕ) (w₀ d₀ a₀ fx₀ lp₀ pp₀ f₀ c₀ pc₀ w d a fx lp pp f c pc nw lo calls : List ℕ) where
+module _ (limits : Limits) (file : List ℕ) (l b k t m n : ℕ) (w₀ d₀ a₀ fx₀ lp₀ pp₀ f₀ c₀ pc₀ w d a fx lp pp f c pc nw lo calls ops : List ℕ) where
   abbrev h : Hypergraph
   h = graphOf l b k t w d fx nw lo f c lp
 
   abbrev k′ : Bool → Book
-  k′ est = book est l b h m (callsOf n calls)
+  k′ est = book est l b h m (callsOf ops n calls)
 
-  module _ (r : Outcome) (read : FileRead limits file r w₀ d₀ fx₀ f₀ c₀ lp₀ w d fx nw lo f c lp calls) (is : r ≡ Taken l b k t m n) (v-le : limits .vertexLimit ≤ 1024)
+  module _ (r : Outcome) (read : FileRead limits file r w₀ d₀ fx₀ f₀ c₀ lp₀ w d fx nw lo f c lp calls ops) (is : r ≡ Taken l b k t m n) (v-le : limits .vertexLimit ≤ 1024)
       (w-len : length w ≡ length w₀) (d-len : length d ≡ length d₀) (fx-len : length fx ≡ length fx₀) (lp-len : length lp ≡ length lp₀) (f-len : length f ≡ length f₀) (c-len : length c ≡ length c₀)
       (w-long : limits .vertexLimit ≤ length w₀) (d-long : limits .vertexLimit ≤ length d₀) (lp-long : 8192 ≤ length lp₀) (pp-long : 8192 ≤ length pp₀) where
     says : reading (k′ (read .estimated)) ≡ parse limits file
-    says = ap (λ (x : Outcome). told (read .estimated) x w d fx nw lo f c lp calls) (sym is) ∙ read .says
+    says = ap (λ (x : Outcome). told (read .estimated) x w d fx nw lo f c lp calls ops) (sym is) ∙ read .says
 
-    fit : Fitted limits l b k t m n w₀ d₀ fx₀ f₀ c₀ lp₀ w d fx f c lp calls
+    fit : Fitted limits l b k t m n w₀ d₀ fx₀ f₀ c₀ lp₀ w d fx f c lp calls ops
     fit = read .fitted l b k t m n is
 
     good : Good limits h
@@ -106,7 +107,7 @@ module _ (limits : Limits) (file : List ℕ) (l b k t m n : ℕ) (w₀ d₀ a₀
       unfolding blockEntry
       block-at i u _ =
           let z : suc i - 1 ≡ i = omega arith in
-          sym (ap (λ (t : Bool). cond t (drafted h (suc i)) 0) (board-none (suc i))
+          sym (ap (λ (t : Bool). cond t (drafted h (suc i)) 0) (board-is h [] (suc i) (above-none (suc i)) (loaded-sale good (suc i) (omega arith) (omega (arith, count))))
           ∙ ap (λ (j : ℕ). getD (take l d) j 0) z
           ∙ getD-take l d i 0 u)
 
@@ -180,6 +181,10 @@ module _ (limits : Limits) (file : List ℕ) (l b k t m n : ℕ) (w₀ d₀ a₀
       unfolding takenOut
       none-taken e i l u k = absurd (omega arith)
 
+      past-at : (i : ℕ) → length (allPins (h .nets)) ≤ i → i < length pp₀ → getD pp i 0 ≡ pastMarks false pp₀ i
+      unfolding pastMarks
+      past-at i u v = fp .sorted .behind i (omega (arith, total, laid .m-is)) ∙ filled-out m (λ i. getD lp i 0) pp₀ (fp .copy) (fp .copied) i (omega (arith, total)) v
+
       pub started : Started h (lists w₀ d₀ a₀ fx₀ lp₀ pp₀ f₀ c₀ pc₀) (lists w d a fx lp pp f c pc)
       started = record {
         weights = filled-as l (vertices h) _ _ w₀ w (filled l (λ i. weightEntry h [] (drafted h) (suc i)) w₀ w w-len weight-at (fit .w-past)) (sym count) (λ i u. refl);
@@ -194,7 +199,7 @@ module _ (limits : Limits) (file : List ℕ) (l b k t m n : ℕ) (w₀ d₀ a₀
           rising = rising-at;
           whole = whole-at;
           taken = none-taken;
-          past = λ i u v. fp .sorted .behind i (omega (arith, total, laid .m-is)) ∙ filled-out m (λ i. getD lp i 0) pp₀ (fp .copy) (fp .copied) i (omega (arith, total)) v;
+          past = past-at;
         };
         firsts = filled-as b (length (h .nets)) (λ i. getD f i 0) _ f₀ f (filled b (λ i. getD f i 0) f₀ f f-len (λ i u v. refl) (laid .f-past)) (sym known) first-at;
         loadedSizes = filled-as b (length (h .nets)) (λ i. getD c i 0) _ c₀ c (filled b (λ i. getD c i 0) c₀ c c-len (λ i u v. refl) (laid .c-past)) (sym known) (λ i u. sym (size-is h b m f₀ c₀ lp₀ nw f c lp refl laid wide i u));
@@ -206,7 +211,7 @@ module _ (limits : Limits) (file : List ℕ) (l b k t m n : ℕ) (w₀ d₀ a₀
       capped = held-start limits file (k′ (read .estimated)) (sym says) .capped
 
       pub accepted : (s : Sizes) → s ≡ sizesOf l b k t m n (averageOf k (take l lo)) (nearest ((1000 + t) * averageOf k (take l lo)))
-          → Loads limits file (Accepted s) (lists w₀ d₀ a₀ fx₀ lp₀ pp₀ f₀ c₀ pc₀) (lists w d a fx lp pp f c pc) nw lo calls
+          → Loads limits file (Accepted s) (lists w₀ d₀ a₀ fx₀ lp₀ pp₀ f₀ c₀ pc₀) (lists w d a fx lp pp f c pc) nw lo calls ops
       accepted s e = record {
         estimated = read .estimated;
         says = rw e says;
@@ -218,6 +223,7 @@ module _ (limits : Limits) (file : List ℕ) (l b k t m n : ℕ) (w₀ d₀ a₀
               calls-le = fit .settled .n-le;
               costs = read .nw-len l b k t m n is;
               known = fit .settled .known;
+              entries = fit .settled .entries;
               average = sym (average-is l k t w d fx lo (netsOf b nw f c lp));
               capacity = sym (capacity-is l k t w d fx lo (netsOf b nw f c lp));
               capped = capped;

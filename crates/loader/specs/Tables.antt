@@ -1,7 +1,7 @@
 -- What loading leaves in lent memory: for an accepted file, exactly what document 01's "Lent memory" says before any call. Rests on model's Memory and on reader. Assumes nothing.
 use Prim.Native.Nat.{ℕ, _≤_}
 use mathlib.Core.Path.{_≡_}
-use mathlib.Core.Bool.{Bool}
+use mathlib.Core.Bool.{Bool, true, false}
 use mathlib.Core.List.{List, []}
 use lib.Dec.{ltb}
 use lib.ListN.{length, getD}
@@ -12,6 +12,7 @@ use Rattle.model.specs.Measure.{above, pin, size}
 use Rattle.model.specs.Grammar.{Reading, reading, stopped, parse}
 use Rattle.model.specs.Memory.{Filled, Column, Pins, net, allPins, firstPlace, weightEntry, blockEntry}
 use Rattle.model.specs.Lent.{Lists, callsOf}
+use Rattle.model.specs.ListEntry.{entriesTo}
 use Rattle.guarantees.specs.Caps.{Capped}
 use Rattle.pins.specs.Sorting.{SortedTo}
 use Rattle.lines.specs.Line.{book, InRange}
@@ -46,7 +47,7 @@ pub record Started (h : Hypergraph) (old new : Lists) : Type 0 where
   pub fixed : Column (vertices h) (fixedEntry h) (old .fixed) (new .fixed)
   pub loadedPins : Filled 0 (λ i. ltb i (length (allPins (h .nets)))) (λ i. getD (allPins (h .nets)) i 0) (old .loadedPins) (new .loadedPins)
   pub loadedOften : (e v : ℕ) → 1 ≤ e → e ≤ length (h .nets) → occ (new .loadedPins) (firstPlace h e) (size h [] (net h e)) v ≡ one (pin [] (net h e) v)
-  pub presentPins : Pins h [] (old .presentPins) (new .presentPins)
+  pub presentPins : Pins h false [] (old .presentPins) (new .presentPins)
   pub firsts : Column (length (h .nets)) (firstPlace h) (old .firsts) (new .firsts)
   pub loadedSizes : Column (length (h .nets)) (λ e. length (net h e .pins)) (old .loadedSizes) (new .loadedSizes)
   pub presentSizes : Column (length (h .nets)) (λ e. size h [] (net h e)) (old .presentSizes) (new .presentSizes)
@@ -60,24 +61,25 @@ abbrev pub graph : Sizes → Lists → List ℕ → List ℕ → Hypergraph
 graph z t nw lo = graphOf (z .vertices) (z .nets) (z .blocks) (z .imbalance) (t .weights) (t .blocks) (t .fixed) nw lo (t .firsts) (t .loadedSizes) (t .loadedPins)
 
 -- what the loader's answer and the tables say
-abbrev pub seen : Bool → Loaded → Lists → List ℕ → List ℕ → List ℕ → Reading
-seen estimated (Accepted z) t nw lo calls = reading (book estimated (z .vertices) (z .nets) (graph z t nw lo) (z .pins) (callsOf (z .calls) calls))
-seen estimated (Refused q n) t nw lo calls = stopped q n
+abbrev pub seen : Bool → Loaded → Lists → List ℕ → List ℕ → List ℕ → List ℕ → Reading
+seen estimated (Accepted z) t nw lo calls ops = reading (book estimated (z .vertices) (z .nets) (graph z t nw lo) (z .pins) (callsOf ops (z .calls) calls))
+seen estimated (Refused q n) t nw lo calls ops = stopped q n
 
--- an accepted file: sizes in range, net weights of 1,024 entries, each three numbers of the table a call, the capacity and ⌈W/k⌉, no session above its cap, the lists
-pub record Accepts (limits : Limits) (z : Sizes) (old new : Lists) (nw lo calls : List ℕ) : Type 0 where
+-- an accepted file: sizes in range, net weights of 1,024 entries, each three numbers of the table a call, whose operands are there, the capacity and ⌈W/k⌉, no session above its cap, the lists
+pub record Accepts (limits : Limits) (z : Sizes) (old new : Lists) (nw lo calls ops : List ℕ) : Type 0 where
   pub range : InRange limits (z .vertices) (z .nets) (z .blocks) (z .imbalance)
   pub pins-le : z .pins ≤ 8192
   pub calls-le : z .calls ≤ 512
   pub costs : length nw ≡ 1024
-  pub known : length (callsOf (z .calls) calls) ≡ z .calls
+  pub known : length (callsOf ops (z .calls) calls) ≡ z .calls
+  pub entries : entriesTo (length ops) (z .calls) calls ≡ true
   pub average : z .average ≡ averageWeight (graph z new nw lo)
   pub capacity : z .capacity ≡ capacity (graph z new nw lo)
   pub capped : Capped (graph z new nw lo) (capacities (graph z new nw lo)) [] (drafted (graph z new nw lo))
   pub started : Started (graph z new nw lo) old new
 
 -- the loader's promise: model's grammar on the same bytes, a sale's or an estimate's, and the tables of an accepted file
-pub record Loads (limits : Limits) (file : List ℕ) (r : Loaded) (old new : Lists) (nw lo calls : List ℕ) : Type 0 where
+pub record Loads (limits : Limits) (file : List ℕ) (r : Loaded) (old new : Lists) (nw lo calls ops : List ℕ) : Type 0 where
   pub estimated : Bool
-  pub says : seen estimated r new nw lo calls ≡ parse limits file
-  pub accepts : (z : Sizes) → r ≡ Accepted z → Accepts limits z old new nw lo calls
+  pub says : seen estimated r new nw lo calls ops ≡ parse limits file
+  pub accepts : (z : Sizes) → r ≡ Accepted z → Accepts limits z old new nw lo calls ops

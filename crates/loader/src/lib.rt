@@ -106,7 +106,8 @@ fn measure(
     }
 }
 
-// Loads a sale file: vmax lots and bmax sessions are its limits. The calls are three numbers each: the letter's byte and two numbers.
+// Loads a sale file: vmax lots and bmax sessions are its limits. The calls are three numbers each: the letter's byte and
+// two numbers, which for N are where its own numbers begin among the operands and how many they are.
 pub fn load(
     s: &[u8],
     vmax: u32,
@@ -123,13 +124,14 @@ pub fn load(
     netweights: &mut [u16; 1024],
     lows: &mut [u32; 1024],
     calls: &mut [u32],
+    operands: &mut [u32],
 ) -> Loaded
-    requires { ⌜ (vmax ≤ 1024) × (bmax ≤ 16) × (length (now netweights) ≡ 1024) × (length (now lows) ≡ 1024) × (1536 ≤ length (now calls)) × LongLists vmax
+    requires { ⌜ (vmax ≤ 1024) × (bmax ≤ 16) × (length (now netweights) ≡ 1024) × (length (now lows) ≡ 1024) × (1536 ≤ length (now calls)) × (30000 ≤ length (now operands)) × LongLists vmax
         (lists (now weights) (now blocks) (now aboves) (now fixed) (now loadedpins) (now presentpins) (now firsts) (now loadedsizes) (now presentsizes)) ⌝ }
     ensures { λ r. ⌜ Loads (limitsOf vmax bmax) (now (s .entry)) r
         (lists (now (weights .entry)) (now (blocks .entry)) (now (aboves .entry)) (now (fixed .entry)) (now (loadedpins .entry)) (now (presentpins .entry)) (now (firsts .entry)) (now (loadedsizes .entry)) (now (presentsizes .entry)))
         (lists (now (weights .exit)) (now (blocks .exit)) (now (aboves .exit)) (now (fixed .exit)) (now (loadedpins .exit)) (now (presentpins .exit)) (now (firsts .exit)) (now (loadedsizes .exit)) (now (presentsizes .exit)))
-        (now (netweights .exit)) (now (lows .exit)) (now (calls .exit)) ⌝ }
+        (now (netweights .exit)) (now (lows .exit)) (now (calls .exit)) (now (operands .exit)) ⌝ }
 {
     match reader::read(
         s,
@@ -144,6 +146,7 @@ pub fn load(
         loadedsizes,
         loadedpins,
         calls,
+        operands,
     ) {
         Outcome::Refused(q, n) => Loaded::Refused(q, n),
         Outcome::Taken(l, b, k, t, m, n) => {

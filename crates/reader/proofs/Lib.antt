@@ -1,3 +1,4 @@
+pub mod CallTable
 pub mod Turns
 pub mod Lots
 pub mod NetLines

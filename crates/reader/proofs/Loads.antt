@@ -17,7 +17,8 @@ use Rattle.model.specs.Grammar.{overfull}
 use Rattle.guarantees.specs.Splits.{blockWeight-none}
 use Rattle.reader.specs.Seen.{lotsGraph}
 use Rattle.reader.specs.Buyers.{withNets}
-use Rattle.reader.specs.Whole.{averageOf, blockTerm}
+use Rattle.block_weights.specs.Term.{blockTerm}
+use Rattle.reader.specs.Whole.{averageOf}
 
 pub sum-take : (n : ℕ) (w : List ℕ) → n ≤ length w → sum n (λ i. getD w i 0) ≡ sumOver (take n w) (λ x. x)
 sum-take n w l =

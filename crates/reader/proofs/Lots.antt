@@ -13,7 +13,7 @@ use mir.Val.{boolByte}
 use Rattle.laws.specs.Choice.{one}
 use Rattle.laws.specs.Fold.{sumOver-more}
 use Rattle.model.specs.Catalogue.{Limits, Hypergraph}
-use Rattle.model.specs.Machine.{Call}
+use Rattle.model.specs.Sale.{Request}
 use Rattle.model.specs.Grammar.{Book, Reading, reading, stopped, parts, fields, whole, overfull, grown, withLot, endsInK, beforeK, lotLine, line, ending, lines}
 use Rattle.text.specs.Field.{FirstAt}
 use Rattle.reader.proofs.Turns.{lines-stopped, no-more, turned}
@@ -39,7 +39,7 @@ partly-end k e n [] = ap (λ (t : Bool). cond t (reading k) (stopped 2 n)) e
 partly-end k e n (x ∷ xs) = ap (λ (t : Bool). cond (t && leb 512 (length (k .calls))) (stopped 7 n) (stopped 2 n)) e
 
 -- lots are missing
-module _ (est : Bool) (l b : ℕ) (h : Hypergraph) (m : ℕ) (cs : List Call) (lt : length (h .weights) < l) where
+module _ (est : Bool) (l b : ℕ) (h : Hypergraph) (m : ℕ) (cs : List Request) (lt : length (h .weights) < l) where
   pub few-lots : whole (book est l b h m cs) ≡ false
   few-lots = ap (λ (t : Bool). t && eqb (length (h .nets)) b) (ne-eqb (length (h .weights)) l (λ e. omega arith))
 

@@ -1,24 +1,29 @@
--- One line after another: what the lines from a cursor on say; the table of calls. Rests on Seen and on text's laws of parts.
+-- One line after another: what the lines from a cursor on say; the lines of calls. Rests on Seen, CallTable and text's laws of parts.
 use Prim.Native.Nat.{ℕ, zero, suc, _+_, _-_, _*_, _≤_, _<_}
-use mathlib.Core.Path.{_≡_, refl, ap, sym, _∙_}
+use mathlib.Core.Path.{_≡_, refl, ap, sym, subst, _∙_}
 use mathlib.Core.List.{List, [], _∷_, _++_}
 use mathlib.Core.Bool.{Bool, true, false, _&&_, cond}
 use native.Mathlib.Omega.{arith}
 use native.Mathlib.Numerals.{add-one}
-use lib.ListN.{length, getD, set, length-append, length-set}
-use lib.Seq.{slice, slice-empty, getD-set-same, getD-set-other}
+use lib.ListN.{length, getD, set, take, length-append, length-set}
+use lib.Seq.{slice, slice-empty}
 use lib.Dec.{eqb, ltb}
 use borrow.Author.Tests.{eqb-true, le-ltb, le-leb, lt-leb, ltb-true, ltb-false}
 use Rattle.laws.specs.Choice.{and-left, and-right}
 use Rattle.model.specs.Catalogue.{Limits, Hypergraph}
-use Rattle.model.specs.Machine.{Call}
-use Rattle.model.specs.Grammar.{Reading, reading, stopped, parts, fields, Asked, asks, nothing, asked, callOf, withCall, whole, full, callLine, line, ending, lines}
+use Rattle.model.specs.Sale.{Request}
+use Rattle.model.specs.Grammar.{Reading, reading, stopped, parts, fields, Asked, asks, nothing, asked, withCall, whole, full, callLine, line, ending, lines}
 use Rattle.model.specs.Lent.{listed, callsOf}
+use Rattle.model.specs.ListEntry.{isEntry, entriesTo}
 use Rattle.text.specs.Field.{first, FirstAt}
 use Rattle.text.proofs.Walk.{slice-at, first-within, parts-some}
 use Rattle.text.proofs.Lines.{parts-on, parts-last}
-use Rattle.lines.specs.Line.{book, Named}
+use Rattle.lines.specs.Line.{book}
+use Rattle.lines.specs.Late.{Asking, answered, CallRead}
+use Rattle.lines.specs.declared.Ask.{Ask}
+use Rattle.lines.specs.declared.Ask.the-variants.{Asks, Nothing}
 use Rattle.reader.specs.Seen.{CallsRead}
+use Rattle.reader.proofs.CallTable.{entries-more, same-calls, calls-put, entries-put}
 use Rattle.reader.specs.declared.Ended.the-variants.{Up, Stop}
 
 pub lines-stopped : (limits : Limits) (n q m : ℕ) (ls : List (List ℕ)) → lines limits n (stopped q m) ls ≡ stopped q m
@@ -64,7 +69,7 @@ pub turned : (limits : Limits) (s : List ℕ) (len i e n : ℕ) → i ≤ len �
 turned limits s len i e n le within found r more = ap (lines limits n r) (parts-on s i len 10 e le within found more) ∙ lines-on limits n r (slice i e s) (slice (e + 1) len s)
 
 -- ---- the calls
-module _ (limits : Limits) (est : Bool) (l b m : ℕ) (h : Hypergraph) (cs : List Call) (w : whole (book est l b h m []) ≡ true) (n : ℕ) where
+module _ (limits : Limits) (est : Bool) (l b m : ℕ) (h : Hypergraph) (cs : List Request) (w : whole (book est l b h m []) ≡ true) (n : ℕ) where
   call-turn : (x : List ℕ) → line limits n (reading (book est l b h m cs)) x ≡ callLine n (book est l b h m cs) (fields x)
   unfolding line
   call-turn x =
@@ -91,7 +96,7 @@ module _ (limits : Limits) (est : Bool) (l b m : ℕ) (h : Hypergraph) (cs : Lis
   unfolding withCall
   call-bad x u e = call-line-is x false (not-full u) ∙ ap (withCall n (book est l b h m cs)) (sym e)
 
-  pub call-more : (x : List ℕ) (c : Call) → length cs < 512 → asks c ≡ asked (fields x) → line limits n (reading (book est l b h m cs)) x ≡ reading (book est l b h m (cs ++ (c ∷ [])))
+  pub call-more : (x : List ℕ) (c : Request) → length cs < 512 → asks c ≡ asked (fields x) → line limits n (reading (book est l b h m cs)) x ≡ reading (book est l b h m (cs ++ (c ∷ [])))
   unfolding withCall
   call-more x c u e = call-line-is x false (not-full u) ∙ ap (withCall n (book est l b h m cs)) (sym e)
 
@@ -118,81 +123,102 @@ module _ (limits : Limits) (est : Bool) (l b m : ℕ) (h : Hypergraph) (cs : Lis
       go false q = unended limits s len i e n lt within found (reading (book est l b h m cs)) (stopped 7 n) (omega (arith, ltb-false e len q, found .high))
           (λ x xs. ap (λ (t : Bool). cond t (stopped 7 n) (stopped 2 n)) (is-full u))
 
--- ---- the table of calls
-calls-frame : (c : ℕ) (t : List ℕ) (x v : ℕ) → 3 * c ≤ x → callsOf c (set t x v) ≡ callsOf c t
-unfolding callsOf
-calls-frame zero t x v l = refl
-calls-frame (suc c) t x v l =
-    rw (calls-frame c t x v (omega arith), getD-set-other t x (3 * c) v 0 (λ e. omega arith), getD-set-other t x (3 * c + 1) v 0 (λ e. omega arith), getD-set-other t x (3 * c + 2) v 0 (λ e. omega arith))
-
-module _ (t : List ℕ) (c k a b : ℕ) (inside : 3 * c + 2 < length t) where
-  abbrev put : List ℕ
-  put = set (set (set t (3 * c) k) (3 * c + 1) a) (3 * c + 2) b
-
-  put-0 : getD put (3 * c) 0 ≡ k
-  put-0 = getD-set-other (set (set t (3 * c) k) (3 * c + 1) a) (3 * c + 2) (3 * c) b 0 (λ e. omega arith) ∙ getD-set-other (set t (3 * c) k) (3 * c + 1) (3 * c) a 0 (λ e. omega arith) ∙ getD-set-same t (3 * c) k 0 (omega arith)
-
-  put-1 : getD put (3 * c + 1) 0 ≡ a
-  put-1 = getD-set-other (set (set t (3 * c) k) (3 * c + 1) a) (3 * c + 2) (3 * c + 1) b 0 (λ e. omega arith) ∙ getD-set-same (set t (3 * c) k) (3 * c + 1) a 0 (simp length-set (omega arith))
-
-  put-2 : getD put (3 * c + 2) 0 ≡ b
-  put-2 = getD-set-same (set (set t (3 * c) k) (3 * c + 1) a) (3 * c + 2) b 0 (simp length-set (omega arith))
-
-  put-below : callsOf c put ≡ callsOf c t
-  put-below = calls-frame c (set (set t (3 * c) k) (3 * c + 1) a) (3 * c + 2) b (omega arith) ∙ calls-frame c (set t (3 * c) k) (3 * c + 1) a (omega arith) ∙ calls-frame c t (3 * c) k (omega arith)
-
-  pub calls-more : callsOf (c + 1) put ≡ callsOf c t ++ listed (callOf k a b)
-  unfolding callsOf
-  calls-more = rw add-one (ap (λ (l : List Call). l ++ listed (callOf (getD put (3 * c) 0) (getD put (3 * c + 1) 0) (getD put (3 * c + 2) 0))) put-below
-      ∙ ap (λ (x : ℕ). callsOf c t ++ listed (callOf x (getD put (3 * c + 1) 0) (getD put (3 * c + 2) 0))) put-0
-      ∙ ap (λ (x : ℕ). callsOf c t ++ listed (callOf k x (getD put (3 * c + 2) 0))) put-1
-      ∙ ap (λ (x : ℕ). callsOf c t ++ listed (callOf k a x)) put-2)
-
+-- ---- the lines of calls
 pub stop-up : {A : Type 0} {q n c : ℕ} → Stop q n ≡ Up c → A
 stop-up e = absurd (let z : _≡_ {A = ℕ} 0 1 = cc in omega arith)
 
-pub record OnCalls (s : List ℕ) (at n : ℕ) (t₀ t : List ℕ) (i c : ℕ) : Type 0 where
+-- c calls are read, up to the cursor i, with so many operands in use: half as many as the bytes before it at most
+pub record OnCalls (s : List ℕ) (at n : ℕ) (t₀ ops₀ t ops : List ℕ) (i c used : ℕ) : Type 0 where
   pub i-le : i ≤ length s
+  pub short : length s ≤ 60000
   pub c-le : c ≤ 512
   pub n-le : n ≤ 4096
   pub wide : 1536 ≤ length t
   pub same : length t ≡ length t₀
-  pub count : length (callsOf c t) ≡ c
+  pub ops-wide : 30000 ≤ length ops
+  pub ops-same : length ops ≡ length ops₀
+  pub room : 2 * used ≤ i
+  pub entries : entriesTo used c t ≡ true
+  pub count : length (callsOf ops c t) ≡ c
   pub says : (limits : Limits) (est : Bool) (l b m : ℕ) (h : Hypergraph) → whole (book est l b h m []) ≡ true
-      → lines limits n (reading (book est l b h m [])) (parts 10 (slice at (length s) s)) ≡ lines limits (n + c) (reading (book est l b h m (callsOf c t))) (parts 10 (slice i (length s) s))
+      → lines limits n (reading (book est l b h m [])) (parts 10 (slice at (length s) s)) ≡ lines limits (n + c) (reading (book est l b h m (callsOf ops c t))) (parts 10 (slice i (length s) s))
 
-pub calls-start : (s : List ℕ) (at n : ℕ) (t : List ℕ) → at ≤ length s → n ≤ 4096 → 1536 ≤ length t → OnCalls s at n t t at 0
-unfolding callsOf
-calls-start s at n t a b c = record { i-le = a; c-le = omega arith; n-le = b; wide = c; same = refl; count = refl; says = λ limits est l b m h w. let z : n + 0 ≡ n = omega arith in rw z }
+pub calls-start : (s : List ℕ) (at n : ℕ) (t ops : List ℕ) → at ≤ length s → length s ≤ 60000 → n ≤ 4096 → 1536 ≤ length t → 30000 ≤ length ops → OnCalls s at n t ops t ops at 0 0
+unfolding callsOf entriesTo
+calls-start s at n t ops a short b c d = record {
+  i-le = a;
+  short = short;
+  c-le = omega arith;
+  n-le = b;
+  wide = c;
+  same = refl;
+  ops-wide = d;
+  ops-same = refl;
+  room = omega arith;
+  entries = refl;
+  count = refl;
+  says = λ limits est l b m h w. let z : n + 0 ≡ n = omega arith in rw z;
+}
 
-module _ (s : List ℕ) (at n : ℕ) (t₀ t : List ℕ) (i c : ℕ) (on : OnCalls s at n t₀ t i c) where
-  pub calls-done : i ≡ length s → CallsRead s at n (Up c) t
-  calls-done e = record { known = λ d q. let z : c ≡ d = cc in (omega (arith, on .c-le), rw (← z) (on .count)); says = λ limits est l b m h w. sym (on .says limits est l b m h w ∙ finish limits s (length s) i (n + c) (reading (book est l b h m (callsOf c t))) e ∙ call-end limits est l b m h (callsOf c t) w (n + c)) }
+module _ (s : List ℕ) (at n : ℕ) (t₀ ops₀ t ops : List ℕ) (i c used : ℕ) (on : OnCalls s at n t₀ ops₀ t ops i c used) where
+  pub calls-done : i ≡ length s → CallsRead s at n (Up c) t ops
+  calls-done e = record {
+    known = λ d q. let z : c ≡ d = cc in (omega (arith, on .c-le), rw (← z) (on .count));
+    entries = λ d q. let z : c ≡ d = cc in rw (← z) (entries-more used (length ops) c t (omega (arith, on .room, on .i-le, on .short, on .ops-wide)) (on .entries));
+    says = λ limits est l b m h w. sym (on .says limits est l b m h w ∙ finish limits s (length s) i (n + c) (reading (book est l b h m (callsOf ops c t))) e ∙ call-end limits est l b m h (callsOf ops c t) w (n + c));
+  }
 
   module _ (lt : i < length s) where
-    pub calls-full : c ≡ 512 → CallsRead s at n (Stop 7 (n + c)) t
-    calls-full e = record { known = λ d q. stop-up q; says = λ limits est l b m h w. sym (on .says limits est l b m h w ∙ call-full limits est l b m h (callsOf c t) w (n + c) s (length s) i lt (omega arith) (omega (arith, on .count))) }
+    -- the file is turned down, and the operands may have changed
+    stops : (ops′ : List ℕ) (q k : ℕ) → ((limits : Limits) (est : Bool) (l b m : ℕ) (h : Hypergraph) → whole (book est l b h m []) ≡ true
+        → lines limits (n + c) (reading (book est l b h m (callsOf ops c t))) (parts 10 (slice i (length s) s)) ≡ stopped q k) → CallsRead s at n (Stop q k) t ops′
+    stops ops′ q k f = record { known = λ d z. stop-up z; entries = λ d z. stop-up z; says = λ limits est l b m h w. sym (on .says limits est l b m h w ∙ f limits est l b m h w) }
+
+    pub calls-full : c ≡ 512 → CallsRead s at n (Stop 7 (n + c)) t ops
+    calls-full e = stops ops 7 (n + c) (λ limits est l b m h w. call-full limits est l b m h (callsOf ops c t) w (n + c) s (length s) i lt (omega arith) (omega (arith, on .count)))
 
     module _ (e : ℕ) (found : FirstAt s i (length s) 10 e) (room : c < 512) where
-      pub calls-unended : e ≡ length s → CallsRead s at n (Stop 2 (n + c)) t
-      calls-unended x = record { known = λ d q. stop-up q; says = λ limits est l b m h w. sym (on .says limits est l b m h w ∙ unended limits s (length s) i e (n + c) lt (omega arith) found (reading (book est l b h m (callsOf c t))) (stopped 2 (n + c)) x (call-unended limits est l b m h (callsOf c t) w (n + c) (omega (arith, on .count)))) }
+      pub calls-unended : e ≡ length s → CallsRead s at n (Stop 2 (n + c)) t ops
+      calls-unended x = stops ops 2 (n + c) (λ limits est l b m h w. unended limits s (length s) i e (n + c) lt (omega arith) found (reading (book est l b h m (callsOf ops c t))) (stopped 2 (n + c)) x (call-unended limits est l b m h (callsOf ops c t) w (n + c) (omega (arith, on .count))))
 
       module _ (more : e < length s) where
-        pub calls-bad : nothing ≡ asked (fields (slice i e s)) → CallsRead s at n (Stop 2 (n + c)) t
-        calls-bad x = record { known = λ d q. stop-up q; says = λ limits est l b m h w. sym (on .says limits est l b m h w ∙ turn-stop limits s (length s) i e (n + c) lt (omega arith) found (reading (book est l b h m (callsOf c t))) 2 (n + c) more (call-bad limits est l b m h (callsOf c t) w (n + c) (slice i e s) (omega (arith, on .count)) x)) }
+        -- where `call_line` answered r
+        module _ (r : Ask) (ops′ : List ℕ) (read : CallRead (fields (slice i e s)) e used r ops ops′) where
+          pub calls-bad : r ≡ Nothing → CallsRead s at n (Stop 2 (n + c)) t ops′
+          calls-bad is =
+              let x : nothing ≡ asked (fields (slice i e s)) = subst (λ (y : Ask). answered (fields (slice i e s)) e used y ops′) is (read .says) in
+              stops ops′ 2 (n + c) (λ limits est l b m h w. turn-stop limits s (length s) i e (n + c) lt (omega arith) found (reading (book est l b h m (callsOf ops c t))) 2 (n + c) more (call-bad limits est l b m h (callsOf ops c t) w (n + c) (slice i e s) (omega (arith, on .count)) x))
 
-        pub calls-on : (k a b : ℕ) → Named (fields (slice i e s)) k a b → OnCalls s at n t₀ (set (set (set t (3 * c) k) (3 * c + 1) a) (3 * c + 2) b) (e + 1) (c + 1)
-        calls-on k a b x = record {
-          i-le = omega arith;
-          c-le = omega arith;
-          n-le = on .n-le;
-          wide = simp length-set (on .wide);
-          same = simp length-set (on .same);
-          count = ap length (calls-more t c k a b (omega (arith, on .wide)) ∙ ap (λ (y : Asked). callsOf c t ++ listed y) (x .is)) ∙ length-append (callsOf c t) (x .call ∷ []) ∙ ap (λ (y : ℕ). y + 1) (on .count);
-          says = λ limits est l q m h w.
-              let z : n + (c + 1) ≡ n + c + 1 = omega arith in
-              on .says limits est l q m h w
-              ∙ turn limits s (length s) i e (n + c) lt (omega arith) found (reading (book est l q h m (callsOf c t))) more
-              ∙ ap (λ (r : Reading). lines limits (n + c + 1) r (parts 10 (slice (e + 1) (length s) s))) (call-more limits est l q m h (callsOf c t) w (n + c) (slice i e s) (x .call) (omega (arith, on .count)) (sym (x .says)))
-              ∙ rw (z, calls-more t c k a b (omega (arith, on .wide)), x .is);
-        }
+          module _ (k a b u : ℕ) (is : r ≡ Asks k a b u) where
+            x : Asking (fields (slice i e s)) e used k a b u ops′
+            x = subst (λ (y : Ask). answered (fields (slice i e s)) e used y ops′) is (read .says)
+
+            abbrev put : List ℕ
+            put = set (set (set t (3 * c) k) (3 * c + 1) a) (3 * c + 2) b
+
+            calls-one : callsOf ops′ (c + 1) put ≡ callsOf ops c t ++ (x .call ∷ [])
+            calls-one =
+                calls-put t c k a b (omega (arith, on .wide)) ops′
+                ∙ ap (λ (y : Asked). callsOf ops′ c t ++ listed y) (x .is)
+                ∙ ap (λ (cs : List Request). cs ++ (x .call ∷ [])) (same-calls used ops ops′ (read .keep) c t (on .entries))
+
+            pub calls-on : OnCalls s at n t₀ ops₀ put ops′ (e + 1) (c + 1) u
+            calls-on = record {
+              i-le = omega arith;
+              short = on .short;
+              c-le = omega arith;
+              n-le = on .n-le;
+              wide = simp length-set (on .wide);
+              same = simp length-set (on .same);
+              ops-wide = omega (arith, read .len, on .ops-wide);
+              ops-same = read .len ∙ on .ops-same;
+              room = omega (arith, x .room);
+              entries = entries-put t c k a b (omega (arith, on .wide)) u ∙ ap (λ (y : Bool). y && isEntry u k a b) (entries-more used u c t (x .more) (on .entries)) ∙ x .entry;
+              count = ap length calls-one ∙ length-append (callsOf ops c t) (x .call ∷ []) ∙ ap (λ (y : ℕ). y + 1) (on .count);
+              says = λ limits est l q m h w.
+                  let z : n + (c + 1) ≡ n + c + 1 = omega arith in
+                  on .says limits est l q m h w
+                  ∙ turn limits s (length s) i e (n + c) lt (omega arith) found (reading (book est l q h m (callsOf ops c t))) more
+                  ∙ ap (λ (r : Reading). lines limits (n + c + 1) r (parts 10 (slice (e + 1) (length s) s))) (call-more limits est l q m h (callsOf ops c t) w (n + c) (slice i e s) (x .call) (omega (arith, on .count)) (sym (x .says)))
+                  ∙ rw (z, calls-one);
+            }

@@ -9,20 +9,22 @@ use Rattle.laws.specs.Fold.{sumOver}
 use Rattle.model.specs.Catalogue.{Limits, Hypergraph}
 use Rattle.model.specs.Grammar.{Reading, reading, stopped, grown, whole, lines, parts}
 use Rattle.model.specs.Lent.{callsOf}
+use Rattle.model.specs.ListEntry.{entriesTo}
 use Rattle.lines.specs.Line.{book, Past}
 use Rattle.reader.specs.declared.Ended.{Ended}
 use Rattle.reader.specs.declared.Ended.the-variants.{Up, Stop}
 
 -- ---- calls
 -- the calls of a file whose catalogue is read
-abbrev pub called : Bool → ℕ → ℕ → Hypergraph → ℕ → Ended → List ℕ → Reading
-called estimated l b h m (Up c) t = reading (book estimated l b h m (callsOf c t))
-called estimated l b h m (Stop q n) t = stopped q n
+abbrev pub called : Bool → ℕ → ℕ → Hypergraph → ℕ → Ended → List ℕ → List ℕ → Reading
+called estimated l b h m (Up c) t ops = reading (book estimated l b h m (callsOf ops c t))
+called estimated l b h m (Stop q n) t ops = stopped q n
 
--- the call lines, of which the first is line n; each three numbers of an accepted table are a call
-pub record CallsRead (s : List ℕ) (at n : ℕ) (r : Ended) (t : List ℕ) : Type 0 where
-  pub known : (c : ℕ) → r ≡ Up c → (c ≤ 512) × (length (callsOf c t) ≡ c)
-  pub says : (limits : Limits) (estimated : Bool) (l b m : ℕ) (h : Hypergraph) → whole (book estimated l b h m []) ≡ true → called estimated l b h m r t ≡ lines limits n (reading (book estimated l b h m [])) (parts 10 (slice at (length s) s))
+-- the call lines, of which the first is line n; each three numbers of an accepted table are a call, whose operands are there
+pub record CallsRead (s : List ℕ) (at n : ℕ) (r : Ended) (t ops : List ℕ) : Type 0 where
+  pub known : (c : ℕ) → r ≡ Up c → (c ≤ 512) × (length (callsOf ops c t) ≡ c)
+  pub entries : (c : ℕ) → r ≡ Up c → entriesTo (length ops) c t ≡ true
+  pub says : (limits : Limits) (estimated : Bool) (l b m : ℕ) (h : Hypergraph) → whole (book estimated l b h m []) ≡ true → called estimated l b h m r t ops ≡ lines limits n (reading (book estimated l b h m [])) (parts 10 (slice at (length s) s))
 
 -- the catalogue with no buyer yet: the first k lots of the tables, by their most bales, sessions, whether they are kept, and their least bales
 abbrev pub lotsGraph : ℕ → ℕ → ℕ → List ℕ → List ℕ → List ℕ → List ℕ → Hypergraph

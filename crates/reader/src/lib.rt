@@ -14,7 +14,7 @@ ghost use Rattle.model.specs.Catalogue.{mainLimits, nearest};
 ghost use Rattle.lines.specs.Line.{limitsOf, InRange};
 ghost use Rattle.reader.specs.Seen.{CallsRead, LotsRead};
 ghost use Rattle.reader.specs.Buyers.{BuysRead, BuysReady};
-ghost use Rattle.reader.specs.Whole.{averageOf, blockTerm, Long, Ready, overfullIs, LastRead, NetsRead, CatalogueRead, FileRead};
+ghost use Rattle.reader.specs.Whole.{averageOf, Long, Ready, overfullIs, LastRead, NetsRead, CatalogueRead, FileRead};
 
 // How the buyers' lines ended: where, and with how many marks; or refused.
 pub enum Nets {
@@ -40,14 +40,15 @@ pub enum Ended {
     Stop(u8, usize),
 }
 
-// Reads the call lines, the first of which is the n-th line.
-fn read_calls(s: &[u8], at: usize, n: usize, calls: &mut [u32]) -> Ended
-    requires { ⌜ (at ≤ length (now s)) × (n ≤ 4096) × (1536 ≤ length (now calls)) ⌝ }
-    ensures { λ r. ⌜ CallsRead (now (s .entry)) at n r (now (calls .exit)) ⌝ }
+// Reads the call lines, the first of which is the n-th line. A line has at most half as many operands as bytes, so that all have room.
+fn read_calls(s: &[u8], at: usize, n: usize, calls: &mut [u32], operands: &mut [u32]) -> Ended
+    requires { ⌜ (at ≤ length (now s)) × (length (now s) ≤ 60000) × (n ≤ 4096) × (1536 ≤ length (now calls)) × (30000 ≤ length (now operands)) ⌝ }
+    ensures { λ r. ⌜ CallsRead (now (s .entry)) at n r (now (calls .exit)) (now (operands .exit)) ⌝ }
 {
     let len = s.len();
     let mut i = at;
     let mut c: usize = 0;
+    let mut used: usize = 0;
     while i < len {
         if c == 512 {
             return Ended::Stop(7, n + c);
@@ -56,16 +57,17 @@ fn read_calls(s: &[u8], at: usize, n: usize, calls: &mut [u32]) -> Ended
         if e == len {
             return Ended::Stop(2, n + c);
         }
-        match lines::call_line(s, i, e) {
+        match lines::call_line(s, i, e, used, operands) {
             Ask::Nothing => {
                 return Ended::Stop(2, n + c);
             }
-            Ask::Asks(k, a, b) => {
+            Ask::Asks(k, a, b, u) => {
                 let x = 3 * c;
                 calls[x] = k;
                 calls[x + 1] = a;
                 calls[x + 2] = b;
                 c += 1;
+                used = u;
             }
         }
         i = e + 1;
@@ -201,27 +203,6 @@ pub fn capacity(average: u64, imbalance: u32) -> u64
     rounded((1000 + imbalance as u64) * average)
 }
 
-// What a vertex adds to the weight of block b.
-fn share(weight: u32, block: u16, b: u32) -> u32
-    ensures { λ r. ⌜ r ≡ cond (eqb block b) weight 0 ⌝ }
-{
-    if block as u32 == b { weight } else { 0 }
-}
-
-// What the vertices of block b weigh together, among the first n.
-pub fn block_weight(weights: &[u32], draft: &[u16], n: usize, b: u32) -> u64
-    requires { ⌜ (n ≤ 1024) × (n ≤ length (now weights)) × (n ≤ length (now draft)) ⌝ }
-    ensures { λ r. ⌜ r ≡ sum n (blockTerm b (now (weights .entry)) (now (draft .entry))) ⌝ }
-{
-    let mut i = 0;
-    let mut t: u64 = 0;
-    while i < n {
-        t += share(weights[i], draft[i], b) as u64;
-        i += 1;
-    }
-    t
-}
-
 // A session of the draft is above the cap, which is of the lows.
 pub fn overfull(
     vertices: u32,
@@ -239,7 +220,7 @@ pub fn overfull(
     let mut b: u32 = 0;
     while b < blocks {
         b += 1;
-        if most < block_weight(weights, draft, vertices as usize, b) {
+        if most < block_weights::block_weight(weights, draft, vertices as usize, b) {
             return true;
         }
     }
@@ -259,16 +240,17 @@ fn finish(
     draft: &[u16],
     lows: &[u32],
     calls: &mut [u32],
+    operands: &mut [u32],
 ) -> Ended
-    requires { ⌜ (at ≤ length (now s)) × (vertices ≤ 1024) × (nets ≤ 1024) × (2 ≤ blocks) × (blocks ≤ 16) × (imbalance ≤ 1000) × (vertices ≤ length (now weights))
-        × (vertices ≤ length (now draft)) × (vertices ≤ length (now lows)) × (1536 ≤ length (now calls)) ⌝ }
-    ensures { λ r. ⌜ LastRead (now (s .entry)) at vertices nets blocks imbalance m r (now (weights .entry)) (now (draft .entry)) (now (lows .entry)) (now (calls .exit)) ⌝ }
+    requires { ⌜ (at ≤ length (now s)) × (length (now s) ≤ 60000) × (vertices ≤ 1024) × (nets ≤ 1024) × (2 ≤ blocks) × (blocks ≤ 16) × (imbalance ≤ 1000) × (vertices ≤ length (now weights))
+        × (vertices ≤ length (now draft)) × (vertices ≤ length (now lows)) × (1536 ≤ length (now calls)) × (30000 ≤ length (now operands)) ⌝ }
+    ensures { λ r. ⌜ LastRead (now (s .entry)) at vertices nets blocks imbalance m r (now (weights .entry)) (now (draft .entry)) (now (lows .entry)) (now (calls .exit)) (now (operands .exit)) ⌝ }
 {
     let n = vertices as usize + 1 + nets as usize;
     if overfull(vertices, blocks, imbalance, weights, draft, lows) {
         return Ended::Stop(6, n);
     }
-    read_calls(s, at, n + 1, calls)
+    read_calls(s, at, n + 1, calls, operands)
 }
 
 // What follows the lot lines.
@@ -288,9 +270,10 @@ fn after_vertices(
     loadedpins: &mut [u16],
     stamps: &mut [u16; 1024],
     calls: &mut [u32],
+    operands: &mut [u32],
 ) -> Rest
-    requires { ⌜ Ready (now s) at vertices nets blocks imbalance (now weights) (now draft) (now netweights) (now lows) (now firsts) (now loadedsizes) (now loadedpins) (now stamps) (now calls) ⌝ }
-    ensures { λ r. ⌜ NetsRead (now (s .entry)) at vertices nets blocks imbalance r (now (weights .entry)) (now (draft .entry)) (now (lows .entry)) (now (firsts .entry)) (now (loadedsizes .entry)) (now (loadedpins .entry)) (now (netweights .exit)) (now (firsts .exit)) (now (loadedsizes .exit)) (now (loadedpins .exit)) (now (calls .exit)) ⌝ }
+    requires { ⌜ Ready (now s) at vertices nets blocks imbalance (now weights) (now draft) (now netweights) (now lows) (now firsts) (now loadedsizes) (now loadedpins) (now stamps) (now calls) (now operands) ⌝ }
+    ensures { λ r. ⌜ NetsRead (now (s .entry)) at vertices nets blocks imbalance r (now (weights .entry)) (now (draft .entry)) (now (lows .entry)) (now (firsts .entry)) (now (loadedsizes .entry)) (now (loadedpins .entry)) (now (netweights .exit)) (now (firsts .exit)) (now (loadedsizes .exit)) (now (loadedpins .exit)) (now (calls .exit)) (now (operands .exit)) ⌝ }
 {
     match read_nets(
         s,
@@ -316,6 +299,7 @@ fn after_vertices(
             draft,
             lows,
             calls,
+            operands,
         ) {
             Ended::Stop(q, n) => Rest::Not(q, n),
             Ended::Up(c) => Rest::Kept(m, c),
@@ -341,10 +325,11 @@ fn after_head(
     loadedsizes: &mut [u16],
     loadedpins: &mut [u16],
     calls: &mut [u32],
+    operands: &mut [u32],
 ) -> Rest
-    requires { ⌜ (at ≤ length (now s)) × InRange mainLimits vertices nets blocks imbalance
-        × (vertices ≤ length (now fixed)) × Long vertices (now weights) (now draft) (now netweights) (now lows) (now firsts) (now loadedsizes) (now loadedpins) (now calls) ⌝ }
-    ensures { λ r. ⌜ CatalogueRead (now (s .entry)) at vertices nets blocks imbalance estimated r (now (weights .entry)) (now (draft .entry)) (now (fixed .entry)) (now (firsts .entry)) (now (loadedsizes .entry)) (now (loadedpins .entry)) (now (weights .exit)) (now (draft .exit)) (now (fixed .exit)) (now (netweights .exit)) (now (lows .exit)) (now (firsts .exit)) (now (loadedsizes .exit)) (now (loadedpins .exit)) (now (calls .exit)) ⌝ }
+    requires { ⌜ (at ≤ length (now s)) × (length (now s) ≤ 60000) × InRange mainLimits vertices nets blocks imbalance
+        × (vertices ≤ length (now fixed)) × Long vertices (now weights) (now draft) (now netweights) (now lows) (now firsts) (now loadedsizes) (now loadedpins) (now calls) (now operands) ⌝ }
+    ensures { λ r. ⌜ CatalogueRead (now (s .entry)) at vertices nets blocks imbalance estimated r (now (weights .entry)) (now (draft .entry)) (now (fixed .entry)) (now (firsts .entry)) (now (loadedsizes .entry)) (now (loadedpins .entry)) (now (weights .exit)) (now (draft .exit)) (now (fixed .exit)) (now (netweights .exit)) (now (lows .exit)) (now (firsts .exit)) (now (loadedsizes .exit)) (now (loadedpins .exit)) (now (calls .exit)) (now (operands .exit)) ⌝ }
 {
     let mut stamps = [0u16; 1024];
     match read_vertices(
@@ -375,6 +360,7 @@ fn after_head(
             loadedpins,
             &mut stamps,
             calls,
+            operands,
         ),
     }
 }
@@ -393,9 +379,10 @@ pub fn read(
     loadedsizes: &mut [u16],
     loadedpins: &mut [u16],
     calls: &mut [u32],
+    operands: &mut [u32],
 ) -> Outcome
-    requires { ⌜ (bmax ≤ 16) × (vmax ≤ length (now fixed)) × Long vmax (now weights) (now draft) (now netweights) (now lows) (now firsts) (now loadedsizes) (now loadedpins) (now calls) ⌝ }
-    ensures { λ r. ⌜ FileRead (limitsOf vmax bmax) (now (s .entry)) r (now (weights .entry)) (now (draft .entry)) (now (fixed .entry)) (now (firsts .entry)) (now (loadedsizes .entry)) (now (loadedpins .entry)) (now (weights .exit)) (now (draft .exit)) (now (fixed .exit)) (now (netweights .exit)) (now (lows .exit)) (now (firsts .exit)) (now (loadedsizes .exit)) (now (loadedpins .exit)) (now (calls .exit)) ⌝ }
+    requires { ⌜ (bmax ≤ 16) × (vmax ≤ length (now fixed)) × Long vmax (now weights) (now draft) (now netweights) (now lows) (now firsts) (now loadedsizes) (now loadedpins) (now calls) (now operands) ⌝ }
+    ensures { λ r. ⌜ FileRead (limitsOf vmax bmax) (now (s .entry)) r (now (weights .entry)) (now (draft .entry)) (now (fixed .entry)) (now (firsts .entry)) (now (loadedsizes .entry)) (now (loadedpins .entry)) (now (weights .exit)) (now (draft .exit)) (now (fixed .exit)) (now (netweights .exit)) (now (lows .exit)) (now (firsts .exit)) (now (loadedsizes .exit)) (now (loadedpins .exit)) (now (calls .exit)) (now (operands .exit)) ⌝ }
 {
     let len = s.len();
     if 60000 < len {
@@ -424,6 +411,7 @@ pub fn read(
             loadedsizes,
             loadedpins,
             calls,
+            operands,
         ) {
             Rest::Not(q, n) => Outcome::Refused(q, n),
             Rest::Kept(m, c) => Outcome::Taken(vertices, nets, blocks, imbalance, m, c),

@@ -12,3 +12,7 @@ pub const W: u32 = 87;
 pub const P: u32 = 80;
 
 pub const A: u32 = 65;
+
+pub const X: u32 = 88;
+
+pub const N: u32 = 78;

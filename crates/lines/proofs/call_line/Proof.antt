@@ -1,214 +1,76 @@
 -- `lines::call_line` meets its contract.
-use mathlib.Core.List.{[], _∷_}
-use lib.Seq.{slice}
+use mathlib.Core.Path.{subst}
 use native.Mathlib.Omega.{arith}
-use mathlib.Core.Path.{sym, _∙_}
+use lib.Seq.{slice}
 use denote.Ref.{now}
 use borrow.Author.Needs.{needs}
 use Rattle.model.specs.Grammar.{fields}
-use Rattle.text.proofs.Lines.{numbered, line-yes, line-no}
-use Rattle.lines.proofs.Asks.{asked-J, asked-S, asked-M, asked-B, asked-W, asked-P, asked-A, asked-none, word-J, word-S, word-M, word-B, word-W, word-P, word-A}
+use Rattle.lines.specs.Line.{ShortRead}
+use Rattle.lines.proofs.Operands.{called-short, called-none, called-late}
 use Rattle.lines.proofs.call_line.Statement.{statement}
 use Rattle.lines.proofs.call_line.Tie as tie
 
-slice-aggregate-form : tie.Need-slice-aggregate-form
-slice-aggregate-form c = search needs
+short-line-requires : tie.Need-short-line-requires
+short-line-requires c κs = search needs
 
-form-requires : tie.Need-form-requires
-form-requires c κs = search needs
+enum-known-k : tie.Need-enum-known-k
+enum-known-k c = search needs
 
-get-requires : tie.Need-get-requires
-get-requires c κs =
-    let start = c .before .before .before .before in
-    let a = start .args in let x = slice (a .at) (a .end) (now (a .s)) in (omega arith, omega arith, numbered (74 ∷ []) (fields x) 2 1 (sym (c .before .form .ensures) ∙ c .if1 .taken) (omega arith) (omega arith))
+enum-told : tie.Need-enum-told
+enum-told c = search needs
 
-get-requires-2 : tie.Need-get-requires-2
-get-requires-2 c κs =
-    let start = c .before .before .before .before .before in
-    let a = start .args in let x = slice (a .at) (a .end) (now (a .s)) in (omega arith, omega arith, numbered (74 ∷ []) (fields x) 2 2 (sym (c .before .before .form .ensures) ∙ c .before .if1 .taken) (omega arith) (omega arith))
+late-line-requires : tie.Need-late-line-requires
+late-line-requires c κs = search needs
+
+same-length : tie.Need-same-length
+same-length c = search needs
 
 returns : tie.Need-returns
 returns c =
-    let at-form = c .before .before .before in
-    let start = at-form .before .before .before in
-    let a = start .args in let x = slice (a .at) (a .end) (now (a .s)) in asked-J (fields x) (c .before .get .result) (c .get2 .result) (c .before .get .ensures) (c .get2 .ensures) (line-yes "J" (74 ∷ []) 2 (at-form .form .result) x word-J (at-form .form .ensures) (c .before .before .if1 .taken))
+    let a = c .before .before .before .before .before .before .before .before .before .before .args in
+    let x = fields (slice (a .at) (a .end) (now (a .s))) in
+    let r = c .before .before .before .late-line in
+    called-none x (a .end) (a .used) (now (a .operands)) (omega arith) (subst (ShortRead x) (c .before .before .before .before .before .enum-told .given .1) (c .before .before .before .before .before .before .before .short-line .ensures)) (r .result) _ (r .ensures) (c .if1 .taken)
 
-slice-aggregate-form-2 : tie.Need-slice-aggregate-form-2
-slice-aggregate-form-2 c = search needs
+cast-t15 : tie.Need-cast-t15
+cast-t15 c = search needs
 
-form-requires-2 : tie.Need-form-requires-2
-form-requires-2 c κs = search needs
+sub-t16 : tie.Need-sub-t16
+sub-t16 c = omega (arith, c .before .before .before .late-line .ensures .good (omega arith) .two)
+
+cast-t17 : tie.Need-cast-t17
+cast-t17 c = omega (arith, c .before .before .before .late-line .ensures .good (omega arith) .room)
 
 returns-2 : tie.Need-returns-2
 returns-2 c =
-    let at-if1 = c .before .before .before in
-    let at-form = at-if1 .before in
-    let start = at-form .before .before .before in
-    let a = start .args in let x = slice (a .at) (a .end) (now (a .s)) in asked-S (fields x) (line-no "J" (74 ∷ []) 2 (at-form .form .result) x word-J (at-form .form .ensures) (at-if1 .if1 .left)) (line-yes "S" (83 ∷ []) 0 (c .before .form2 .result) x word-S (c .before .form2 .ensures) (c .if2 .taken))
+    let a = c .before .before .before .before .before .before .args in
+    let x = fields (slice (a .at) (a .end) (now (a .s))) in
+    let k = c .before .k in
+    called-short x (a .end) (a .used) (now (a .operands)) (omega arith) (k .given .0 .0) (k .given .0 .1 .0) (k .given .0 .1 .1 .0) (subst (ShortRead x) (k .given .1) (c .before .before .before .short-line .ensures))
 
-slice-aggregate-form-3 : tie.Need-slice-aggregate-form-3
-slice-aggregate-form-3 c = search needs
-
-form-requires-3 : tie.Need-form-requires-3
-form-requires-3 c κs = search needs
-
-get-requires-3 : tie.Need-get-requires-3
-get-requires-3 c κs =
-    let start = c .before .before .before .before .before .before .before .before .before .before in
-    let a = start .args in let x = slice (a .at) (a .end) (now (a .s)) in (omega arith, omega arith, numbered (77 ∷ []) (fields x) 2 1 (sym (c .before .form3 .ensures) ∙ c .if3 .taken) (omega arith) (omega arith))
-
-get-requires-4 : tie.Need-get-requires-4
-get-requires-4 c κs =
-    let start = c .before .before .before .before .before .before .before .before .before .before .before in
-    let a = start .args in let x = slice (a .at) (a .end) (now (a .s)) in (omega arith, omega arith, numbered (77 ∷ []) (fields x) 2 2 (sym (c .before .before .form3 .ensures) ∙ c .before .if3 .taken) (omega arith) (omega arith))
+same-length-2 : tie.Need-same-length-2
+same-length-2 c = search needs
 
 returns-3 : tie.Need-returns-3
 returns-3 c =
-    let at-form3 = c .before .before .before in
-    let at-if2 = at-form3 .before .before in
-    let at-form2 = at-if2 .before in
-    let at-if1 = at-form2 .before .before in
-    let at-form = at-if1 .before in
-    let start = at-form .before .before .before in
-    let a = start .args in let x = slice (a .at) (a .end) (now (a .s)) in asked-M (fields x) (line-no "J" (74 ∷ []) 2 (at-form .form .result) x word-J (at-form .form .ensures) (at-if1 .if1 .left)) (line-no "S" (83 ∷ []) 0 (at-form2 .form2 .result) x word-S (at-form2 .form2 .ensures) (at-if2 .if2 .left)) (c .before .get3 .result) (c .get4 .result) (c .before .get3 .ensures) (c .get4 .ensures) (line-yes "M" (77 ∷ []) 2 (at-form3 .form3 .result) x word-M (at-form3 .form3 .ensures) (c .before .before .if3 .taken))
-
-slice-aggregate-form-4 : tie.Need-slice-aggregate-form-4
-slice-aggregate-form-4 c = search needs
-
-form-requires-4 : tie.Need-form-requires-4
-form-requires-4 c κs = search needs
-
-returns-4 : tie.Need-returns-4
-returns-4 c =
-    let at-if3 = c .before .before .before in
-    let at-form3 = at-if3 .before in
-    let at-if2 = at-form3 .before .before in
-    let at-form2 = at-if2 .before in
-    let at-if1 = at-form2 .before .before in
-    let at-form = at-if1 .before in
-    let start = at-form .before .before .before in
-    let a = start .args in let x = slice (a .at) (a .end) (now (a .s)) in asked-B (fields x) (line-no "J" (74 ∷ []) 2 (at-form .form .result) x word-J (at-form .form .ensures) (at-if1 .if1 .left)) (line-no "S" (83 ∷ []) 0 (at-form2 .form2 .result) x word-S (at-form2 .form2 .ensures) (at-if2 .if2 .left)) (line-no "M" (77 ∷ []) 2 (at-form3 .form3 .result) x word-M (at-form3 .form3 .ensures) (at-if3 .if3 .left)) (line-yes "B" (66 ∷ []) 0 (c .before .form4 .result) x word-B (c .before .form4 .ensures) (c .if4 .taken))
-
-slice-aggregate-form-5 : tie.Need-slice-aggregate-form-5
-slice-aggregate-form-5 c = search needs
-
-form-requires-5 : tie.Need-form-requires-5
-form-requires-5 c κs = search needs
-
-get-requires-5 : tie.Need-get-requires-5
-get-requires-5 c κs =
-    let start = c .before .before .before .before .before .before .before .before .before .before .before .before .before .before .before .before in
-    let a = start .args in let x = slice (a .at) (a .end) (now (a .s)) in (omega arith, omega arith, numbered (87 ∷ []) (fields x) 2 1 (sym (c .before .form5 .ensures) ∙ c .if5 .taken) (omega arith) (omega arith))
-
-get-requires-6 : tie.Need-get-requires-6
-get-requires-6 c κs =
-    let start = c .before .before .before .before .before .before .before .before .before .before .before .before .before .before .before .before .before in
-    let a = start .args in let x = slice (a .at) (a .end) (now (a .s)) in (omega arith, omega arith, numbered (87 ∷ []) (fields x) 2 2 (sym (c .before .before .form5 .ensures) ∙ c .before .if5 .taken) (omega arith) (omega arith))
-
-returns-5 : tie.Need-returns-5
-returns-5 c =
-    let at-form5 = c .before .before .before in
-    let at-if4 = at-form5 .before .before in
-    let at-form4 = at-if4 .before in
-    let at-if3 = at-form4 .before .before in
-    let at-form3 = at-if3 .before in
-    let at-if2 = at-form3 .before .before in
-    let at-form2 = at-if2 .before in
-    let at-if1 = at-form2 .before .before in
-    let at-form = at-if1 .before in
-    let start = at-form .before .before .before in
-    let a = start .args in let x = slice (a .at) (a .end) (now (a .s)) in asked-W (fields x) (line-no "J" (74 ∷ []) 2 (at-form .form .result) x word-J (at-form .form .ensures) (at-if1 .if1 .left)) (line-no "S" (83 ∷ []) 0 (at-form2 .form2 .result) x word-S (at-form2 .form2 .ensures) (at-if2 .if2 .left)) (line-no "M" (77 ∷ []) 2 (at-form3 .form3 .result) x word-M (at-form3 .form3 .ensures) (at-if3 .if3 .left)) (line-no "B" (66 ∷ []) 0 (at-form4 .form4 .result) x word-B (at-form4 .form4 .ensures) (at-if4 .if4 .left)) (c .before .get5 .result) (c .get6 .result) (c .before .get5 .ensures) (c .get6 .ensures) (line-yes "W" (87 ∷ []) 2 (at-form5 .form5 .result) x word-W (at-form5 .form5 .ensures) (c .before .before .if5 .taken))
-
-slice-aggregate-form-6 : tie.Need-slice-aggregate-form-6
-slice-aggregate-form-6 c = search needs
-
-form-requires-6 : tie.Need-form-requires-6
-form-requires-6 c κs = search needs
-
-returns-6 : tie.Need-returns-6
-returns-6 c =
-    let at-if5 = c .before .before .before in
-    let at-form5 = at-if5 .before in
-    let at-if4 = at-form5 .before .before in
-    let at-form4 = at-if4 .before in
-    let at-if3 = at-form4 .before .before in
-    let at-form3 = at-if3 .before in
-    let at-if2 = at-form3 .before .before in
-    let at-form2 = at-if2 .before in
-    let at-if1 = at-form2 .before .before in
-    let at-form = at-if1 .before in
-    let start = at-form .before .before .before in
-    let a = start .args in let x = slice (a .at) (a .end) (now (a .s)) in asked-P (fields x) (line-no "J" (74 ∷ []) 2 (at-form .form .result) x word-J (at-form .form .ensures) (at-if1 .if1 .left)) (line-no "S" (83 ∷ []) 0 (at-form2 .form2 .result) x word-S (at-form2 .form2 .ensures) (at-if2 .if2 .left)) (line-no "M" (77 ∷ []) 2 (at-form3 .form3 .result) x word-M (at-form3 .form3 .ensures) (at-if3 .if3 .left)) (line-no "B" (66 ∷ []) 0 (at-form4 .form4 .result) x word-B (at-form4 .form4 .ensures) (at-if4 .if4 .left)) (line-no "W" (87 ∷ []) 2 (at-form5 .form5 .result) x word-W (at-form5 .form5 .ensures) (at-if5 .if5 .left)) (line-yes "P" (80 ∷ []) 0 (c .before .form6 .result) x word-P (c .before .form6 .ensures) (c .if6 .taken))
-
-slice-aggregate-form-7 : tie.Need-slice-aggregate-form-7
-slice-aggregate-form-7 c = search needs
-
-form-requires-7 : tie.Need-form-requires-7
-form-requires-7 c κs = search needs
-
-returns-7 : tie.Need-returns-7
-returns-7 c =
-    let at-if6 = c .before .before .before in
-    let at-form6 = at-if6 .before in
-    let at-if5 = at-form6 .before .before in
-    let at-form5 = at-if5 .before in
-    let at-if4 = at-form5 .before .before in
-    let at-form4 = at-if4 .before in
-    let at-if3 = at-form4 .before .before in
-    let at-form3 = at-if3 .before in
-    let at-if2 = at-form3 .before .before in
-    let at-form2 = at-if2 .before in
-    let at-if1 = at-form2 .before .before in
-    let at-form = at-if1 .before in
-    let start = at-form .before .before .before in
-    let a = start .args in let x = slice (a .at) (a .end) (now (a .s)) in asked-A (fields x) (line-no "J" (74 ∷ []) 2 (at-form .form .result) x word-J (at-form .form .ensures) (at-if1 .if1 .left)) (line-no "S" (83 ∷ []) 0 (at-form2 .form2 .result) x word-S (at-form2 .form2 .ensures) (at-if2 .if2 .left)) (line-no "M" (77 ∷ []) 2 (at-form3 .form3 .result) x word-M (at-form3 .form3 .ensures) (at-if3 .if3 .left)) (line-no "B" (66 ∷ []) 0 (at-form4 .form4 .result) x word-B (at-form4 .form4 .ensures) (at-if4 .if4 .left)) (line-no "W" (87 ∷ []) 2 (at-form5 .form5 .result) x word-W (at-form5 .form5 .ensures) (at-if5 .if5 .left)) (line-no "P" (80 ∷ []) 0 (at-form6 .form6 .result) x word-P (at-form6 .form6 .ensures) (at-if6 .if6 .left)) (line-yes "A" (65 ∷ []) 0 (c .before .form7 .result) x word-A (c .before .form7 .ensures) (c .if7 .taken))
-
-returns-8 : tie.Need-returns-8
-returns-8 c =
-    let at-if6 = c .before .before .before in
-    let at-form6 = at-if6 .before in
-    let at-if5 = at-form6 .before .before in
-    let at-form5 = at-if5 .before in
-    let at-if4 = at-form5 .before .before in
-    let at-form4 = at-if4 .before in
-    let at-if3 = at-form4 .before .before in
-    let at-form3 = at-if3 .before in
-    let at-if2 = at-form3 .before .before in
-    let at-form2 = at-if2 .before in
-    let at-if1 = at-form2 .before .before in
-    let at-form = at-if1 .before in
-    let start = at-form .before .before .before in
-    let a = start .args in let x = slice (a .at) (a .end) (now (a .s)) in asked-none (fields x) (line-no "J" (74 ∷ []) 2 (at-form .form .result) x word-J (at-form .form .ensures) (at-if1 .if1 .left)) (line-no "S" (83 ∷ []) 0 (at-form2 .form2 .result) x word-S (at-form2 .form2 .ensures) (at-if2 .if2 .left)) (line-no "M" (77 ∷ []) 2 (at-form3 .form3 .result) x word-M (at-form3 .form3 .ensures) (at-if3 .if3 .left)) (line-no "B" (66 ∷ []) 0 (at-form4 .form4 .result) x word-B (at-form4 .form4 .ensures) (at-if4 .if4 .left)) (line-no "W" (87 ∷ []) 2 (at-form5 .form5 .result) x word-W (at-form5 .form5 .ensures) (at-if5 .if5 .left)) (line-no "P" (80 ∷ []) 0 (at-form6 .form6 .result) x word-P (at-form6 .form6 .ensures) (at-if6 .if6 .left)) (line-no "A" (65 ∷ []) 0 (c .before .form7 .result) x word-A (c .before .form7 .ensures) (c .if7 .left))
+    let a = c .before .before .before .before .before .before .before .before .before .before .args in
+    let x = fields (slice (a .at) (a .end) (now (a .s))) in
+    let r = c .before .before .before .late-line in
+    called-late x (a .end) (a .used) (now (a .operands)) (omega arith) (subst (ShortRead x) (c .before .before .before .before .before .enum-told .given .1) (c .before .before .before .before .before .before .before .short-line .ensures)) (r .result) _ (r .ensures) (c .if1 .left)
 
 pub call-line-spec : {M : Type 1} → statement M
 call-line-spec =
     tie.close
     (tie.spec
-    slice-aggregate-form
-    form-requires
-    get-requires
-    get-requires-2
+    short-line-requires
+    enum-known-k
+    enum-told
+    late-line-requires
+    same-length
     returns
-    slice-aggregate-form-2
-    form-requires-2
+    cast-t15
+    sub-t16
+    cast-t17
     returns-2
-    slice-aggregate-form-3
-    form-requires-3
-    get-requires-3
-    get-requires-4
-    returns-3
-    slice-aggregate-form-4
-    form-requires-4
-    returns-4
-    slice-aggregate-form-5
-    form-requires-5
-    get-requires-5
-    get-requires-6
-    returns-5
-    slice-aggregate-form-6
-    form-requires-6
-    returns-6
-    slice-aggregate-form-7
-    form-requires-7
-    returns-7
-    returns-8)
+    same-length-2
+    returns-3)

@@ -26,27 +26,27 @@ cast-start-2 c = search needs
 start-requires : tie.Need-start-requires
 start-requires c κs =
     let at-l = c .before .before .before .before .before .before in
-    let at-read = at-l .before .before .before .before .before .before .before .before .before .before .before .before .before .before .before .before in
-    let start = at-read .before .before .before .before .before .before .before .before .before .before .before .before .before .before .before .before .before .before .before .before .before in
+    let at-read = at-l .before .before .before .before .before .before .before .before .before .before .before .before .before .before .before .before .before .before in
+    let start = at-read .before .before .before .before .before .before .before .before .before .before .before .before .before .before .before .before .before .before .before .before .before .before .before in
     let a = start .args in
-    let p = start .pre .5 in
+    let p = start .pre .6 in
     let f = at-read .read .ensures .fitted (at-l .l .given .0 .0) (at-l .l .given .0 .1 .0) (at-l .l .given .0 .1 .1 .0) (at-l .l .given .0 .1 .1 .1 .0) (at-l .l .given .0 .1 .1 .1 .1 .0) (at-l .l .given .0 .1 .1 .1 .1 .1 .0) (at-l .l .given .1) in
-    (omega (arith, f .range .l-high, p .aboves), omega (arith, f .settled .laid .m-le, p .loadedPins, at-read .read .kept .1 .1 .1 .1 .1 .1 .1 .1 .1 .1 .0), omega (arith, f .settled .laid .m-le, p .presentPins), omega (arith, f .range .b-high, p .loadedSizes, at-read .read .kept .1 .1 .1 .1 .1 .1 .1 .1 .1 .0), omega (arith, f .range .b-high, p .presentSizes), sym (f .settled .laid .m-is), sortable (limitsOf (a .vmax) (a .bmax)) (now (a .s)) (at-l .l .given .0 .0) (at-l .l .given .0 .1 .0) (at-l .l .given .0 .1 .1 .0) (at-l .l .given .0 .1 .1 .1 .0) (at-l .l .given .0 .1 .1 .1 .1 .0) (at-l .l .given .0 .1 .1 .1 .1 .1 .0) (now (a .weights)) (now (a .blocks)) (now (a .aboves)) (now (a .fixed)) (now (a .loadedpins)) (now (a .presentpins)) (now (a .firsts)) (now (a .loadedsizes)) (now (a .presentsizes)) _ _ (now (a .aboves)) _ _ (now (a .presentpins)) _ _ (now (a .presentsizes)) _ _ _ (at-read .read .result) (at-read .read .ensures) (at-l .l .given .1) (start .pre .0) (at-read .read .kept .1 .1 .1 .0) (at-read .read .kept .1 .1 .1 .1 .0) (at-read .read .kept .1 .1 .1 .1 .1 .0) (at-read .read .kept .1 .1 .1 .1 .1 .1 .1 .1 .1 .1 .0) (at-read .read .kept .1 .1 .1 .1 .1 .1 .1 .1 .0) (at-read .read .kept .1 .1 .1 .1 .1 .1 .1 .1 .1 .0) (p .weights) (p .blocks) (p .loadedPins) (p .presentPins))
+    (omega (arith, f .range .l-high, p .aboves), omega (arith, f .settled .laid .m-le, p .loadedPins, at-read .read .kept .1 .1 .1 .1 .1 .1 .1 .1 .1 .1 .0), omega (arith, f .settled .laid .m-le, p .presentPins), omega (arith, f .range .b-high, p .loadedSizes, at-read .read .kept .1 .1 .1 .1 .1 .1 .1 .1 .1 .0), omega (arith, f .range .b-high, p .presentSizes), sym (f .settled .laid .m-is), sortable (limitsOf (a .vmax) (a .bmax)) (now (a .s)) (at-l .l .given .0 .0) (at-l .l .given .0 .1 .0) (at-l .l .given .0 .1 .1 .0) (at-l .l .given .0 .1 .1 .1 .0) (at-l .l .given .0 .1 .1 .1 .1 .0) (at-l .l .given .0 .1 .1 .1 .1 .1 .0) (now (a .weights)) (now (a .blocks)) (now (a .aboves)) (now (a .fixed)) (now (a .loadedpins)) (now (a .presentpins)) (now (a .firsts)) (now (a .loadedsizes)) (now (a .presentsizes)) _ _ (now (a .aboves)) _ _ (now (a .presentpins)) _ _ (now (a .presentsizes)) _ _ _ _ (at-read .read .result) (at-read .read .ensures) (at-l .l .given .1) (start .pre .0) (at-read .read .kept .1 .1 .1 .0) (at-read .read .kept .1 .1 .1 .1 .0) (at-read .read .kept .1 .1 .1 .1 .1 .0) (at-read .read .kept .1 .1 .1 .1 .1 .1 .1 .1 .1 .1 .0) (at-read .read .kept .1 .1 .1 .1 .1 .1 .1 .1 .0) (at-read .read .kept .1 .1 .1 .1 .1 .1 .1 .1 .1 .0) (p .weights) (p .blocks) (p .loadedPins) (p .presentPins))
 
 measure-requires : tie.Need-measure-requires
 measure-requires c κs =
     let at-l = c .before .before .before .before .before .before .before .before .before .before .before .before .before .before .before in
-    let at-read = at-l .before .before .before .before .before .before .before .before .before .before .before .before .before .before .before .before in
-    let start = at-read .before .before .before .before .before .before .before .before .before .before .before .before .before .before .before .before .before .before .before .before .before in
+    let at-read = at-l .before .before .before .before .before .before .before .before .before .before .before .before .before .before .before .before .before .before in
+    let start = at-read .before .before .before .before .before .before .before .before .before .before .before .before .before .before .before .before .before .before .before .before .before .before .before in
     let a = start .args in
-    let p = start .pre .5 in
+    let p = start .pre .6 in
     let f = at-read .read .ensures .fitted (at-l .l .given .0 .0) (at-l .l .given .0 .1 .0) (at-l .l .given .0 .1 .1 .0) (at-l .l .given .0 .1 .1 .1 .0) (at-l .l .given .0 .1 .1 .1 .1 .0) (at-l .l .given .0 .1 .1 .1 .1 .1 .0) (at-l .l .given .1) in (
       omega (arith, f .range .l-high, start .pre .0),
       omega (arith, f .range .l-high, start .pre .0, at-read .read .ensures .lo-len (at-l .l .given .0 .0) (at-l .l .given .0 .1 .0) (at-l .l .given .0 .1 .1 .0) (at-l .l .given .0 .1 .1 .1 .0) (at-l .l .given .0 .1 .1 .1 .1 .0) (at-l .l .given .0 .1 .1 .1 .1 .1 .0) (at-l .l .given .1)),
       omega (arith, f .range .k-low),
       omega (arith, f .range .k-high, start .pre .1),
       f .range .t-high,
-      omega (arith, f .range .k-high, start .pre .1, small (limitsOf (a .vmax) (a .bmax)) (now (a .s)) (at-l .l .given .0 .0) (at-l .l .given .0 .1 .0) (at-l .l .given .0 .1 .1 .0) (at-l .l .given .0 .1 .1 .1 .0) (at-l .l .given .0 .1 .1 .1 .1 .0) (at-l .l .given .0 .1 .1 .1 .1 .1 .0) (now (a .weights)) (now (a .blocks)) (now (a .aboves)) (now (a .fixed)) (now (a .loadedpins)) (now (a .presentpins)) (now (a .firsts)) (now (a .loadedsizes)) (now (a .presentsizes)) _ _ (now (a .aboves)) _ _ (now (a .presentpins)) _ _ (now (a .presentsizes)) _ _ _ (at-read .read .result) (at-read .read .ensures) (at-l .l .given .1) (start .pre .0) (at-read .read .kept .1 .1 .1 .0) (at-read .read .kept .1 .1 .1 .1 .0) (at-read .read .kept .1 .1 .1 .1 .1 .0) (at-read .read .kept .1 .1 .1 .1 .1 .1 .1 .1 .1 .1 .0) (at-read .read .kept .1 .1 .1 .1 .1 .1 .1 .1 .0) (at-read .read .kept .1 .1 .1 .1 .1 .1 .1 .1 .1 .0) (p .weights) (p .blocks) (p .loadedPins) (p .presentPins)),
+      omega (arith, f .range .k-high, start .pre .1, small (limitsOf (a .vmax) (a .bmax)) (now (a .s)) (at-l .l .given .0 .0) (at-l .l .given .0 .1 .0) (at-l .l .given .0 .1 .1 .0) (at-l .l .given .0 .1 .1 .1 .0) (at-l .l .given .0 .1 .1 .1 .1 .0) (at-l .l .given .0 .1 .1 .1 .1 .1 .0) (now (a .weights)) (now (a .blocks)) (now (a .aboves)) (now (a .fixed)) (now (a .loadedpins)) (now (a .presentpins)) (now (a .firsts)) (now (a .loadedsizes)) (now (a .presentsizes)) _ _ (now (a .aboves)) _ _ (now (a .presentpins)) _ _ (now (a .presentsizes)) _ _ _ _ (at-read .read .result) (at-read .read .ensures) (at-l .l .given .1) (start .pre .0) (at-read .read .kept .1 .1 .1 .0) (at-read .read .kept .1 .1 .1 .1 .0) (at-read .read .kept .1 .1 .1 .1 .1 .0) (at-read .read .kept .1 .1 .1 .1 .1 .1 .1 .1 .1 .1 .0) (at-read .read .kept .1 .1 .1 .1 .1 .1 .1 .1 .0) (at-read .read .kept .1 .1 .1 .1 .1 .1 .1 .1 .1 .0) (p .weights) (p .blocks) (p .loadedPins) (p .presentPins)),
     )
 
 same-length : tie.Need-same-length
@@ -70,65 +70,75 @@ same-length-6 c = search needs
 same-length-7 : tie.Need-same-length-7
 same-length-7 c = search needs
 
+same-length-8 : tie.Need-same-length-8
+same-length-8 c = search needs
+
 returns : tie.Need-returns
 returns c =
-    let at-read = c .before .before .before .before .before .before .before .before .before .before .before .before .before .before .before .before .before in
-    let start = at-read .before .before .before .before .before .before .before .before .before .before .before .before .before .before .before .before .before .before .before .before .before in
+    let at-read = c .before .before .before .before .before .before .before .before .before .before .before .before .before .before .before .before .before .before .before in
+    let start = at-read .before .before .before .before .before .before .before .before .before .before .before .before .before .before .before .before .before .before .before .before .before .before .before in
     let a = start .args in
-    refused (limitsOf (a .vmax) (a .bmax)) (now (a .s)) (at-read .read .result) (c .before .q .given .0 .0) (c .before .q .given .0 .1 .0) (now (a .weights)) (now (a .blocks)) (now (a .fixed)) (now (a .aboves)) (now (a .presentpins)) (now (a .presentsizes)) (now (a .firsts)) (now (a .loadedsizes)) (now (a .loadedpins)) _ _ _ _ _ _ _ _ _ (at-read .read .ensures) (c .before .q .given .1)
-
-same-length-8 : tie.Need-same-length-8
-same-length-8 c =
-    let at-read = c .before .before .before .before .before .before .before .before .before .before .before .before .before .before .before .before .before .before .before .before .before .before .before .before .before .before .before .before .before .before .before .before in
-    at-read .read .kept .1 .1 .1 .0
+    refused (limitsOf (a .vmax) (a .bmax)) (now (a .s)) (at-read .read .result) (c .before .q .given .0 .0) (c .before .q .given .0 .1 .0) (now (a .weights)) (now (a .blocks)) (now (a .fixed)) (now (a .aboves)) (now (a .presentpins)) (now (a .presentsizes)) (now (a .firsts)) (now (a .loadedsizes)) (now (a .loadedpins)) _ _ _ _ _ _ _ _ _ _ (at-read .read .ensures) (c .before .q .given .1)
 
 same-length-9 : tie.Need-same-length-9
 same-length-9 c =
-    let at-read = c .before .before .before .before .before .before .before .before .before .before .before .before .before .before .before .before .before .before .before .before .before .before .before .before .before .before .before .before .before .before .before .before in
-    at-read .read .kept .1 .1 .1 .1 .0
+    let at-read = c .before .before .before .before .before .before .before .before .before .before .before .before .before .before .before .before .before .before .before .before .before .before .before .before .before .before .before .before .before .before .before .before .before .before in
+    at-read .read .kept .1 .1 .1 .0
 
 same-length-10 : tie.Need-same-length-10
-same-length-10 c = search needs
+same-length-10 c =
+    let at-read = c .before .before .before .before .before .before .before .before .before .before .before .before .before .before .before .before .before .before .before .before .before .before .before .before .before .before .before .before .before .before .before .before .before .before in
+    at-read .read .kept .1 .1 .1 .1 .0
 
 same-length-11 : tie.Need-same-length-11
-same-length-11 c =
-    let at-read = c .before .before .before .before .before .before .before .before .before .before .before .before .before .before .before .before .before .before .before .before .before .before .before .before .before .before .before .before .before .before .before .before in
-    at-read .read .kept .1 .1 .1 .1 .1 .0
+same-length-11 c = search needs
 
 same-length-12 : tie.Need-same-length-12
 same-length-12 c =
-    let at-read = c .before .before .before .before .before .before .before .before .before .before .before .before .before .before .before .before .before .before .before .before .before .before .before .before .before .before .before .before .before .before .before .before in
-    at-read .read .kept .1 .1 .1 .1 .1 .1 .1 .1 .1 .1 .0
+    let at-read = c .before .before .before .before .before .before .before .before .before .before .before .before .before .before .before .before .before .before .before .before .before .before .before .before .before .before .before .before .before .before .before .before .before .before in
+    at-read .read .kept .1 .1 .1 .1 .1 .0
 
 same-length-13 : tie.Need-same-length-13
-same-length-13 c = search needs
+same-length-13 c =
+    let at-read = c .before .before .before .before .before .before .before .before .before .before .before .before .before .before .before .before .before .before .before .before .before .before .before .before .before .before .before .before .before .before .before .before .before .before in
+    at-read .read .kept .1 .1 .1 .1 .1 .1 .1 .1 .1 .1 .0
 
 same-length-14 : tie.Need-same-length-14
-same-length-14 c =
-    let at-read = c .before .before .before .before .before .before .before .before .before .before .before .before .before .before .before .before .before .before .before .before .before .before .before .before .before .before .before .before .before .before .before .before in
-    at-read .read .kept .1 .1 .1 .1 .1 .1 .1 .1 .0
+same-length-14 c = search needs
 
 same-length-15 : tie.Need-same-length-15
 same-length-15 c =
-    let at-read = c .before .before .before .before .before .before .before .before .before .before .before .before .before .before .before .before .before .before .before .before .before .before .before .before .before .before .before .before .before .before .before .before in
-    at-read .read .kept .1 .1 .1 .1 .1 .1 .1 .1 .1 .0
+    let at-read = c .before .before .before .before .before .before .before .before .before .before .before .before .before .before .before .before .before .before .before .before .before .before .before .before .before .before .before .before .before .before .before .before .before .before in
+    at-read .read .kept .1 .1 .1 .1 .1 .1 .1 .1 .0
 
 same-length-16 : tie.Need-same-length-16
-same-length-16 c = search needs
+same-length-16 c =
+    let at-read = c .before .before .before .before .before .before .before .before .before .before .before .before .before .before .before .before .before .before .before .before .before .before .before .before .before .before .before .before .before .before .before .before .before .before in
+    at-read .read .kept .1 .1 .1 .1 .1 .1 .1 .1 .1 .0
 
 same-length-17 : tie.Need-same-length-17
 same-length-17 c = search needs
+
+same-length-18 : tie.Need-same-length-18
+same-length-18 c =
+    let at-read = c .before .before .before .before .before .before .before .before .before .before .before .before .before .before .before .before .before .before .before .before .before .before .before .before .before .before .before .before .before .before .before .before .before .before in
+    at-read .read .kept .1 .1 .1 .1 .1 .1 .1 .1 .1 .1 .1 .0
+
+same-length-19 : tie.Need-same-length-19
+same-length-19 c =
+    let at-read = c .before .before .before .before .before .before .before .before .before .before .before .before .before .before .before .before .before .before .before .before .before .before .before .before .before .before .before .before .before .before .before .before .before .before in
+    at-read .read .kept .1 .1 .1 .1 .1 .1 .1 .1 .1 .1 .1 .1 .0
 
 returns-2 : tie.Need-returns-2
 returns-2 c =
     let at-start = c .before .before .before .before .before .before .before .before .before in
     let at-l = at-start .before .before .before .before .before .before .before in
-    let at-read = at-l .before .before .before .before .before .before .before .before .before .before .before .before .before .before .before .before in
-    let start = at-read .before .before .before .before .before .before .before .before .before .before .before .before .before .before .before .before .before .before .before .before .before in
+    let at-read = at-l .before .before .before .before .before .before .before .before .before .before .before .before .before .before .before .before .before .before in
+    let start = at-read .before .before .before .before .before .before .before .before .before .before .before .before .before .before .before .before .before .before .before .before .before .before .before in
     let a = start .args in
-    let p = start .pre .5 in
+    let p = start .pre .6 in
     let e = at-start .start .ensures in
-    accepted (limitsOf (a .vmax) (a .bmax)) (now (a .s)) (at-l .l .given .0 .0) (at-l .l .given .0 .1 .0) (at-l .l .given .0 .1 .1 .0) (at-l .l .given .0 .1 .1 .1 .0) (at-l .l .given .0 .1 .1 .1 .1 .0) (at-l .l .given .0 .1 .1 .1 .1 .1 .0) (now (a .weights)) (now (a .blocks)) (now (a .aboves)) (now (a .fixed)) (now (a .loadedpins)) (now (a .presentpins)) (now (a .firsts)) (now (a .loadedsizes)) (now (a .presentsizes)) _ _ _ _ _ _ _ _ _ _ _ _ (at-read .read .result) (at-read .read .ensures) (at-l .l .given .1) (start .pre .0) (at-read .read .kept .1 .1 .1 .0) (at-read .read .kept .1 .1 .1 .1 .0) (at-read .read .kept .1 .1 .1 .1 .1 .0) (at-read .read .kept .1 .1 .1 .1 .1 .1 .1 .1 .1 .1 .0) (at-read .read .kept .1 .1 .1 .1 .1 .1 .1 .1 .0) (at-read .read .kept .1 .1 .1 .1 .1 .1 .1 .1 .1 .0) (p .weights) (p .blocks) (p .loadedPins) (p .presentPins) (e .0) (e .1) (e .2) (c .measure .result) (c .measure .ensures)
+    accepted (limitsOf (a .vmax) (a .bmax)) (now (a .s)) (at-l .l .given .0 .0) (at-l .l .given .0 .1 .0) (at-l .l .given .0 .1 .1 .0) (at-l .l .given .0 .1 .1 .1 .0) (at-l .l .given .0 .1 .1 .1 .1 .0) (at-l .l .given .0 .1 .1 .1 .1 .1 .0) (now (a .weights)) (now (a .blocks)) (now (a .aboves)) (now (a .fixed)) (now (a .loadedpins)) (now (a .presentpins)) (now (a .firsts)) (now (a .loadedsizes)) (now (a .presentsizes)) _ _ _ _ _ _ _ _ _ _ _ _ _ (at-read .read .result) (at-read .read .ensures) (at-l .l .given .1) (start .pre .0) (at-read .read .kept .1 .1 .1 .0) (at-read .read .kept .1 .1 .1 .1 .0) (at-read .read .kept .1 .1 .1 .1 .1 .0) (at-read .read .kept .1 .1 .1 .1 .1 .1 .1 .1 .1 .1 .0) (at-read .read .kept .1 .1 .1 .1 .1 .1 .1 .1 .0) (at-read .read .kept .1 .1 .1 .1 .1 .1 .1 .1 .1 .0) (p .weights) (p .blocks) (p .loadedPins) (p .presentPins) (e .0) (e .1) (e .2) (c .measure .result) (c .measure .ensures)
 
 pub load-spec : {M : Type 1} → statement M
 load-spec =
@@ -148,8 +158,8 @@ load-spec =
     same-length-5
     same-length-6
     same-length-7
-    returns
     same-length-8
+    returns
     same-length-9
     same-length-10
     same-length-11
@@ -159,4 +169,6 @@ load-spec =
     same-length-15
     same-length-16
     same-length-17
+    same-length-18
+    same-length-19
     returns-2)

@@ -17,8 +17,8 @@ overfull-requires c κs = search needs
 
 returns : tie.Need-returns
 returns c =
-    let start = c .before .before .before .before .before .before .before in
-    let a = start .args in last-over (now (a .s)) (a .at) (a .vertices) (a .nets) (a .blocks) (a .imbalance) (a .m) (now (a .weights)) (now (a .draft)) (now (a .lows)) (omega arith) (c .before .overfull .result) (c .before .overfull .ensures) (c .if1 .taken) (now (a .calls))
+    let start = c .before .before .before .before .before .before .before .before in
+    let a = start .args in last-over (now (a .s)) (a .at) (a .vertices) (a .nets) (a .blocks) (a .imbalance) (a .m) (now (a .weights)) (now (a .draft)) (now (a .lows)) (omega arith) (c .before .overfull .result) (c .before .overfull .ensures) (c .if1 .taken) (now (a .calls)) (now (a .operands))
 
 add-read-calls : tie.Need-add-read-calls
 add-read-calls c = search needs
@@ -31,10 +31,13 @@ same-length c = search needs
 
 returns-2 : tie.Need-returns-2
 returns-2 c =
-    let at-if1 = c .before .before .before .before in
+    let at-if1 = c .before .before .before .before .before .before .before in
     let at-overfull = at-if1 .before in
-    let start = at-overfull .before .before .before .before .before .before in
-    let a = start .args in last-calls (now (a .s)) (a .at) (a .vertices) (a .nets) (a .blocks) (a .imbalance) (a .m) (now (a .weights)) (now (a .draft)) (now (a .lows)) (omega arith) (at-overfull .overfull .result) (at-overfull .overfull .ensures) (at-if1 .if1 .left) (c .before .before .read-calls .result) _ (c .before .before .read-calls .ensures)
+    let start = at-overfull .before .before .before .before .before .before .before in
+    let a = start .args in last-calls (now (a .s)) (a .at) (a .vertices) (a .nets) (a .blocks) (a .imbalance) (a .m) (now (a .weights)) (now (a .draft)) (now (a .lows)) (omega arith) (at-overfull .overfull .result) (at-overfull .overfull .ensures) (at-if1 .if1 .left) (c .before .before .before .before .read-calls .result) _ _ (c .before .before .before .before .read-calls .ensures)
+
+same-length-2 : tie.Need-same-length-2
+same-length-2 c = search needs
 
 pub finish-spec : {M : Type 1} → statement M
 finish-spec =
@@ -47,4 +50,5 @@ finish-spec =
     add-read-calls
     read-calls-requires
     same-length
+    same-length-2
     returns-2)

@@ -2,52 +2,55 @@
 use Prim.Native.Nat.{_-_}
 use lib.ListN.{length, length-set}
 use native.Mathlib.Omega.{arith}
-use mathlib.Core.Path.{subst}
+use mathlib.Core.Path.{_∙_}
 use denote.Ref.{now}
 use borrow.Author.Needs.{needs}
-use lib.Seq.{slice}
-use Rattle.model.specs.Grammar.{fields}
-use Rattle.lines.specs.Line.{CallRead}
 use Rattle.reader.proofs.Turns.{OnCalls, calls-start, calls-done, calls-full, calls-unended, calls-bad, calls-on}
 use Rattle.reader.proofs.read_calls.Statement.{statement}
 use Rattle.reader.proofs.read_calls.Tie as tie
 
 abbrev Inv-loop : tie.InvT-loop
-Inv-loop s at n calls₀ len i₀ c₀ calls i c = OnCalls s at n calls₀ calls i c
+Inv-loop s at n calls₀ operands₀ len i₀ c₀ used₀ calls operands i c used = OnCalls s at n calls₀ operands₀ calls operands i c used
 
 abbrev μ-loop : tie.MeasureT-loop
-μ-loop s at n calls₀ len i₀ c₀ calls i c = length s - i
+μ-loop s at n calls₀ operands₀ len i₀ c₀ used₀ calls operands i c used = length s - i
 
 loop-holds : tie.Need-loop-holds Inv-loop μ-loop
-loop-holds c = let a = c .before .before .args in calls-start (now (a .s)) (a .at) (a .n) (now (a .calls)) (omega arith) (omega arith) (omega arith)
+loop-holds c = let a = c .before .before .before .args in calls-start (now (a .s)) (a .at) (a .n) (now (a .calls)) (now (a .operands)) (omega arith) (omega arith) (omega arith) (omega arith) (omega arith)
 
-add-t14 : tie.Need-add-t14 Inv-loop μ-loop
-add-t14 c = omega arith
+add-t17 : tie.Need-add-t17 Inv-loop μ-loop
+add-t17 c = omega arith
 
 same-length : tie.Need-same-length Inv-loop μ-loop
 same-length c = c .before .before .loop .inv .same
 
+same-length-2 : tie.Need-same-length-2 Inv-loop μ-loop
+same-length-2 c = c .before .before .loop .inv .ops-same
+
 returns : tie.Need-returns Inv-loop μ-loop
 returns c =
-    let start = c .before .before .before .before .before in
-    let a = start .args in let l = c .before .before .loop in calls-full (now (a .s)) (a .at) (a .n) (now (a .calls)) (l .calls) (l .i) (l .c) (l .inv) (omega arith) (c .if1 .taken)
+    let a = c .before .before .before .before .before .before .args in
+    let l = c .before .before .loop in
+    calls-full (now (a .s)) (a .at) (a .n) (now (a .calls)) (now (a .operands)) (l .calls) (l .operands) (l .i) (l .c) (l .used) (l .inv) (omega arith) (c .if1 .taken)
 
 line-end-requires : tie.Need-line-end-requires Inv-loop μ-loop
 line-end-requires c κs = search needs
 
-add-t15 : tie.Need-add-t15 Inv-loop μ-loop
-add-t15 c = omega arith
+add-t18 : tie.Need-add-t18 Inv-loop μ-loop
+add-t18 c = omega arith
 
-same-length-2 : tie.Need-same-length-2 Inv-loop μ-loop
-same-length-2 c =
-    let at-loop = c .before .before .before .before in
-    at-loop .loop .inv .same
+same-length-3 : tie.Need-same-length-3 Inv-loop μ-loop
+same-length-3 c = c .before .before .before .before .loop .inv .same
+
+same-length-4 : tie.Need-same-length-4 Inv-loop μ-loop
+same-length-4 c = c .before .before .before .before .loop .inv .ops-same
 
 returns-2 : tie.Need-returns-2 Inv-loop μ-loop
 returns-2 c =
-    let at-loop = c .before .before .before .before in
-    let start = at-loop .before .before .before in
-    let a = start .args in let l = at-loop .loop in calls-unended (now (a .s)) (a .at) (a .n) (now (a .calls)) (l .calls) (l .i) (l .c) (l .inv) (omega arith) (c .before .line-end .result) (c .before .line-end .ensures) (omega arith) (omega arith)
+    let a = c .before .before .before .before .before .before .before .before .args in
+    let l = c .before .before .before .before .loop in
+    let e = c .before .line-end in
+    calls-unended (now (a .s)) (a .at) (a .n) (now (a .calls)) (now (a .operands)) (l .calls) (l .operands) (l .i) (l .c) (l .used) (l .inv) (omega arith) (e .result) (e .ensures) (omega arith) (omega arith)
 
 call-line-requires : tie.Need-call-line-requires Inv-loop μ-loop
 call-line-requires c κs = search needs
@@ -55,20 +58,22 @@ call-line-requires c κs = search needs
 enum-told : tie.Need-enum-told Inv-loop μ-loop
 enum-told c = search needs
 
-add-t17 : tie.Need-add-t17 Inv-loop μ-loop
-add-t17 c = omega arith
+add-t22 : tie.Need-add-t22 Inv-loop μ-loop
+add-t22 c = omega arith
 
-same-length-3 : tie.Need-same-length-3 Inv-loop μ-loop
-same-length-3 c =
-    let at-loop = c .before .before .before .before .before .before .before in
-    at-loop .loop .inv .same
+same-length-5 : tie.Need-same-length-5 Inv-loop μ-loop
+same-length-5 c = c .before .before .before .before .before .before .before .before .before .before .loop .inv .same
+
+same-length-6 : tie.Need-same-length-6 Inv-loop μ-loop
+same-length-6 c = c .before .before .before .before .call-line .ensures .len ∙ c .before .before .before .before .before .before .before .before .before .before .loop .inv .ops-same
 
 returns-3 : tie.Need-returns-3 Inv-loop μ-loop
 returns-3 c =
-    let at-line-end = c .before .before .before .before in
-    let at-loop = at-line-end .before .before .before in
-    let start = at-loop .before .before .before in
-    let a = start .args in let l = at-loop .loop in calls-bad (now (a .s)) (a .at) (a .n) (now (a .calls)) (l .calls) (l .i) (l .c) (l .inv) (omega arith) (at-line-end .line-end .result) (at-line-end .line-end .ensures) (omega arith) (omega arith) (subst (CallRead (fields (slice (l .i) (at-line-end .line-end .result) (now (a .s))))) (c .enum-told .given .1) (c .before .before .call-line .ensures))
+    let a = c .before .before .before .before .before .before .before .before .before .before .before .before .before .before .args in
+    let l = c .before .before .before .before .before .before .before .before .before .before .loop in
+    let e = c .before .before .before .before .before .before .before .line-end in
+    let r = c .before .before .before .before .call-line in
+    calls-bad (now (a .s)) (a .at) (a .n) (now (a .calls)) (now (a .operands)) (l .calls) (l .operands) (l .i) (l .c) (l .used) (l .inv) (omega arith) (e .result) (e .ensures) (omega arith) (omega arith) (r .result) _ (r .ensures) (c .enum-told .given .1)
 
 enum-known-k : tie.Need-enum-known-k Inv-loop μ-loop
 enum-known-k c = search needs
@@ -111,19 +116,24 @@ loop-less c = omega arith
 
 loop-again : tie.Need-loop-again Inv-loop μ-loop
 loop-again c =
-    let at-call-line = c .before .before .before in
-    let at-line-end = at-call-line .before .before in
-    let at-loop = at-line-end .before .before .before in
-    let start = at-loop .before .before .before in
-    let a = start .args in let l = at-loop .loop in calls-on (now (a .s)) (a .at) (a .n) (now (a .calls)) (l .calls) (l .i) (l .c) (l .inv) (omega arith) (at-line-end .line-end .result) (at-line-end .line-end .ensures) (omega arith) (omega arith) (c .before .k .given .0 .0) (c .before .k .given .0 .1 .0) (c .before .k .given .0 .1 .1 .0) (subst (CallRead (fields (slice (l .i) (at-line-end .line-end .result) (now (a .s))))) (c .before .k .given .1) (at-call-line .call-line .ensures))
+    let a = c .before .before .before .before .before .before .before .before .before .before .before .before .before .before .before .args in
+    let l = c .before .before .before .before .before .before .before .before .before .before .before .loop in
+    let e = c .before .before .before .before .before .before .before .before .line-end in
+    let r = c .before .before .before .before .before .call-line in
+    let k = c .before .k in
+    calls-on (now (a .s)) (a .at) (a .n) (now (a .calls)) (now (a .operands)) (l .calls) (l .operands) (l .i) (l .c) (l .used) (l .inv) (omega arith) (e .result) (e .ensures) (omega arith) (omega arith) (r .result) _ (r .ensures) (k .given .0 .0) (k .given .0 .1 .0) (k .given .0 .1 .1 .0) (k .given .0 .1 .1 .1 .0) (k .given .1)
 
-same-length-4 : tie.Need-same-length-4 Inv-loop μ-loop
-same-length-4 c = c .before .loop .inv .same
+same-length-7 : tie.Need-same-length-7 Inv-loop μ-loop
+same-length-7 c = c .before .loop .inv .same
+
+same-length-8 : tie.Need-same-length-8 Inv-loop μ-loop
+same-length-8 c = c .before .loop .inv .ops-same
 
 returns-4 : tie.Need-returns-4 Inv-loop μ-loop
 returns-4 c =
-    let start = c .before .before .before .before in
-    let a = start .args in let l = c .before .loop in calls-done (now (a .s)) (a .at) (a .n) (now (a .calls)) (l .calls) (l .i) (l .c) (l .inv) (omega arith)
+    let a = c .before .before .before .before .before .args in
+    let l = c .before .loop in
+    calls-done (now (a .s)) (a .at) (a .n) (now (a .calls)) (now (a .operands)) (l .calls) (l .operands) (l .i) (l .c) (l .used) (l .inv) (omega arith)
 
 pub read-calls-spec : {M : Type 1} → statement M
 read-calls-spec =
@@ -132,17 +142,20 @@ read-calls-spec =
     Inv-loop
     μ-loop
     loop-holds
-    add-t14
+    add-t17
     same-length
+    same-length-2
     returns
     line-end-requires
-    add-t15
-    same-length-2
+    add-t18
+    same-length-3
+    same-length-4
     returns-2
     call-line-requires
     enum-told
-    add-t17
-    same-length-3
+    add-t22
+    same-length-5
+    same-length-6
     returns-3
     enum-known-k
     mul-x
@@ -158,5 +171,6 @@ read-calls-spec =
     add-i
     loop-less
     loop-again
-    same-length-4
+    same-length-7
+    same-length-8
     returns-4)
