@@ -3,12 +3,14 @@ use Prim.Native.Nat.{ℕ, zero, suc}
 use native.Mathlib.Omega.{arith}
 use mathlib.Core.Path.{_≡_, refl, sym, ap, _∙_, subst}
 use mathlib.Core.Bool.{Bool, true, false, cond, _||_}
+use mathlib.Core.List.{List, [], _∷_}
 use borrow.Author.Tests.{eq-eqb, ne-eqb}
 use lib.Dec.{eqb}
 use Rattle.laws.specs.Choice.{cond-yes, cond-no}
 use Rattle.model.specs.Catalogue.{Hypergraph}
 use Rattle.model.specs.Machine.{Call, callJ, callS, callM, callB, callW, callP, callA, Answer, saysNO}
-use Rattle.model.specs.Grammar.{asks, nothing, callOf, letterJ, letterS, letterM, letterB, letterW, letterP, letterA}
+use Rattle.model.specs.Grammar.{asks, nothing, callOf, lateOf, stretchOf, letterJ, letterS, letterM, letterB, letterW, letterP, letterA, letterX, letterN}
+use Rattle.model.specs.Sale.{runs, callX}
 use Rattle.model.specs.Lent.{Two}
 use Rattle.operations.specs.Tables.{Tables}
 use Rattle.edit_calls.specs.Steps.{told}
@@ -35,23 +37,32 @@ abbrev pub anyCall : ℕ → ℕ → ℕ → Call
 anyCall letter x y = cond (contracts letter) (contractingCall letter x y) (cond (moves letter) (movingCall letter x y) callA)
 
 -- a letter of a call is taken for that call
-pub any-is : (letter x y : ℕ) (c : Call) → callOf letter x y ≡ asks c → anyCall letter x y ≡ c
-unfolding callOf
-any-is letter x y c = go (eqb letter letterJ) (eqb letter letterS) (eqb letter letterM) (eqb letter letterB) (eqb letter letterW) (eqb letter letterP) (eqb letter letterA)
+pub any-is : (operands : List ℕ) (letter x y : ℕ) (c : Call) → callOf operands letter x y ≡ asks (runs c) → anyCall letter x y ≡ c
+unfolding callOf lateOf
+any-is operands letter x y c = go (eqb letter letterJ) (eqb letter letterS) (eqb letter letterM) (eqb letter letterB) (eqb letter letterW) (eqb letter letterP) (eqb letter letterA) (eqb letter letterX) (eqb letter letterN)
   where
-    same : {a b : Call} → asks a ≡ asks b → a ≡ b
+    same : {a b : Call} → asks (runs a) ≡ asks (runs b) → a ≡ b
     same e = cc
 
-    go : (j s m b w p a : Bool) → cond j (asks (callJ x y)) (cond s (asks callS) (cond m (asks (callM x y)) (cond b (asks callB) (cond w (asks (callW x y)) (cond p (asks callP) (cond a (asks callA) nothing)))))) ≡ asks c
+    -- X and N are no calls of the machine
+    late : (l : List ℕ) → lateOf l ≡ asks (runs c) → ⊥
+    late [] e = let z : _≡_ {A = ℕ} 0 1 = cc in omega arith
+    late (bales ∷ []) e = let z : _≡_ {A = ℕ} 0 1 = cc in omega arith
+    late (bales ∷ (session ∷ buyers)) e = let z : _≡_ {A = ℕ} 0 1 = cc in omega arith
+
+    go : (j s m b w p a o n : Bool) → cond j (asks (runs (callJ x y))) (cond s (asks (runs callS)) (cond m (asks (runs (callM x y))) (cond b (asks (runs callB)) (cond w (asks (runs (callW x y))) (cond p (asks (runs callP)) (cond a (asks (runs callA))
+        (cond o (asks (callX x)) (cond n (lateOf (stretchOf operands x y)) nothing)))))))) ≡ asks (runs c)
         → cond (j || s) (cond j (callJ x y) callS) (cond (m || (b || (w || p))) (cond m (callM x y) (cond b callB (cond w (callW x y) callP))) callA) ≡ c
-    go true s m b w p a e = same e
-    go false true m b w p a e = same e
-    go false false true b w p a e = same e
-    go false false false true w p a e = same e
-    go false false false false true p a e = same e
-    go false false false false false true a e = same e
-    go false false false false false false true e = same e
-    go false false false false false false false e = absurd (let z : _≡_ {A = ℕ} 0 1 = cc in omega arith)
+    go true s m b w p a o n e = same e
+    go false true m b w p a o n e = same e
+    go false false true b w p a o n e = same e
+    go false false false true w p a o n e = same e
+    go false false false false true p a o n e = same e
+    go false false false false false true a o n e = same e
+    go false false false false false false true o n e = same e
+    go false false false false false false false true n e = absurd (let z : _≡_ {A = ℕ} 0 1 = cc in omega arith)
+    go false false false false false false false false true e = absurd (late (stretchOf operands x y) e)
+    go false false false false false false false false false e = absurd (let z : _≡_ {A = ℕ} 0 1 = cc in omega arith)
 
 -- ---- the arms of the code's tests
 pub either-first : (x n : ℕ) (b : Bool) → x ≡ n → true ≡ (eqb x n || b)

@@ -6,16 +6,17 @@ use mathlib.Core.List.{List, _∷_}
 use Prim.Native.Nat.{ℕ, _+_, _-_, _*_, _≤_, _<_}
 use native.Mathlib.Decide.{ℕ-discrete}
 use native.Mathlib.Omega.{arith}
-use borrow.Author.Tests.{eq-eqb, ne-eqb, lt-ltb, ltb-true, leb-true, le-leb}
+use borrow.Author.Tests.{eq-eqb, lt-ltb, ltb-true, leb-true, le-leb}
 use lib.Dec.{eqb, ltb, leb}
 use lib.ListN.{getD}
 use Rattle.laws.specs.Choice.{one, one-eqb, and-left, and-right}
 use Rattle.laws.specs.Occurrence.{occ}
 use Rattle.laws.specs.Place.{place, place-off}
 use Rattle.laws.specs.Sum.{sum, sum-ext, sum-add, sum-mono, sumTo-change2}
-use Rattle.model.specs.Catalogue.{Hypergraph, vertices, averageWeight}
+use Rattle.model.specs.Catalogue.{Hypergraph, vertices, inSale, averageWeight}
 use Rattle.model.specs.Measure.{Contraction, above, mayMove, isFixed, pin, size, weight, adjacent}
 use Rattle.model.specs.Search.{rating, canJoin}
+use Rattle.guarantees.specs.Board.{board-under}
 use Rattle.guarantees.specs.Climbs.{Sound, above-gone, above-other, pin-gone, pin-into, pin-other}
 use Rattle.guarantees.specs.Weights.{weight-into, weight-other}
 use Rattle.guarantees.specs.Ends.{may-on}
@@ -184,7 +185,7 @@ module _ (h : Hypergraph) (cs : List Contraction) (block : ℕ → ℕ) (bits pi
       may-before : (x : ℕ) → mayMove h (c ∷ cs) x ≡ true → (x ≡ c .gone → ⊥) × (mayMove h cs x ≡ true)
       may-before x q =
           let ne : x ≡ c .gone → ⊥ = λ z. omega (arith, above-gone cs c x (sym z), may-on h (c ∷ cs) x q) in
-          (ne, ap₂ (λ (a : ℕ) (b : Bool). eqb a 0 && not b) (sym (above-other cs c x (λ z. ne (sym z)))) (sym (fixed-join h cs c st free x)) ∙ q)
+          (ne, ap₂ (λ (a : ℕ) (b : Bool). (eqb a 0 && inSale h x) && not b) (sym (above-other cs c x (λ z. ne (sym z)))) (sym (fixed-join h cs c st free x)) ∙ q)
 
       weight-before : (x : ℕ) → (x ≡ c .gone → ⊥) → weight h cs x ≤ weight h (c ∷ cs) x
       weight-before x ng = go (ℕ-discrete x (c .into))
@@ -222,7 +223,7 @@ module _ (h : Hypergraph) (cs : List Contraction) (block : ℕ → ℕ) (bits pi
 
       gone-score : (y : ℕ) → score′ (c .gone) y ≡ 0
       unfolding scoreOf
-      gone-score y = idle bits′ pins′ firsts′ sizes′ netWeights′ blocks′ weights′ m n limit (c .gone) (k′ .tables) (k′ .off (c .gone) vl vu (ne-eqb (above (c ∷ cs) (c .gone)) 0 (λ z. omega (arith, above-gone cs c (c .gone) refl)))) y
+      gone-score y = idle bits′ pins′ firsts′ sizes′ netWeights′ blocks′ weights′ m n limit (c .gone) (k′ .tables) (k′ .off (c .gone) vl vu (board-under h (c ∷ cs) (c .gone) (λ z. omega (arith, st .0 .real, above-gone cs c (c .gone) refl)))) y
 
       -- bounds raised for the contraction are bounds after it
       pub bounded-after : (l : List ℕ) → Ready score (riseOf bits pins firsts sizes netWeights blocks m (c .into) (c .gone)) n l (c .into) (c .gone) → Bounded score′ n l

@@ -16,7 +16,7 @@ use Rattle.laws.specs.Fold.{any-at, any-not}
 use Rattle.laws.specs.Occurrence.{occ}
 use Rattle.laws.specs.Sum.{sum, sum-ext, sum-nil, sum-list, term-le, sumTo-two, countTo-le}
 use Rattle.model.specs.Catalogue.{Net, Hypergraph, vertices, averageWeight}
-use Rattle.model.specs.Measure.{Contraction, onBoard, mayMove, isFixed, pin, size, weight, adjacent}
+use Rattle.model.specs.Measure.{Contraction, isTop, onBoard, mayMove, isFixed, pin, size, weight, adjacent}
 use Rattle.model.specs.Search.{bestPair, rating, canJoin, joinBest}
 use Rattle.guarantees.specs.Tops.{bestPair-ext}
 use Rattle.incidence.specs.On.{on}
@@ -37,10 +37,10 @@ pub record Linked (h : Hypergraph) (cs : List Contraction) (block : ℕ → ℕ)
   pub m-is : m ≡ length (h .nets)
   pub limit-is : limit ≡ averageWeight h
   pub block-is : (v : ℕ) → 1 ≤ v → v ≤ n → mayMove h cs v ≡ true → (getD blocks (v - 1) 0 ≡ block v) × (1 ≤ block v)
-  pub off : (v : ℕ) → 1 ≤ v → v ≤ n → onBoard cs v ≡ false → getD blocks (v - 1) 0 ≡ 0
+  pub off : (v : ℕ) → 1 ≤ v → v ≤ n → onBoard h cs v ≡ false → getD blocks (v - 1) 0 ≡ 0
   pub alone : (v z : ℕ) → 1 ≤ v → v ≤ n → 1 ≤ z → z ≤ n → isFixed h cs v ≡ true → getD blocks (z - 1) 0 ≡ getD blocks (v - 1) 0 → z ≡ v
-  pub weight-is : (v : ℕ) → 1 ≤ v → v ≤ n → onBoard cs v ≡ true → getD weights (v - 1) 0 ≡ weight h cs v
-  pub incident : (v e : ℕ) → 1 ≤ v → v ≤ n → e < m → onBoard cs v ≡ true → on bits (v - 1) e ≡ one (pin cs (net h e) v)
+  pub weight-is : (v : ℕ) → 1 ≤ v → v ≤ n → isTop cs v ≡ true → getD weights (v - 1) 0 ≡ weight h cs v
+  pub incident : (v e : ℕ) → 1 ≤ v → v ≤ n → e < m → isTop cs v ≡ true → on bits (v - 1) e ≡ one (pin cs (net h e) v)
   pub members : (v e : ℕ) → 1 ≤ v → v ≤ n → e < m → occ pins (getD firsts e 0) (getD sizes e 0) v ≡ one (pin cs (net h e) v)
   pub sized : (e : ℕ) → e < m → getD sizes e 0 ≡ size h cs (net h e)
   pub weighs : (e : ℕ) → e < m → (getD netWeights e 0 ≡ net h e .weight) × (1 ≤ net h e .weight)
@@ -76,7 +76,7 @@ module _ (h : Hypergraph) (cs : List Contraction) (block : ℕ → ℕ) (bits pi
   rating-is : (u v : ℕ) → rating h cs u v ≡ sum m (λ e. cond (pin cs (net h e) u && pin cs (net h e) v) (term e) 0)
   rating-is = rating-sum h cs m (k .m-is)
 
-  row-is : (u v : ℕ) → 1 ≤ u → u ≤ n → 1 ≤ v → v ≤ n → onBoard cs u ≡ true → row u v ≡ rating h cs u v
+  row-is : (u v : ℕ) → 1 ≤ u → u ≤ n → 1 ≤ v → v ≤ n → isTop cs u ≡ true → row u v ≡ rating h cs u v
   unfolding over
   row-is u v ul uu vl vu on-u = sum-ext m _ _ one-net ∙ sym (rating-is u v)
     where
@@ -130,7 +130,7 @@ module _ (h : Hypergraph) (cs : List Contraction) (block : ℕ → ℕ) (bits pi
   value-may : (u v : ℕ) → 1 ≤ u → u ≤ n → 1 ≤ v → v ≤ n → mayMove h cs u ≡ true → mayMove h cs v ≡ true → cond (test u v) (row u v) 0 ≡ cond (canJoin h cs block u v) (rating h cs u v) 0
   unfolding canJoin
   value-may u v ul uu vl vu may-u may-v =
-      ap₂ (λ (b : Bool) (z : ℕ). cond b z 0) (ap₂ (λ (b w : Bool). ltb u v && b && w) same-block same-light-enough) (row-is u v ul uu vl vu (and-left _ _ may-u))
+      ap₂ (λ (b : Bool) (z : ℕ). cond b z 0) (ap₂ (λ (b w : Bool). ltb u v && b && w) same-block same-light-enough) (row-is u v ul uu vl vu (and-left _ _ (and-left _ _ may-u)))
       ∙ tests (ltb u v) (eqb (block u) (block v)) (adjacent h cs u v) (leb (weight h cs u + weight h cs v) (averageWeight h)) (rating h cs u v) (apart u v)
       ∙ sym (ap₂ (λ (a b : Bool). cond (ltb u v && a && b && eqb (block u) (block v) && adjacent h cs u v && leb (weight h cs u + weight h cs v) (averageWeight h)) (rating h cs u v) 0) may-u may-v)
     where
@@ -138,7 +138,7 @@ module _ (h : Hypergraph) (cs : List Contraction) (block : ℕ → ℕ) (bits pi
       same-block = ap₂ (λ (a b : ℕ). eqb a b) (k .block-is v vl vu may-v .0) (k .block-is u ul uu may-u .0) ∙ eqb-sym (block v) (block u)
 
       same-light-enough : light-enough u v ≡ leb (weight h cs u + weight h cs v) (averageWeight h)
-      same-light-enough = ap₂ (λ (a b : ℕ). leb a b) (ap₂ (λ (a b : ℕ). a + b) (k .weight-is u ul uu (and-left _ _ may-u)) (k .weight-is v vl vu (and-left _ _ may-v))) (k .limit-is)
+      same-light-enough = ap₂ (λ (a b : ℕ). leb a b) (ap₂ (λ (a b : ℕ). a + b) (k .weight-is u ul uu (and-left _ _ (and-left _ _ may-u))) (k .weight-is v vl vu (and-left _ _ (and-left _ _ may-v)))) (k .limit-is)
 
   -- one of them may not
   shut-first : (u v : ℕ) → mayMove h cs u ≡ false → canJoin h cs block u v ≡ false
@@ -162,12 +162,12 @@ module _ (h : Hypergraph) (cs : List Contraction) (block : ℕ → ℕ) (bits pi
 
   pub value : (u v : ℕ) → 1 ≤ u → u ≤ n → 1 ≤ v → v ≤ n → scoreOf bits pins firsts sizes netWeights blocks weights m limit u v ≡ cond (canJoin h cs block u v) (rating h cs u v) 0
   unfolding scoreOf
-  value u v ul uu vl vu = go (onBoard cs u) refl (isFixed h cs u) refl (onBoard cs v) refl (isFixed h cs v) refl
+  value u v ul uu vl vu = go (onBoard h cs u) refl (isFixed h cs u) refl (onBoard h cs v) refl (isFixed h cs v) refl
     where
-      may : (x : ℕ) {a f : Bool} → onBoard cs x ≡ a → isFixed h cs x ≡ f → mayMove h cs x ≡ (a && not f)
+      may : (x : ℕ) {a f : Bool} → onBoard h cs x ≡ a → isFixed h cs x ≡ f → mayMove h cs x ≡ (a && not f)
       may x p q = ap₂ (λ (a f : Bool). a && not f) p q
 
-      go : (a : Bool) → onBoard cs u ≡ a → (f : Bool) → isFixed h cs u ≡ f → (b : Bool) → onBoard cs v ≡ b → (g : Bool) → isFixed h cs v ≡ g → cond (test u v) (row u v) 0 ≡ cond (canJoin h cs block u v) (rating h cs u v) 0
+      go : (a : Bool) → onBoard h cs u ≡ a → (f : Bool) → isFixed h cs u ≡ f → (b : Bool) → onBoard h cs v ≡ b → (g : Bool) → isFixed h cs v ≡ g → cond (test u v) (row u v) 0 ≡ cond (canJoin h cs block u v) (rating h cs u v) 0
       go false p f pf b q g qf = idle bits pins firsts sizes netWeights blocks weights m n limit u (k .tables) (k .off u ul uu p) v ∙ closed u v (shut-first u v (may u p refl))
       go true p true pf b q g qf = unlike u v (λ l e. omega (arith, k .alone u v ul uu vl vu pf e)) ∙ closed u v (shut-first u v (may u p pf))
       go true p false pf false q g qf = unlike u v (λ l e. omega (arith, k .off v vl vu q, k .block-is u ul uu (may u p pf))) ∙ closed u v (shut-second u v (may v q refl))

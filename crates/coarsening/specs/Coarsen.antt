@@ -8,21 +8,25 @@ use mathlib.Core.Bool.{Bool, true, false, cond}
 use mathlib.Core.List.{List, _∷_}
 use borrow.Author.Tests.{lt-ltb, le-ltb}
 use lib.IntN.{pos}
-use lib.Dec.{eqb}
-use lib.ListN.{length, set, length-set}
+use lib.Dec.{eqb, ltb}
+use lib.ListN.{length, getD, set, length-set}
+use Rattle.laws.specs.Choice.{one}
+use Rattle.laws.specs.Sum.{countBelow, sum-zero, sum-step, sum-sumTo, sumTo, count-le}
 use Rattle.laws.specs.Place.{place}
 use Rattle.model.specs.Catalogue.{Hypergraph, averageWeight}
-use Rattle.model.specs.Measure.{Contraction, isFixed}
+use Rattle.model.specs.Measure.{Contraction, onBoard, isFixed}
 use Rattle.model.specs.Search.{best, Coarse, canJoin, joinBest, joinTurn, boardSize, coarsen}
 use Rattle.model.specs.Lent.{stackOf}
+use Rattle.guarantees.specs.Board.{board-is}
 use Rattle.guarantees.specs.Climbs.{Joins}
-use Rattle.guarantees.specs.Calls.{can-join, can-free, board-join, Coarsest}
+use Rattle.guarantees.specs.Calls.{can-join, can-sale, can-free, board-join, Coarsest}
 use Rattle.guarantees.specs.Fuel.{coarsest-rests}
-use Rattle.guarantees.specs.StateBounds.{board-stack}
+use Rattle.guarantees.specs.StateBounds.{board-stack, lots-le}
 use Rattle.incidence.specs.On.{on}
 use Rattle.fixed.specs.Starting.{FixedIs}
 use Rattle.operations.specs.Pairs.{Pushed, pairs-push, pairs-length}
 use Rattle.operations.specs.Tables.{Tables, Sound, Keeps}
+use Rattle.operations.specs.Move.{board-test}
 use Rattle.operations.specs.Join.{Pair, Joined}
 use Rattle.best_contraction.specs.Rating.{scoreOf}
 use Rattle.best_contraction.specs.JoinPair.{BestJoin, joinOf, joinOf-none, joinOf-some}
@@ -134,13 +138,13 @@ module _ {h : Hypergraph} {cs : List Contraction} {block : ℕ → ℕ} {T : Tab
         u-in = omega (arith, i);
         v-in = omega (arith, i);
         two = λ q. may .0 .two (omega (arith, i));
-        on = omega (arith, v, block-from s (r .gone) (i .2) (i .3) (may .0 .gone-on));
+        on = omega (arith, v, block-from s (r .gone) (i .2) (i .3) (board-is h cs (r .gone) (may .0 .gone-on) (can-sale h cs block (r .into) (r .gone) can .1)));
         together = u ∙ may .1 ∙ sym v;
       }
 
   -- the stack has room
   pub fewer : boardSize h (record { into = r .into; gone = r .gone } ∷ cs) + 1 ≡ boardSize h cs
-  fewer = let i = b .within l in board-join h cs (record { into = r .into; gone = r .gone }) (may .0) (i .2) (omega (arith, i, s .follows .says .all-vertices))
+  fewer = let i = b .within l in board-join h cs (record { into = r .into; gone = r .gone }) (may .0) (can-sale h cs block (r .into) (r .gone) can .1) (i .2) (omega (arith, i, s .follows .says .all-vertices))
 
   joined-sound : {T′ : Tables} → Joined T T′ (r .into - 1) (r .gone - 1) → Sound h (record { into = r .into; gone = r .gone } ∷ cs) (place block (r .gone) 0) T′
   joined-sound {T′} j =
@@ -220,11 +224,22 @@ once-join T T′ L average r into gone len x y some room b l qn qk j qx qy p = r
   keeps = λ h c H. j .keeps h (c .stack) (c .block) (H .stands .sound);
 }
 
+-- how many vertices are on the board, by the tables
+unfoldable pub boardIn : List ℕ → ℕ → ℕ
+boardIn blocks n = countBelow n (λ x. ltb 0 (getD blocks x 0))
+
+pub board-in : {h : Hypergraph} {cs : List Contraction} {block : ℕ → ℕ} {T : Tables} → Sound h cs block T → boardIn (T .blocks) (T .n) ≡ boardSize h cs
+unfolding boardSize boardIn
+board-in {h} {cs} {T = T} s =
+    sum-sumTo (T .n) (λ x. one (ltb 0 (getD (T .blocks) x 0))) (λ v. one (onBoard h cs v)) (λ i l. ap one (board-test s i l ∙ ap (onBoard h cs) (let e : i + 1 ≡ suc i = omega arith in e)))
+    ∙ ap (λ (n : ℕ). sumTo n (λ v. one (onBoard h cs v))) (s .follows .says .all-vertices)
+
 -- how long the stack is
-pub len-is : {h : Hypergraph} {c : Coarse} {T : Tables} {into gone : List ℕ} {len : ℕ} → Stands h c T into gone len → boardSize h (c .stack) + len ≡ T .n
+pub len-is : {h : Hypergraph} {c : Coarse} {T : Tables} {into gone : List ℕ} {len : ℕ} → Stands h c T into gone len → boardSize h (c .stack) + len ≤ T .n
 len-is {h} {c} {into = into} {gone = gone} {len = len} st = omega (
   arith,
   board-stack h (c .stack) (st .sound .follows .says .sound) (st .sound .inside),
+  lots-le h,
   st .sound .follows .says .all-vertices,
   ap length (st .stack-is),
   pairs-length {A = Contraction} (λ u v. record { into = u; gone = v }) into gone len,
@@ -254,15 +269,15 @@ pub record Going (T : Tables) (own into gone : List ℕ) (len average : ℕ) (T�
   pub is : (h : Hypergraph) (c : Coarse) → average ≡ averageWeight h → Own h (c .stack) (T .blocks) (T .n) own → Stands h c T into gone len → Onward h c T′ L
   pub keeps : (h : Hypergraph) (c : Coarse) → average ≡ averageWeight h → Own h (c .stack) (T .blocks) (T .n) own → Stands h c T into gone len → Keeps T T′
 
-pub going-none : (T : Tables) (own into gone : List ℕ) (len average left : ℕ) → left ≡ T .n - len - 2 * T .k → Going T own into gone len average T (locals into gone len left own)
+pub going-none : (T : Tables) (own into gone : List ℕ) (len average left : ℕ) → left ≡ boardIn (T .blocks) (T .n) - 2 * T .k → Going T own into gone len average T (locals into gone len left own)
 going-none T own into gone len average left q = record {
   is = λ h c e o st. record {
     there = c;
     here = record {
       stands = st;
       owned = o;
-      goes = λ l. omega (arith, len-is st);
-      rests = λ z. inl (le-ltb (2 * h .blocks) (boardSize h (c .stack)) (omega (arith, len-is st, st .sound .follows .says .all-blocks)));
+      goes = λ l. omega (arith, board-in (st .sound));
+      rests = λ z. inl (le-ltb (2 * h .blocks) (boardSize h (c .stack)) (omega (arith, board-in (st .sound), st .sound .follows .says .all-blocks)));
     };
     same = refl;
   };
@@ -299,3 +314,22 @@ going-done {T′ = T′} {L = L} o g z = record {
       subst (λ (x : Coarse). Stands h x T′ (L .into) (L .gone) (L .len)) (sym b) (a .here .stands);
   keeps = λ h c e f st. g .keeps h c e (owned-first f st o) st;
 }
+
+-- counted vertex by vertex
+pub board-none : (blocks : List ℕ) → 0 ≡ boardIn blocks 0
+unfolding boardIn
+board-none blocks = sym (sum-zero (λ x. one (ltb 0 (getD blocks x 0))))
+
+pub board-more : (blocks : List ℕ) (i c w : ℕ) → c ≡ boardIn blocks i → w ≡ one (ltb 0 (getD blocks i 0)) → c + w ≡ boardIn blocks (i + 1)
+unfolding boardIn
+board-more blocks i c w q r = ap₂ (λ (a b : ℕ). a + b) q r ∙ sym (sum-step i (λ x. one (ltb 0 (getD blocks x 0))))
+
+pub board-all : (blocks : List ℕ) (i n c : ℕ) → i ≡ n → n ≤ 1024 → c ≡ boardIn blocks i → (c ≡ boardIn blocks n) × (c ≤ 1024)
+unfolding boardIn
+board-all blocks i n c e l q = (q ∙ ap (boardIn blocks) e, omega (arith, count-le i (λ x. ltb 0 (getD blocks x 0))))
+
+pub placed-none : (b : ℕ) → b ≡ 0 → 0 ≡ one (ltb 0 b)
+placed-none b e = sym (ap one (le-ltb 0 b (omega arith)))
+
+pub placed-some : (b : ℕ) → (b ≡ 0 → ⊥) → 1 ≡ one (ltb 0 b)
+placed-some b n = sym (ap one (lt-ltb 0 b (omega (arith, n))))

@@ -1,23 +1,24 @@
 -- What sound tables, and the blocks by which vertices are paired, tell the choice of a pair to contract: they hold the state that its laws speak
 -- of. Rests on operations's Sound, on Own and on best_contraction's JoinLink. Assumes nothing.
 use Prim.Native.Nat.{ℕ, _+_, _-_, _<_, _≤_}
-use native.Mathlib.Decide.{ℕ-discrete}
 use native.Mathlib.Omega.{arith}
 use mathlib.Core.Path.{_≡_, refl, sym, ap, _∙_}
-use mathlib.Core.Bool.{Bool, true, false, _&&_, cond}
+use mathlib.Core.Bool.{Bool, true, false, _&&_, and-false, true≢false, cond}
 use mathlib.Core.List.{List}
-use borrow.Author.Tests.{eqb-true, eqb-false, ne-eqb, not-true}
+use borrow.Author.Tests.{eqb-true, ne-eqb, not-true}
 use lib.Dec.{eqb}
 use lib.ListN.{getD, replicate, length-replicate}
-use Rattle.laws.specs.Choice.{one, and-right}
+use Rattle.laws.specs.Choice.{one, and-left, and-right}
 use Rattle.laws.specs.Fold.{all-get, zeros-get}
 use Rattle.laws.specs.Occurrence.{occ, occ-total}
 use Rattle.laws.specs.Sum.{sumTo, sumTo-ext}
-use Rattle.model.specs.Catalogue.{Hypergraph, vertices, averageWeight, fixedEntry}
+use Rattle.model.specs.Catalogue.{Hypergraph, vertices, inSale, averageWeight, fixedEntry}
 use Rattle.model.specs.Memory.{noNet}
 use Rattle.model.specs.Measure.{Contraction, above, onBoard, representative, isFixed, pin, size, weight}
 use Rattle.guarantees.specs.Climbs.{representative-on}
-use Rattle.guarantees.specs.Ends.{may-on}
+use Rattle.guarantees.specs.Board.{board-is}
+use Rattle.guarantees.specs.Clumps.{representative-sale}
+use Rattle.guarantees.specs.Ends.{placed-high}
 use Rattle.guarantees.specs.Fixed.{fixed-free-of}
 use Rattle.pins.specs.Stack.{present-le, present-pin, loadedPin, row-pin}
 use Rattle.levels.specs.Running.{netAt}
@@ -68,20 +69,22 @@ module _ {h : Hypergraph} {cs : List Contraction} {block : ℕ → ℕ} {T : Tab
     pub block-at : getD (T .blocks) (v - 1) 0 ≡ block v
     block-at = own-block s (v - 1) (omega arith) ∙ ap block (back v l)
 
-    pub block-from : above cs v ≡ 0 → 1 ≤ block v
+    pub block-from : onBoard h cs v ≡ true → 1 ≤ block v
     block-from q = s .placed v l (omega (arith, s .follows .says .all-vertices)) .board q .0
 
     -- no block has a number above 16
     block-to : block v ≤ 16
-    block-to = go (ℕ-discrete (above cs v) 0)
-      where
-        go : Dec (above cs v ≡ 0) → block v ≤ 16
-        go (yes q) = omega (arith, s .placed v l (omega (arith, s .follows .says .all-vertices)) .board q .1, s .follows .says .all-blocks, s .follows .world .frame .few)
-        go (no q) = omega (arith, s .placed v l (omega (arith, s .follows .says .all-vertices)) .off q)
+    block-to = omega (arith, placed-high h cs block (s .placed) v l (omega (arith, s .follows .says .all-vertices)), s .follows .says .all-blocks, s .follows .world .frame .few)
 
-    -- a vertex off the board stands for none, so that it is not fixed
-    off-free : (above cs v ≡ 0 → ⊥) → isFixed h cs v ≡ false
-    off-free off = fixed-free-of h cs v (λ x _ _. ap (λ (b : Bool). b && eqb (fixedEntry h x) 1) (ne-eqb (representative cs x) v (λ e. off (sym (ap (above cs) e) ∙ representative-on cs (s .follows .says .sound) x))))
+    -- a vertex off the board stands for none that is in the sale, so that it is not fixed
+    off-free : onBoard h cs v ≡ false → isFixed h cs v ≡ false
+    off-free off = fixed-free-of h cs v (λ x xl xu. none x xl xu (eqb (fixedEntry h x) 1) refl)
+      where
+        none : (x : ℕ) → 1 ≤ x → x ≤ vertices h → (b : Bool) → eqb (fixedEntry h x) 1 ≡ b → (eqb (representative cs x) v && b) ≡ false
+        none x xl xu false e = and-false (eqb (representative cs x) v)
+        none x xl xu true e = ap (λ (b : Bool). b && true) (ne-eqb (representative cs x) v (λ r.
+            true≢false (sym (board-is h cs v (ap (above cs) (sym r) ∙ representative-on cs (s .follows .says .sound) x)
+            (ap (inSale h) (sym r) ∙ representative-sale h cs (s .follows .says .sound) (s .inside) x (s .fit .ranges .loaded .fixed-sale x xl xu (eqb-true (fixedEntry h x) 1 e)))) ∙ off)))
 
   pub linked : {own : List ℕ} → Own h cs (T .blocks) (T .n) own → (limit : ℕ) → limit ≡ averageWeight h → Linked h cs block (T .bits) (T .pins) (T .firsts) (T .sizes) (T .netWeights) own (T .weights) (T .m) (T .n) limit
   linked {own} o limit q = record {
@@ -89,8 +92,8 @@ module _ {h : Hypergraph} {cs : List Contraction} {block : ℕ → ℕ} {T : Tab
     n-is = s .follows .says .all-vertices;
     m-is = s .follows .says .all-nets;
     limit-is = q;
-    block-is = λ v l u m. (own-at h cs o v l u (not-true _ (and-right (onBoard cs v) _ m)) ∙ block-at v l u, block-from v l u (may-on h cs v m));
-    off = λ v l u off. let none = eqb-false _ _ off in own-at h cs o v l u (off-free v l u none) ∙ block-at v l u ∙ s .placed v l (omega (arith, s .follows .says .all-vertices)) .off none;
+    block-is = λ v l u m. (own-at h cs o v l u (not-true _ (and-right (onBoard h cs v) _ m)) ∙ block-at v l u, block-from v l u (and-left _ _ m));
+    off = λ v l u off. own-at h cs o v l u (off-free v l u off) ∙ block-at v l u ∙ s .placed v l (omega (arith, s .follows .says .all-vertices)) .off off;
     alone = λ v z vl vu zl zu f same. alone v z vl zl zu (own-at h cs o v vl vu f) same (isFixed h cs z) refl;
     weight-is = λ v l u o. own-weight s (v - 1) (omega arith) (at-one v l u (eqb-true _ _ o)) ∙ ap (weight h cs) (back v l);
     incident = λ v e l u k o.

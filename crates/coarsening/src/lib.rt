@@ -3,14 +3,15 @@ ghost use Prim.Native.Nat.{ℕ, _+_, _-_, _*_, _<_, _≤_};
 ghost use mathlib.Core.Path.{_≡_};
 ghost use mathlib.Core.Bool.{cond};
 ghost use mathlib.Core.List.{List};
-ghost use lib.Dec.{eqb};
+ghost use lib.Dec.{eqb, ltb};
+ghost use Rattle.laws.specs.Choice.{one};
 ghost use lib.ListN.{length};
 ghost use Rattle.incidence.specs.On.{on};
 ghost use Rattle.operations.specs.Tables.{tables};
 ghost use Rattle.best_contraction.specs.Rating.{Blank, scoreOf};
 ghost use Rattle.best_contraction.specs.Bound.{Bounded};
 ghost use Rattle.coarsening.specs.Own.{OwnBlocks};
-ghost use Rattle.coarsening.specs.Coarsen.{locals, OnceOk, Once, CoarsenOk, Coarsens};
+ghost use Rattle.coarsening.specs.Coarsen.{boardIn, locals, OnceOk, Once, CoarsenOk, Coarsens};
 use best_contraction::bounds::begin;
 use best_contraction::join::plan_join;
 use incidence::is_pin;
@@ -25,12 +26,36 @@ pub struct Round {
     pub left: usize,
 }
 
-// How many vertices more than 2 × k are on the board, with `len` contractions standing.
-fn excess(n: usize, k: usize, len: usize) -> usize
-    requires { ⌜ (len ≤ n) × (k ≤ 16) ⌝ }
-    ensures { λ r. ⌜ r ≡ n - len - 2 * k ⌝ }
+// 1 for a block, 0 for none.
+fn placed(block: u16) -> usize
+    ensures { λ r. ⌜ (r ≡ one (ltb 0 block)) × (r ≤ 1) ⌝ }
 {
-    let board = n - len;
+    if block == 0 {
+        return 0;
+    }
+    1
+}
+
+// How many vertices are on the board.
+fn on_board(blocks: &[u16], n: usize) -> usize
+    requires { ⌜ (n ≤ 1024) × (n ≤ length (now blocks)) ⌝ }
+    ensures { λ r. ⌜ (r ≡ boardIn (now (blocks .entry)) n) × (r ≤ 1024) ⌝ }
+{
+    let mut board = 0;
+    let mut i = 0;
+    while i < n {
+        board = board + placed(blocks[i]);
+        i += 1;
+    }
+    board
+}
+
+// How many vertices more than 2 × k are on the board.
+fn excess(blocks: &[u16], n: usize, k: usize) -> usize
+    requires { ⌜ ((n ≤ 1024) × (n ≤ length (now blocks))) × (k ≤ 16) ⌝ }
+    ensures { λ r. ⌜ r ≡ boardIn (now (blocks .entry)) n - 2 * k ⌝ }
+{
+    let board = on_board(blocks, n);
     let low = 2 * k;
     if board < low {
         return 0;
@@ -194,7 +219,7 @@ pub fn coarsen(
     );
     let mut s = Round {
         stack: stack,
-        left: excess(size.n, size.k, stack.len),
+        left: excess(blocks, size.n, size.k),
     };
     while 0 < s.left {
         s = coarsen_once(

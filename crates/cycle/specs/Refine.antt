@@ -12,6 +12,7 @@ use Rattle.model.specs.Measure.{Contraction}
 use Rattle.model.specs.Machine.{uncontract}
 use Rattle.model.specs.Search.{Fine, walk, walked, refine}
 use Rattle.model.specs.Lent.{stackOf}
+use Rattle.guarantees.specs.Board.{board-is}
 use Rattle.guarantees.specs.Caps.{CeilingIs}
 use Rattle.guarantees.specs.Climbs.{Sound as SoundStack}
 use Rattle.guarantees.specs.Fixed.{Free, fixed-free}
@@ -61,9 +62,9 @@ walk-asks T′ aboves loaded {u = u} {v} o p =
       sound = s;
       fixed = o .fixed;
       u-in = u-in;
-      u-on = omega (arith, own-block s u u-in, in-range s u u-in (j .into-on) .0);
+      u-on = omega (arith, own-block s u u-in, in-range s u u-in (board-is (o .h) (o .cs) (u + 1) (j .into-on) (o .sound .inside .0 .4)) .0);
       v-in = v-in;
-      v-on = omega (arith, own-block s v v-in, in-range s v v-in (j .gone-on) .0);
+      v-on = omega (arith, own-block s v v-in, in-range s v v-in (board-is (o .h) (o .cs) (v + 1) (j .gone-on) (o .sound .inside .0 .5)) .0);
     }
 
 pub parts : {T T′ T″ : Tables} {ceilings fixedmarks : List ℕ} {u v tried kept : ℕ} → T′ .n ≡ T .n → T′ .m ≡ T .m → T′ .k ≡ T .k → T′ .firsts ≡ T .firsts → T′ .loaded ≡ T .loaded

@@ -1,6 +1,6 @@
 -- A as a whole on sound tables without contractions: contractions, the way back, then P; equal to what model says that A does and answers.
 -- Rests on coarsening's Coarsen, Refine and walk's Polished. Assumes nothing.
-use Prim.Native.Nat.{ℕ, _-_}
+use Prim.Native.Nat.{ℕ, _-_, _≤_}
 use native.Mathlib.Omega.{arith}
 use mathlib.Core.Path.{_≡_, refl, sym, ap, _∙_, subst}
 use mathlib.Core.List.{List, []}
@@ -14,7 +14,8 @@ use Rattle.guarantees.specs.Caps.{CeilingIs}
 use Rattle.guarantees.specs.Calls.{coarsened}
 use Rattle.guarantees.specs.Ends.{Placed}
 use Rattle.guarantees.specs.Fixed.{Free}
-use Rattle.guarantees.specs.StateBounds.{board-stack}
+use Rattle.guarantees.specs.Fuel.{coarsen-enough}
+use Rattle.guarantees.specs.StateBounds.{board-stack, lots-le}
 use Rattle.fixed.specs.Starting.{FixedIs}
 use Rattle.operations.specs.Pairs.{pairs-none, pairs-length}
 use Rattle.operations.specs.Tables.{Tables, Sound, Keeps}
@@ -86,8 +87,8 @@ refine-asks {T′ = T′} o qi qg z k =
       gone-fit = d .gone-fit;
     }
 
-full-board : (h : Hypergraph) → boardSize h [] ≡ vertices h
-full-board h = omega (arith, board-stack h [] tt tt)
+full-board : (h : Hypergraph) → boardSize h [] ≤ vertices h
+full-board h = omega (arith, board-stack h [] tt tt, lots-le h)
 
 pub levels : {T T′ T″ : Tables} {average : ℕ} {ceilings fixedmarks into gone into′ gone′ : List ℕ} {len len′ joins tried kept : ℕ} → T′ .n ≡ T .n → T′ .m ≡ T .m → T′ .k ≡ T .k → T′ .firsts ≡ T .firsts → T′ .loaded ≡ T .loaded
     → length into ≡ 1024 → length gone ≡ 1024 → len ≡ 0 → Coarsens T fixedmarks into gone len average T′ into′ gone′ len′ → Refines T′ ceilings fixedmarks into′ gone′ len′ T″ tried kept → joins ≡ len′
@@ -96,7 +97,7 @@ levels {T} {T′} {T″} {average} {into′ = into′} {gone′ = gone′} {len�
   is = λ h ceiling block qa qc qx s.
       let d = k .is h (record { stack = []; block = block }) qa qx (bare s qi qg z) in
       let c : Coarse = coarsen h (boardSize h []) (record { stack = []; block = block }) in
-      let e : c ≡ coarse h block = ap (λ (f : ℕ). coarsen h f (record { stack = []; block = block })) (full-board h) in
+      let e : c ≡ coarse h block = sym (coarsen-enough h (vertices h) (record { stack = []; block = block }) (full-board h)) in
       let f = r .is h ceiling (c .block) qc qx (subst (Free h) (d .stack-is) (coarse-free h (boardSize h []) block (s .placed))) (subst (λ (cs : List Contraction). Sound h cs (c .block) T′) (d .stack-is) (d .sound)) in
       record {
         joins-are = qj ∙ sym (pairs-length {A = Contraction} (λ u v. record { into = u; gone = v }) into′ gone′ len′) ∙ ap length (sym (d .stack-is)) ∙ ap (λ (x : Coarse). length (x .stack)) e;

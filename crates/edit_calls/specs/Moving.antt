@@ -10,7 +10,7 @@ use lib.ListN.{getD}
 use Rattle.laws.specs.Choice.{cond-zero}
 use Rattle.laws.specs.Place.{place}
 use Rattle.model.specs.Catalogue.{Hypergraph}
-use Rattle.model.specs.Measure.{Contraction, above, metric, freed, drawn}
+use Rattle.model.specs.Measure.{Contraction, onBoard, metric, freed, drawn}
 use Rattle.model.specs.Machine.{callM, callB, saysM, saysB, saysNO, Move, State, settle, refusesM, doesM, doesB}
 use Rattle.model.specs.Report.{refusal}
 use Rattle.model.specs.Search.{callUnder}
@@ -23,7 +23,7 @@ use Rattle.fixed.specs.Starting.{FixedIs}
 use Rattle.levels.specs.Halves.{HalvesOf, HalvesNeeds, HalvesFound}
 use Rattle.operations.specs.Pairs.{pairs-none, pairs-some, Pushed, pairs-push}
 use Rattle.operations.specs.Tables.{Tables, Sound, runningOf}
-use Rattle.operations.specs.Move.{Open, Goes, Went, own-block, on-board, in-range}
+use Rattle.operations.specs.Move.{Open, Goes, Went, own-block, here-board, on-board, in-range}
 use Rattle.operations.specs.Keeping.{keeps-none}
 use Rattle.edit_calls.specs.Refusal.{known, here, refusalM, refusalM-is, known-range}
 use Rattle.edit_calls.specs.Steps.{Runs, Ready, told}
@@ -52,7 +52,7 @@ open-of blocks loads ceilings fixedmarks weights n k u t q =
 halves-of : {h : Hypergraph} {cs : List Contraction} {block : ℕ → ℕ} {T : Tables} {u t : ℕ} → Sound h cs block T → Open (T .blocks) (T .n) (T .k) u t → HalvesOf h cs block (runningOf T) (T .n) (T .m) (T .k) u t
 halves-of {T = T} {u = u} s o =
     let on = on-board s u (o .u-in) (o .on) in
-    record { loaded = T .loaded; follows = s .follows; on-board = on; u-in = o .u-in; own-in = in-range s u (o .u-in) on; t-in = o .t-in }
+    record { loaded = T .loaded; follows = s .follows; on-board = on; u-in = o .u-in; own-in = in-range s u (o .u-in) (here-board s u (o .u-in) (o .on)); t-in = o .t-in }
 
 pub halves-needs : {T : Tables} {S J : Two} {u t : ℕ} → Ready T S J → Open (T .blocks) (T .n) (T .k) u t → HalvesNeeds (T .counts) (T .bits) (T .blocks) (T .netWeights) (T .m) u t
 halves-needs {T} g o = record { h = g .h; cs = g .s .stack; block = g .s .block; visited = T .visited; gains = T .gains; pins = T .pins; sizes = T .sizes; firsts = T .firsts; n = T .n; k = T .k; of = halves-of (g .runs .sound) o }
@@ -155,7 +155,7 @@ module _ {h : Hypergraph} {s : State} {T : Tables} {S J : Two} (r : Runs h s T S
         i .0,
         record {
           u-in = v-in;
-          on = omega (arith, own-block (r .sound) (m .vertex - 1) v-in, in-range (r .sound) (m .vertex - 1) v-in (ap (above (s .stack)) v-is ∙ rec .0) .0);
+          on = omega (arith, own-block (r .sound) (m .vertex - 1) v-in, in-range (r .sound) (m .vertex - 1) v-in (ap (onBoard h (s .stack)) v-is ∙ rec .0) .0);
           t-in = omega (arith, rec .1, rec .2, r .sound .follows .says .all-blocks);
           away = λ z. away (sym own ∙ z);
         },

@@ -13,6 +13,7 @@ use Rattle.model.specs.Catalogue.{Hypergraph, vertices, isVertex, isBlock}
 use Rattle.model.specs.Measure.{Contraction, above, onBoard, weight, isFixed, blockWeight, hasRoom}
 use Rattle.model.specs.Machine.{State, refusesJ, refusesM}
 use Rattle.model.specs.Search.{refusesW}
+use Rattle.guarantees.specs.Board.{board-top}
 use Rattle.guarantees.specs.Caps.{CeilingIs}
 use Rattle.incidence.specs.On.{on}
 use Rattle.fixed.specs.Starting.{FixedIs}
@@ -59,7 +60,7 @@ refusalW blocks n u v =
     (cond (not (here blocks u && here blocks v)) 10 0)
 
 -- two choices whose tests agree, and whose later branches agree where the tests fail
-cond-if : {b b′ : Bool} (q : ℕ) {x y : ℕ} → b ≡ b′ → (b′ ≡ false → x ≡ y) → cond b q x ≡ cond b′ q y
+pub cond-if : {b b′ : Bool} (q : ℕ) {x y : ℕ} → b ≡ b′ → (b′ ≡ false → x ≡ y) → cond b q x ≡ cond b′ q y
 cond-if {b} {b′} q {x} {y} e f = ap (λ (t : Bool). cond t q x) e ∙ go b′ f
   where
     go : (t : Bool) → (t ≡ false → x ≡ y) → cond t q x ≡ cond t q y
@@ -67,29 +68,29 @@ cond-if {b} {b′} q {x} {y} e f = ap (λ (t : Bool). cond t q x) e ∙ go b′ 
     go false f = f refl
 
 module _ {h : Hypergraph} {cs : List Contraction} {block : ℕ → ℕ} {T : Tables} (s : Sound h cs block T) where
-  known-is : (u : ℕ) → known (T .n) u ≡ isVertex h u
+  pub known-is : (u : ℕ) → known (T .n) u ≡ isVertex h u
   known-is u = ap (λ (n : ℕ). leb 1 u && leb u n) (s .follows .says .all-vertices)
 
   -- a known vertex's place
-  place-of : (u : ℕ) → isVertex h u ≡ true → (u - 1 < T .n) × (u - 1 + 1 ≡ u)
+  pub place-of : (u : ℕ) → isVertex h u ≡ true → (u - 1 < T .n) × (u - 1 + 1 ≡ u)
   place-of u q = omega (arith, leb-true 1 u (and-left _ _ q), leb-true u (vertices h) (and-right (leb 1 u) _ q), s .follows .says .all-vertices)
 
-  block-is : (u : ℕ) → isVertex h u ≡ true → getD (T .blocks) (u - 1) 0 ≡ block u
+  pub block-is : (u : ℕ) → isVertex h u ≡ true → getD (T .blocks) (u - 1) 0 ≡ block u
   block-is u q = own-block s (u - 1) (place-of u q .0) ∙ ap block (place-of u q .1)
 
-  here-is : (u : ℕ) → isVertex h u ≡ true → here (T .blocks) u ≡ onBoard cs u
-  here-is u q = go (ℕ-discrete (above cs u) 0)
+  pub here-is : (u : ℕ) → isVertex h u ≡ true → here (T .blocks) u ≡ onBoard h cs u
+  here-is u q = go (onBoard h cs u) refl
     where
       p : (u - 1 < T .n) × (u - 1 + 1 ≡ u)
       p = place-of u q
 
-      go : Dec (above cs u ≡ 0) → here (T .blocks) u ≡ onBoard cs u
-      go (yes z) =
-          let r = in-range s (u - 1) (p .0) (ap (above cs) (p .1) ∙ z) in
-          ap not (ne-eqb (getD (T .blocks) (u - 1) 0) 0 (λ e. omega (arith, own-block s (u - 1) (p .0), r .0))) ∙ sym (eq-eqb (above cs u) 0 z)
-      go (no z) =
+      go : (b : Bool) → onBoard h cs u ≡ b → here (T .blocks) u ≡ onBoard h cs u
+      go true z =
+          let r = in-range s (u - 1) (p .0) (ap (onBoard h cs) (p .1) ∙ z) in
+          ap not (ne-eqb (getD (T .blocks) (u - 1) 0) 0 (λ e. omega (arith, own-block s (u - 1) (p .0), r .0))) ∙ sym z
+      go false z =
           ap not (eq-eqb (getD (T .blocks) (u - 1) 0) 0 (block-is u q ∙ s .placed u (leb-true 1 u (and-left _ _ q)) (leb-true u (vertices h) (and-right (leb 1 u) _ q)) .off z))
-          ∙ sym (ne-eqb (above cs u) 0 z)
+          ∙ sym z
 
   pub refusalJ-is : (st : State) → st .stack ≡ cs → st .block ≡ block → (u v : ℕ) → refusalJ (T .blocks) (T .n) u v ≡ refusesJ h st u v
   unfolding refusalJ refusesJ
@@ -98,7 +99,7 @@ module _ {h : Hypergraph} {cs : List Contraction} {block : ℕ → ℕ} {T : Tab
       let ku = and-left _ _ (not-false _ a) in
       let kv = and-right (isVertex h u) _ (not-false _ a) in
       cond-if {b = eqb u v} {b′ = eqb u v} 11 refl (λ _.
-      cond-if {b′ = not (onBoard cs u && onBoard cs v)} 10 (ap not (ap₂ (λ (x y : Bool). x && y) (here-is u ku) (here-is v kv))) (λ _.
+      cond-if {b′ = not (onBoard h cs u && onBoard h cs v)} 10 (ap not (ap₂ (λ (x y : Bool). x && y) (here-is u ku) (here-is v kv))) (λ _.
       ap₂ (λ (x y : ℕ). cond (not (eqb x y)) 13 0) (block-is u ku) (block-is v kv)))))
 
   pub refusalW-is : (st : State) → st .stack ≡ cs → (u v : ℕ) → refusalW (T .blocks) (T .n) u v ≡ refusesW h st u v
@@ -107,7 +108,7 @@ module _ {h : Hypergraph} {cs : List Contraction} {block : ℕ → ℕ} {T : Tab
       cond-if {b′ = not (isVertex h u && isVertex h v)} 9 (ap not (ap₂ (λ (x y : Bool). x && y) (known-is u) (known-is v))) (λ a.
       ap (λ (x : Bool). cond (not x) 10 0) (ap₂ (λ (x y : Bool). x && y) (here-is u (and-left _ _ (not-false _ a))) (here-is v (and-right (isVertex h u) _ (not-false _ a))))))
 
-  room-is : (ceiling : ℕ → ℕ) (ceilings : List ℕ) → CeilingIs ceilings h ceiling → (u t : ℕ) → isVertex h u ≡ true → onBoard cs u ≡ true → isBlock h t ≡ true
+  room-is : (ceiling : ℕ → ℕ) (ceilings : List ℕ) → CeilingIs ceilings h ceiling → (u t : ℕ) → isVertex h u ≡ true → onBoard h cs u ≡ true → isBlock h t ≡ true
       → roomIn (T .loads) ceilings (T .weights) u t ≡ hasRoom h ceiling cs block u t
   unfolding hasRoom
   room-is ceiling ceilings c u t q on r =
@@ -116,7 +117,7 @@ module _ {h : Hypergraph} {cs : List Contraction} {block : ℕ → ℕ} {T : Tab
       ap (leb (getD (T .loads) (t - 1) 0 + getD (T .weights) (u - 1) 0)) (c t (omega (arith, b .1)) (omega (arith, b .0, b .1, s .follows .says .all-blocks)))
       ∙ ap₂ (λ (x y : ℕ). leb (x + y) (ceiling t))
       (s .bears (t - 1) (b .0) ∙ ap (blockWeight h cs block) (b .1))
-      (own-weight s (u - 1) (p .0) (ap (above cs) (p .1) ∙ eqb-true (above cs u) 0 on) ∙ ap (weight h cs) (p .1))
+      (own-weight s (u - 1) (p .0) (ap (above cs) (p .1) ∙ board-top h cs u on) ∙ ap (weight h cs) (p .1))
 
   fixed-is : (fixedmarks : List ℕ) → FixedIs fixedmarks h cs → (u : ℕ) → isVertex h u ≡ true → marked fixedmarks u ≡ isFixed h cs u
   fixed-is fixedmarks f u q =
@@ -130,7 +131,7 @@ module _ {h : Hypergraph} {cs : List Contraction} {block : ℕ → ℕ} {T : Tab
       cond-if {b′ = not (isVertex h u && isBlock h t)} 9 (ap not (ap₂ (λ (x y : Bool). x && y) (known-is u) (ap (λ (k : ℕ). leb 1 t && leb t k) (s .follows .says .all-blocks)))) (λ a.
       let ku = and-left _ _ (not-false _ a) in
       let kt = and-right (isVertex h u) _ (not-false _ a) in
-      cond-if {b′ = not (onBoard cs u)} 10 (ap not (here-is u ku)) (λ o.
+      cond-if {b′ = not (onBoard h cs u)} 10 (ap not (here-is u ku)) (λ o.
       cond-if {b′ = eqb (block u) t} 12 (ap (λ (x : ℕ). eqb x t) (block-is u ku)) (λ _.
       cond-if {b′ = isFixed h cs u} 20 (fixed-is fixedmarks f u ku) (λ _.
       ap (λ (b : Bool). cond (not b) 14 0) (room-is ceiling ceilings c u t ku (not-false _ o) kt))))))
@@ -157,10 +158,10 @@ known-range n u k v {r} e q =
     ((leb-true 1 u (and-left (leb 1 u) (leb u n) x), leb-true u n (and-right (leb 1 u) (leb u n) x)), (leb-true 1 v (and-left (leb 1 v) (leb v k) z), leb-true v k (and-right (leb 1 v) (leb v k) z)))
 
 -- a choice by what its test answered
-taken : (b : Bool) (x y : ℕ) → b ≡ true → x ≡ cond b x y
+pub taken : (b : Bool) (x y : ℕ) → b ≡ true → x ≡ cond b x y
 taken b x y q = sym (ap (λ (t : Bool). cond t x y) q)
 
-left : (b : Bool) (x : ℕ) {y z : ℕ} → b ≡ false → z ≡ y → z ≡ cond b x y
+pub left : (b : Bool) (x : ℕ) {y z : ℕ} → b ≡ false → z ≡ y → z ≡ cond b x y
 left b x {y} q e = e ∙ sym (ap (λ (t : Bool). cond t x y) q)
 
 module _ (blocks : List ℕ) (n u v : ℕ) {r : Bool} (e : r ≡ (known n u && known n v)) where

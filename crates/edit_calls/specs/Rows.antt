@@ -4,6 +4,7 @@ use Prim.Native.Nat.{ℕ, _+_, _*_, _-_, _≤_, _<_}
 use native.Mathlib.Decide.{ℕ-discrete}
 use native.Mathlib.Omega.{arith}
 use mathlib.Core.Path.{_≡_, refl, sym, ap, _∙_, subst}
+use mathlib.Core.Bool.{true}
 use mathlib.Core.List.{List, _∷_}
 use lib.IntN.{ℤ, pos, _-ℤ_}
 use lib.ListN.{length, getD}
@@ -11,7 +12,7 @@ use Rattle.laws.specs.Choice.{cond-yes}
 use Rattle.laws.specs.Integer.{up, dn, eq-by, pos-is, sub-is}
 use Rattle.laws.specs.Place.{place, place-off, place-swap}
 use Rattle.model.specs.Catalogue.{Hypergraph, vertices}
-use Rattle.model.specs.Measure.{Contraction, above, metric, gain}
+use Rattle.model.specs.Measure.{Contraction, onBoard, metric, gain}
 use Rattle.model.specs.Machine.{uncontract}
 use Rattle.guarantees.specs.Climbs.{Sound as SoundStack}
 use Rattle.guarantees.specs.Joins.{metric-join}
@@ -23,7 +24,7 @@ use Rattle.index.specs.Indexed.{rowFor, row-off, row-on, TablesOk, Kept, kept-r
 use Rattle.levels.specs.Reading.{reads}
 use Rattle.pins.specs.Board.{join}
 use Rattle.operations.specs.Tables.{Tables, Sound}
-use Rattle.operations.specs.Move.{own-block, on-board, in-range}
+use Rattle.operations.specs.Move.{own-block, here-board, in-range}
 use Rattle.operations.specs.Join.{Pair, Joined, Split}
 
 -- ---- the machine: the gain of a vertex that is neither of the two
@@ -68,7 +69,7 @@ module _ {h : Hypergraph} {cs : List Contraction} {block : ℕ → ℕ} {T T′ 
   same-block : getD (T′ .blocks) y 0 ≡ getD (T .blocks) y 0
   same-block = own-block s′ y in-other ∙ place-off block (v + 1) 0 (y + 1) (λ q. nv (omega arith)) ∙ sym (own-block s y y-in)
 
-  same-gain : above cs (y + 1) ≡ 0 → (b : ℕ) → 1 ≤ b → b ≤ T .k → gainAt (T′ .gains) y b ≡ gainAt (T .gains) y b
+  same-gain : onBoard h cs (y + 1) ≡ true → (b : ℕ) → 1 ≤ b → b ≤ T .k → gainAt (T′ .gains) y b ≡ gainAt (T .gains) y b
   same-gain on b l r =
       let e : b - 1 + 1 ≡ b = omega arith in
       let a = in-range s y y-in on in
@@ -85,7 +86,7 @@ module _ {h : Hypergraph} {cs : List Contraction} {block : ℕ → ℕ} {T T′ 
       go (yes z) = row-off (T′ .gains) (T′ .blocks) (T .k) y (getD (T .blocks) y 0) (sym same-block) z ∙ sym (row-off (T .gains) (T .blocks) (T .k) y (getD (T .blocks) y 0) refl z)
       go (no n) =
           row-on (T′ .gains) (T′ .blocks) (T .k) y (getD (T .blocks) y 0) (sym same-block) n
-          ∙ ranked-ext (gainAt (T .gains) y) (gainAt (T′ .gains) y) (getD (T .blocks) y 0) (T .k) (same-gain (on-board s y y-in (omega arith)))
+          ∙ ranked-ext (gainAt (T .gains) y) (gainAt (T′ .gains) y) (getD (T .blocks) y 0) (T .k) (same-gain (here-board s y y-in (omega arith)))
           ∙ sym (row-on (T .gains) (T .blocks) (T .k) y (getD (T .blocks) y 0) refl n)
 
 -- ---- the two rows

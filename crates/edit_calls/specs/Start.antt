@@ -4,7 +4,6 @@ use native.Mathlib.Omega.{arith}
 use mathlib.Core.Path.{_≡_, refl, ap, _∙_}
 use mathlib.Core.List.{[]}
 use Rattle.model.specs.Catalogue.{Hypergraph, drafted}
-use Rattle.model.specs.Measure.{above}
 use Rattle.model.specs.Machine.{fresh}
 use Rattle.model.specs.Lent.{stackOf, journalOf, Two}
 use Rattle.guarantees.specs.Calls.{legal-fresh}
@@ -18,9 +17,9 @@ pub record Empty (S : Two) : Type 0 where
   pub none : S .len ≡ 0
 
 pub runs-fresh : {h : Hypergraph} {T : Tables} {S J : Two} → Sound h [] (drafted h) T → Empty S → Empty J → Runs h (fresh h) T S J
-unfolding fresh above
+unfolding fresh
 runs-fresh {h} {S = S} {J = J} s e f = record {
-  legal = legal-fresh h (λ x l u. s .placed x l u .board refl);
+  legal = legal-fresh h (s .placed);
   listed = tt;
   apart = tt;
   sound = s;

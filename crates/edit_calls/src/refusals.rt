@@ -7,7 +7,7 @@ ghost use Rattle.edit_calls.specs.Refusal.{known, here, roomIn, refusalJ
 use incidence::is_pin;
 
 // Is `x` a number from 1 to `n`.
-fn is_known(n: usize, x: usize) -> bool
+pub fn is_known(n: usize, x: usize) -> bool
     ensures { λ r. ⌜ r ≡ known n x ⌝ }
 {
     if x < 1 {
@@ -17,7 +17,7 @@ fn is_known(n: usize, x: usize) -> bool
 }
 
 // Is the known vertex `u` on the board.
-fn is_here(blocks: &[u16], u: usize) -> bool
+pub fn is_here(blocks: &[u16], u: usize) -> bool
     requires { ⌜ (1 ≤ u) × (u ≤ length (now blocks)) ⌝ }
     ensures { λ r. ⌜ r ≡ here (now (blocks .entry)) u ⌝ }
 {

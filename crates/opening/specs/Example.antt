@@ -23,7 +23,9 @@ use Rattle.laws.specs.Bit.{bit}
 use Rattle.model.specs.Catalogue.{mainLimits, drafted, averageWeight, nearest, capacity}
 use Rattle.model.specs.Measure.{above, climb, representative, weight, blockWeight}
 use Rattle.model.specs.Machine.{callJ, callM, callS, callB, callA}
+use Rattle.model.specs.Sale.{runs}
 use Rattle.model.specs.Grammar.{bytes, same as sameBytes, parts, isNumber, onward, value, fields, isLine, saleLine, overfull, grown, withLot, endsInK, beforeK, lotLine, mark, marking, withNet, netRead, buyLine, asked, withCall, callLine, line, ending, lines, parse}
+use Rattle.model.specs.Sale.{runs}
 use Rattle.model.specs.Demand.{Accepted}
 use Rattle.model.specs.Table.{five}
 use Rattle.model.specs.Worked.{workedSale}
@@ -118,7 +120,7 @@ accepted : Accepted mainLimits five
 unfolding sum sumTo foldTo sumOver any all averageWeight nearest capacity above climb representative weight blockWeight bytes sameBytes parts isNumber onward value fields isLine saleLine overfull grown withLot endsInK beforeK lotLine mark marking withNet netRead buyLine asked withCall callLine line ending lines parse
 accepted = record {
   file = bytes workedSale;
-  book = record { estimated = false; lots = 5; buyers = 3; graph = five; marks = 6; calls = callJ 2 5 ∷ callM 2 2 ∷ callS ∷ callB ∷ callA ∷ [] };
+  book = record { estimated = false; lots = 5; buyers = 3; graph = five; marks = 6; calls = runs (callJ 2 5) ∷ runs (callM 2 2) ∷ runs callS ∷ runs callB ∷ runs callA ∷ [] };
   loads = refl;
   graph-is = refl;
 }

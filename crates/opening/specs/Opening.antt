@@ -18,10 +18,10 @@ use Rattle.laws.specs.Sum.{sum, sumTo, sum-ext, sum-step, sum-mono, sum-const, 
 use Rattle.laws.specs.Fold.{any, any-at, all-get}
 use Rattle.laws.specs.Occurrence.{occ, occ-at, occ-distinct}
 use Rattle.laws.specs.Bit.{bit, bit-lt}
-use Rattle.model.specs.Catalogue.{Hypergraph, loaded, drafted}
+use Rattle.model.specs.Catalogue.{Hypergraph, loaded, drafted, inSale}
 use Rattle.model.specs.Measure.{above, weight, blockWeight, connectivity, metric}
 use Rattle.model.specs.Memory.{noNet, weightEntry}
-use Rattle.guarantees.specs.Ends.{Placed}
+use Rattle.guarantees.specs.Board.{board-is}
 use Rattle.guarantees.specs.Splits.{above-none, weight-none, blockWeight-none}
 use Rattle.incidence.specs.On.{on}
 use Rattle.pins.specs.Stack.{loadedPin}
@@ -34,7 +34,7 @@ use Rattle.levels.specs.Running.{Running, running, Follows, netAt}
 use Rattle.report.proofs.Climb.{connected}
 use Rattle.first_tables.specs.Prepare.{Prepares, Prepared}
 use Rattle.first_tables.specs.Load.{Loaded, prepared-follows}
-use Rattle.reader.specs.Whole.{blockTerm}
+use Rattle.block_weights.specs.Term.{blockTerm}
 use Rattle.operations.specs.Tables.{Tables, tables, Fit, Sound}
 
 -- the tables as loading leaves them: those of a catalogue within the ranges, before any call
@@ -68,11 +68,18 @@ module _ {h : Hypergraph} {pins blocks firsts sizes loadedSizes weights netWeigh
       let r = all-get (netAt h e .pins) _ 0 within (some .0) (some .1) in
       omega (arith, r .0, r .1, eqb-true (getD (netAt h e .pins) (some .0) 0) x (some .2), o .made .all-vertices)
 
-  -- a vertex's draft block
-  draft-in : (y : ℕ) → y < n → (1 ≤ drafted h (y + 1)) × (drafted h (y + 1) ≤ k)
-  draft-in y l =
-      let e : y + 1 - 1 ≡ y = omega arith in
-      let r = all-get (h .draft) _ 0 (o .fit .ranges .loaded .draft-in) (y + 1 - 1) (omega (arith, o .fit .ranges .loaded .as-long, o .made .all-vertices)) in
+  -- and in the sale
+  pin-sale : (e x : ℕ) → e < m → loadedPin (netAt h e) x ≡ true → inSale h x ≡ true
+  pin-sale e x le q =
+      let some = any-at (netAt h e .pins) 0 (λ y. eqb y x) q in
+      let sold = all-get (h .nets) _ noNet (o .fit .ranges .loaded .nets-sale) e (omega (arith, o .made .all-nets)) in
+      ap (inSale h) (sym (eqb-true (getD (netAt h e .pins) (some .0) 0) x (some .2))) ∙ all-get (netAt h e .pins) _ 0 sold (some .0) (some .1)
+
+  -- so its draft block is one
+  draft-in : (e x : ℕ) → e < m → loadedPin (netAt h e) x ≡ true → (1 ≤ drafted h x) × (drafted h x ≤ k)
+  draft-in e x le q =
+      let i = pin-in e x le q in
+      let r = o .fit .ranges .placed x (i .0) (omega (arith, i .1, o .made .all-vertices)) .board (board-is h [] x (above-none x) (pin-sale e x le q)) in
       omega (arith, r .0, r .1, o .made .all-blocks)
 
   net-list : (e : ℕ) → e < m → NetList pins blocks (getD firsts e 0) (getD sizes e 0) n k
@@ -81,8 +88,10 @@ module _ {h : Hypergraph} {pins blocks firsts sizes loadedSizes weights netWeigh
     in-range = at-place;
     in-blocks = λ j l.
         let r = at-place j l in
+        let x : ℕ = getD pins (getD firsts e 0 + j) 0 in
         let z : vertexAt pins (getD firsts e 0) j < n = omega (arith, r .0, r .1) in
-        omega (arith, o .made .sits (vertexAt pins (getD firsts e 0) j) z, draft-in (vertexAt pins (getD firsts e 0) j) z);
+        let u : vertexAt pins (getD firsts e 0) j + 1 ≡ x = omega (arith, r .0) in
+        omega (arith, o .made .sits (vertexAt pins (getD firsts e 0) j) z, ap (drafted h) u, draft-in e x le (pin-at j l));
     once = λ i j l u q. omega (arith, occ-distinct pins (getD firsts e 0) (getD sizes e 0) few i j (omega arith) u q);
   }
     where
@@ -93,10 +102,13 @@ module _ {h : Hypergraph} {pins blocks firsts sizes loadedSizes weights netWeigh
           one-le′ true = omega arith
           one-le′ false = omega arith
 
-      at-place : (j : ℕ) → j < getD sizes e 0 → (1 ≤ getD pins (getD firsts e 0 + j) 0) × (getD pins (getD firsts e 0 + j) 0 ≤ n)
-      at-place j l =
+      pin-at : (j : ℕ) → j < getD sizes e 0 → loadedPin (netAt h e) (getD pins (getD firsts e 0 + j) 0) ≡ true
+      pin-at j l =
           let x : ℕ = getD pins (getD firsts e 0 + j) 0 in
-          pin-in e x le (one-full (loadedPin (netAt h e) x) (omega (arith, o .made .listed e le x, occ-at pins (getD firsts e 0) (getD sizes e 0) j x l refl)))
+          one-full (loadedPin (netAt h e) x) (omega (arith, o .made .listed e le x, occ-at pins (getD firsts e 0) (getD sizes e 0) j x l refl))
+
+      at-place : (j : ℕ) → j < getD sizes e 0 → (1 ≤ getD pins (getD firsts e 0 + j) 0) × (getD pins (getD firsts e 0 + j) 0 ≤ n)
+      at-place j l = pin-in e (getD pins (getD firsts e 0 + j) 0) le (pin-at j l)
 
   pub prepare-ok : Prepares netWeights counts visited pins blocks firsts sizes bits gains n m k
   prepare-ok = record {
@@ -159,12 +171,6 @@ module _ {h : Hypergraph} {pins blocks firsts sizes loadedSizes weights netWeigh
         ∙ ap (λ (z : ℕ). sum z (λ e. netAt h e .weight * (connectivity h [] (drafted h) (netAt h e) - 1))) (o .made .all-nets)
         ∙ sum-list (h .nets) noNet (λ e. e .weight * (connectivity h [] (drafted h) e - 1))
 
-    placed : Placed h [] (drafted h)
-    placed x l u =
-        let e : x - 1 + 1 ≡ x = omega arith in
-        let r = draft-in (x - 1) (omega (arith, o .made .all-vertices)) in
-        record { board = λ _. omega (arith, r .0, r .1, ap (drafted h) e, o .made .all-blocks); off = λ z. absurd (z (above-none x)) }
-
     -- the tables are sound for a fresh machine, with no vertex above another
     pub open-sound : (aboves : List ℕ) → n ≤ length aboves → ((y : ℕ) → y < n → getD aboves y 0 ≡ 0) →
         Sound h [] (drafted h) (tables counts′ visited′ gains′ pins sizes bits′ blocks weights aboves loads netWeights firsts loadedSizes n m k total)
@@ -172,7 +178,7 @@ module _ {h : Hypergraph} {pins blocks firsts sizes loadedSizes weights netWeigh
     open-sound aboves fits none = record {
       fit = o .fit;
       inside = tt;
-      placed = placed;
+      placed = o .fit .ranges .placed;
       follows = fresh-follows;
       no-more-blocks = λ e j l q. t .masks-past e j l q;
       weighs = λ y l. o .weighs y l ∙ sym (cond-yes (above [] (y + 1)) 0 (weight h [] (y + 1)) _ (above-none (y + 1)) ∙ weight-none h (y + 1) (omega arith) (omega (arith, o .made .all-vertices)));

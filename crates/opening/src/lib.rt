@@ -39,7 +39,7 @@ fn weigh_blocks(loads: &mut [u64; 16], weights: &[u32], blocks: &[u16], n: usize
 {
     let mut b = 0;
     while b < k {
-        loads[b] = reader::block_weight(weights, blocks, n, b as u32 + 1);
+        loads[b] = block_weights::block_weight(weights, blocks, n, b as u32 + 1);
         b += 1;
     }
 }

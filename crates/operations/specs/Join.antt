@@ -16,6 +16,7 @@ use Rattle.model.specs.Catalogue.{Hypergraph, vertices}
 use Rattle.model.specs.Measure.{Contraction, above, weight}
 use Rattle.model.specs.Machine.{uncontract}
 use Rattle.model.specs.Memory.{weightWhenGone, weightEntry}
+use Rattle.guarantees.specs.Board.{board-sale}
 use Rattle.guarantees.specs.Climbs.{Joins, Sound as SoundStack, above-gone, above-other}
 use Rattle.guarantees.specs.Weights.{weight-into, weight-other, blockWeight-join}
 use Rattle.guarantees.specs.Joins.{metric-join}
@@ -25,7 +26,7 @@ use Rattle.pins.specs.Board.{join}
 use Rattle.levels.specs.Running.{running}
 use Rattle.levels.specs.Operations.{ContractNeeds, ContractDoes, UncontractNeeds, UncontractDoes}
 use Rattle.operations.specs.Tables.{Tables, tables, runningOf, Sound, Keeps}
-use Rattle.operations.specs.Move.{past-set, on-board, own-block, own-weight}
+use Rattle.operations.specs.Move.{past-set, here-board, on-board, own-block, own-weight}
 
 -- ---- a vertex's weight entry before and after
 module _ (h : Hypergraph) (cs : List Contraction) (c : Contraction) (s : SoundStack (c ∷ cs)) (p q : ℕ → ℕ) where
@@ -130,7 +131,7 @@ module _ {h : Hypergraph} {cs : List Contraction} {block : ℕ → ℕ} {T : Tab
         let all : T .n ≡ vertices h = s .follows .says .all-vertices in
         record {
           fit = s .fit;
-          inside = ((omega arith, omega (arith, o .u-in), omega arith, omega (arith, o .v-in)), s .inside);
+          inside = ((omega arith, omega (arith, o .u-in), omega arith, omega (arith, o .v-in), board-sale h cs (u + 1) (here-board s u (o .u-in) (omega (arith, o .on, o .together))), board-sale h cs (v + 1) (here-board s v (o .v-in) (o .on))), s .inside);
           placed = placed-join h cs (join u v) block joins (s .placed);
           follows = q .follows h cs block (T .loaded) joins (s .follows);
           no-more-blocks = λ e j le lj. q .untouched h cs block (T .loaded) (s .follows) .tables .of-tally .masks-past e j lj ∙ s .no-more-blocks e j le lj;

@@ -3,10 +3,10 @@ use Prim.Native.Nat.{ℕ, _+_, _*_, _-_, _<_, _≤_, _^_}
 use native.Mathlib.Decide.{ℕ-discrete}
 use native.Mathlib.Omega.{arith}
 use mathlib.Core.Path.{_≡_, refl, sym, ap, _∙_}
-use mathlib.Core.Bool.{Bool, cond, _&&_}
+use mathlib.Core.Bool.{Bool, true, false, cond, _&&_}
 use mathlib.Core.List.{List}
-use borrow.Author.Tests.{eq-eqb}
-use lib.Dec.{eqb}
+use borrow.Author.Tests.{eq-eqb, lt-ltb, le-ltb}
+use lib.Dec.{eqb, ltb}
 use lib.ListN.{length, getD, set, length-set}
 use lib.Seq.{getD-set-same, getD-set-other}
 use lib.IntN.{ℤ, pos, natAbs, negℤ, _+ℤ_, _-ℤ_}
@@ -18,9 +18,10 @@ use Rattle.laws.specs.Choice.{cond-yes, cond-no}
 use Rattle.laws.specs.Sum.{sumTo-term}
 use Rattle.laws.specs.Place.{place}
 use Rattle.model.specs.Catalogue.{Hypergraph, vertices}
-use Rattle.model.specs.Measure.{Contraction, above, onBoard, weight, blockWeight, metric, gain}
+use Rattle.model.specs.Measure.{Contraction, above, isTop, onBoard, weight, blockWeight, metric, gain}
 use Rattle.model.specs.Memory.{weightEntry}
-use Rattle.guarantees.specs.Ends.{placed-move}
+use Rattle.guarantees.specs.Board.{board-top}
+use Rattle.guarantees.specs.Ends.{placed-move, placed-on}
 use Rattle.guarantees.specs.Weights.{blockWeight-move}
 use Rattle.guarantees.specs.Moves.{metric-gain}
 use Rattle.guarantees.specs.Bounds.{metric-le}
@@ -59,27 +60,34 @@ module _ {h : Hypergraph} {cs : List Contraction} {block : ℕ → ℕ} {T : Tab
   own-block = s .follows .says .sits u u-in
 
   -- it is on the board, where its entry is a block
+  pub here-board : 1 ≤ getD (T .blocks) u 0 → onBoard h cs (u + 1) ≡ true
+  here-board l = placed-on h cs block (s .placed) (u + 1) (omega arith) (omega (arith, s .follows .says .all-vertices)) (omega (arith, own-block))
+
   pub on-board : 1 ≤ getD (T .blocks) u 0 → above cs (u + 1) ≡ 0
-  on-board l = go (ℕ-discrete (above cs (u + 1)) 0)
-    where
-      go : Dec (above cs (u + 1) ≡ 0) → above cs (u + 1) ≡ 0
-      go (yes q) = q
-      go (no q) = absurd (omega (arith, own-block, s .placed (u + 1) (omega arith) (omega (arith, s .follows .says .all-vertices)) .off q))
+  on-board l = board-top h cs (u + 1) (here-board l)
 
   -- its weight
   pub own-weight : above cs (u + 1) ≡ 0 → getD (T .weights) u 0 ≡ weight h cs (u + 1)
   unfolding weightEntry
   own-weight q = s .weighs u u-in ∙ cond-yes (above cs (u + 1)) 0 (weight h cs (u + 1)) _ q
 
-  pub in-range : above cs (u + 1) ≡ 0 → (1 ≤ block (u + 1)) × (block (u + 1) ≤ T .k)
+  pub in-range : onBoard h cs (u + 1) ≡ true → (1 ≤ block (u + 1)) × (block (u + 1) ≤ T .k)
   in-range q = let r = s .placed (u + 1) (omega arith) (omega (arith, s .follows .says .all-vertices)) .board q in (r .0, omega (arith, r .1, s .follows .says .all-blocks))
+
+  -- whether it is on the board, as its entry says
+  pub board-test : ltb 0 (getD (T .blocks) u 0) ≡ onBoard h cs (u + 1)
+  board-test = go (onBoard h cs (u + 1)) refl
+    where
+      go : (b : Bool) → onBoard h cs (u + 1) ≡ b → ltb 0 (getD (T .blocks) u 0) ≡ onBoard h cs (u + 1)
+      go true q = lt-ltb 0 (getD (T .blocks) u 0) (omega (arith, own-block, in-range q .0)) ∙ sym q
+      go false q = le-ltb 0 (getD (T .blocks) u 0) (omega (arith, own-block, s .placed (u + 1) (omega arith) (omega (arith, s .follows .says .all-vertices)) .off q)) ∙ sym q
 
   -- its block bears its weight
   pub own-load : above cs (u + 1) ≡ 0 → weight h cs (u + 1) ≤ blockWeight h cs block (block (u + 1))
   unfolding blockWeight
   own-load q = omega (
     arith,
-    sumTo-term (vertices h) (u + 1) (λ x. cond (onBoard cs x && eqb (block x) (block (u + 1))) (weight h cs x) 0) (omega arith) (omega (arith, s .follows .says .all-vertices)),
+    sumTo-term (vertices h) (u + 1) (λ x. cond (isTop cs x && eqb (block x) (block (u + 1))) (weight h cs x) 0) (omega arith) (omega (arith, s .follows .says .all-vertices)),
     ap (λ (b : Bool). cond (b && eqb (block (u + 1)) (block (u + 1))) (weight h cs (u + 1)) 0) (eq-eqb (above cs (u + 1)) 0 q),
     ap (λ (b : Bool). cond b (weight h cs (u + 1)) 0) (eq-eqb (block (u + 1)) (block (u + 1)) refl),
   )
@@ -110,6 +118,9 @@ module _ {h : Hypergraph} {cs : List Contraction} {block : ℕ → ℕ} {T : Tab
   on : above cs (u + 1) ≡ 0
   on = on-board s u (o .u-in) (o .on)
 
+  here : onBoard h cs (u + 1) ≡ true
+  here = here-board s u (o .u-in) (o .on)
+
   own : getD (T .blocks) u 0 ≡ block (u + 1)
   own = own-block s u (o .u-in)
 
@@ -126,7 +137,7 @@ module _ {h : Hypergraph} {cs : List Contraction} {block : ℕ → ℕ} {T : Tab
 
   after-is : pos (metric h cs (place block (u + 1) t)) ≡ pos (T .total) -ℤ at (T .gains) (16 * u + (t - 1))
   after-is =
-      let r = in-range s u (o .u-in) on in
+      let r = in-range s u (o .u-in) here in
       metric-gain h cs block (u + 1) t (omega arith) (omega (arith, s .follows .says .all-vertices)) (r .0) (omega (arith, r .1, s .follows .says .all-blocks)) (o .t-in .0) (omega (arith, s .follows .says .all-blocks)) elsewhere
       ∙ sym (cc (s .total-is, gain-read))
 
@@ -210,7 +221,7 @@ module _ {h : Hypergraph} {cs : List Contraction} {block : ℕ → ℕ} {T : Tab
     sound-move = record {
       fit = s .fit;
       inside = s .inside;
-      placed = placed-move h cs block (u + 1) t (s .placed) on (o .t-in .0) (omega (arith, s .follows .says .all-blocks));
+      placed = placed-move h cs block (u + 1) t (s .placed) here (o .t-in .0) (omega (arith, s .follows .says .all-blocks));
       follows = q .follows h cs block (T .loaded) (s .follows);
       no-more-blocks = λ e j le lj. q .untouched (T .loaded) .tables .of-tally .masks-past e j lj ∙ s .no-more-blocks e j le lj;
       weighs = s .weighs;
@@ -292,7 +303,7 @@ module _ {h : Hypergraph} {cs : List Contraction} {block : ℕ → ℕ} {T : Tab
   pub carries : Carries (runningOf T) (T .loads) (T .weights) (T .n) (T .m) (T .k) u t
   carries =
       let own-is : getD (T .blocks) u 0 ≡ block (u + 1) = own-block s u (o .u-in) in
-      let r = in-range s u (o .u-in) up-on in
+      let r = in-range s u (o .u-in) (here-board s u (o .u-in) (o .on)) in
       let heavy : getD (T .weights) u 0 ≡ weight h cs (u + 1) = own-weight s u (o .u-in) up-on in
       let few : T .k ≤ 16 = s .follows .world .frame .few in
       record {

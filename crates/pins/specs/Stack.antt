@@ -12,7 +12,7 @@ use lib.ListN.{length, getD}
 use Rattle.laws.specs.Choice.{one, cond-yes, cond-no}
 use Rattle.laws.specs.Fold.{any}
 use Rattle.model.specs.Catalogue.{Net}
-use Rattle.model.specs.Measure.{Contraction, above, onBoard, climb, representative, pin}
+use Rattle.model.specs.Measure.{Contraction, above, isTop, climb, representative, pin}
 use Rattle.guarantees.specs.Climbs.{Joins, Sound, above-gone, above-other, representative-on, any-none, pin-into, pin-other}
 
 -- x is a pin of the net; for a contracted x, as it was when it was contracted
@@ -27,7 +27,7 @@ past own (c ∷ cs) = cond (row own cs (c .into) && row own cs (c .gone)) (c .go
 
 -- 1 for a pin on the board, else 0
 unfoldable pub present : (ℕ → Bool) → List Contraction → ℕ → ℕ
-present own cs x = one (onBoard cs x && row own cs x)
+present own cs x = one (isTop cs x && row own cs x)
 
 pub one-or : (a b : Bool) → one (a || b) ≡ max (one a) (one b)
 one-or true true = refl
@@ -46,7 +46,7 @@ module _ (own : ℕ → Bool) where
 
   pub present-le : (cs : List Contraction) (x : ℕ) → present own cs x ≤ 1
   unfolding present
-  present-le cs x = go (onBoard cs x && row own cs x)
+  present-le cs x = go (isTop cs x && row own cs x)
     where
       go : (b : Bool) → one b ≤ 1
       go true = omega arith

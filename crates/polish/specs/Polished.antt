@@ -13,13 +13,13 @@ use lib.ListN.{length, getD}
 use lib.Signed.{ltZ}
 use Rattle.laws.specs.Place.{place}
 use Rattle.model.specs.Catalogue.{Hypergraph}
-use Rattle.model.specs.Measure.{Contraction, above, onBoard, isFixed, mayMove}
+use Rattle.laws.specs.Choice.{and-left}
+use Rattle.model.specs.Measure.{Contraction, onBoard, isFixed, mayMove}
 use Rattle.model.specs.Search.{Best, none, best, Polish, polishBest, polishTurn, polishOn, polish}
 use Rattle.guarantees.specs.Caps.{CeilingIs}
-use Rattle.guarantees.specs.Ends.{may-on}
 use Rattle.fixed.specs.Starting.{FixedIs}
 use Rattle.operations.specs.Tables.{Tables, Sound, Keeps}
-use Rattle.operations.specs.Move.{Open, CanGo, Went, on-board, own-block, in-range}
+use Rattle.operations.specs.Move.{Open, CanGo, Went, own-block, board-test}
 use Rattle.best_move.specs.declared.open.Pick.{Pick}
 use Rattle.best_move.specs.declared.open.Pick.the-variants.{Move as Step, Nothing}
 use Rattle.best_move.specs.Open.{bestOf, gainIn, openIn, Chosen}
@@ -37,8 +37,8 @@ pub record PolishAt (h : Hypergraph) (cs : List Contraction) (q : Polish) (T : T
   pub marks-fit : length marks ≡ 48
 
 -- a candidate is on the board
-pub candidate-on : {h : Hypergraph} {cs : List Contraction} {q : Polish} {T : Tables} {marks : List ℕ} {moves : ℕ} → PolishAt h cs q T marks moves → (x : ℕ) → x < T .n → candidateBit marks x ≡ true → above cs (x + 1) ≡ 0
-candidate-on {h} {cs} at x l q = may-on h cs (x + 1) (sym (at .board x l) ∙ q)
+pub candidate-on : {h : Hypergraph} {cs : List Contraction} {q : Polish} {T : Tables} {marks : List ℕ} {moves : ℕ} → PolishAt h cs q T marks moves → (x : ℕ) → x < T .n → candidateBit marks x ≡ true → onBoard h cs (x + 1) ≡ true
+candidate-on {h} {cs} at x l q = and-left (onBoard h cs (x + 1)) (not (isFixed h cs (x + 1))) (sym (at .board x l) ∙ q)
 
 -- what one pass asks: a polish on its way, with `left` passes left at most. It has no use for the vertices above and for the loaded sizes
 pub record PassOk (T : List ℕ → List ℕ → Tables) (marks : List ℕ) (left moves : ℕ) : Type 0 where
@@ -190,17 +190,6 @@ pass-move {T} {T′} marks ceilings left moves x v b l qn c e d w = record {
 
 -- ---- the whole polish
 
-on-table : {h : Hypergraph} {cs : List Contraction} {block : ℕ → ℕ} {T : Tables} → Sound h cs block T → (x : ℕ) → x < T .n → ltb 0 (getD (T .blocks) x 0) ≡ onBoard cs (x + 1)
-on-table {cs = cs} {T = T} s x l = go (ℕ-discrete (above cs (x + 1)) 0)
-  where
-    go : Dec (above cs (x + 1) ≡ 0) → ltb 0 (getD (T .blocks) x 0) ≡ onBoard cs (x + 1)
-    go (yes q) = lt-ltb 0 (getD (T .blocks) x 0) (omega (arith, own-block s x l, in-range s x l q .0)) ∙ sym (eq-eqb (above cs (x + 1)) 0 q)
-    go (no q) = le-ltb 0 (getD (T .blocks) x 0) (off (ℕ-discrete (getD (T .blocks) x 0) 0)) ∙ sym (ne-eqb (above cs (x + 1)) 0 q)
-      where
-        off : Dec (getD (T .blocks) x 0 ≡ 0) → getD (T .blocks) x 0 ≤ 0
-        off (yes z) = omega arith
-        off (no z) = absurd (q (on-board s x l (omega (arith, z))))
-
 -- the polish before its first pass
 pub polish-first : {h : Hypergraph} {cs : List Contraction} {block : ℕ → ℕ} {T : Tables} {fixedmarks marks : List ℕ}
     → FixedIs fixedmarks h cs → Sound h cs block T → Marked fixedmarks marks (sits (T .blocks) (T .n)) → PolishAt h cs (record { block = block; made = 0 }) T marks 0
@@ -213,7 +202,7 @@ polish-first {h} {cs} {T = T} f s m = record {
       m .marks x few
       ∙ ap₂ (λ (c d : Bool). c || ((ltb x (T .n) && ltb 0 (getD (T .blocks) x 0)) && not d)) (ap (λ (z : ℕ). eqb z 1) (f .no-candidate x few))
       (f .fixed x (omega (arith, s .follows .says .all-vertices)))
-      ∙ ap₂ (λ (c d : Bool). c && d && not (isFixed h cs (x + 1))) (lt-ltb x (T .n) l) (on-table s x l);
+      ∙ ap₂ (λ (c d : Bool). c && d && not (isFixed h cs (x + 1))) (lt-ltb x (T .n) l) (board-test s x l);
   marks-fit = m .len ∙ f .len;
 }
 

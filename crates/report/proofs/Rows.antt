@@ -2,65 +2,92 @@
 use Prim.Native.Nat.{ℕ, zero, suc, _+_, _-_, _<_, _≤_}
 use native.Mathlib.Omega.{arith}
 use native.Mathlib.Numerals.{add-one}
-use mathlib.Core.Path.{_≡_, sym, ap, ap₂, _∙_, subst}
+use mathlib.Core.Path.{_≡_, refl, sym, ap, _∙_, subst}
+use mathlib.Core.Bool.{Bool, true, false, cond}
+use lib.Dec.{ltb}
+use borrow.Author.Tests.{le-ltb, lt-ltb}
 use mathlib.Core.List.{List, [], _∷_, _++_, append-assoc, append-nil}
 use lib.ListN.{length, take, drop, length-append, take-append-drop}
 use lib.Seq.{take-suc, take-all, length-take-le}
 use Rattle.laws.specs.Sum.{foldTo, foldTo-step}
-use Rattle.model.specs.Catalogue.{Net, Hypergraph, vertices}
+use Rattle.model.specs.Catalogue.{Net, Hypergraph, vertices, inSale}
 use Rattle.model.specs.Measure.{representative, connectivity}
 use Rattle.model.specs.Machine.{State}
 use Rattle.model.specs.Memory.{noNet}
 use Rattle.model.specs.Report.{digits, row, lotRows, buyRows, closing}
 use Rattle.levels.specs.Running.{netAt}
 use Rattle.fields.specs.Wrote.{Wrote}
-use Rattle.report.specs.Closing.{Ended}
+use Rattle.report.specs.Closing.{lotLine, Ended}
 use Rattle.fields.proofs.Laws.{wrote-none, wrote-append}
 
 -- a text of which the first part is written, at a place that is within the buffer, and then the rest of it
 wrote-then : {l m l′ : List ℕ} {at : ℕ} {d : List ℕ} {e : List ℕ} {p r : ℕ} → p ≤ length l → Wrote l m at d p → Wrote m l′ p e r → Wrote l l′ at (d ++ e) r
 wrote-then h v w = wrote-append (omega (arith, v .ends)) v w
 
+-- nothing, or the line
+pub line-none : {l : List ℕ} {at : ℕ} (i b : ℕ) → b ≡ 0 → Wrote l l at (lotLine i b) at
+line-none {l} {at} i b e = subst (λ (t : Bool). Wrote l l at (cond t (row "LOT" (digits (i + 1) ∷ digits b ∷ [])) []) at) (sym (le-ltb 0 b (omega arith))) (wrote-none l at)
+
+pub line-some : (i b : ℕ) → (b ≡ 0 → ⊥) → lotLine i b ≡ row "LOT" (digits (i + 1) ∷ digits b ∷ [])
+line-some i b n = ap (λ (t : Bool). cond t (row "LOT" (digits (i + 1) ∷ digits b ∷ [])) []) (lt-ltb 0 b (omega (arith, n)))
+
+pub line-wrote : {l m : List ℕ} {at r : ℕ} (i b : ℕ) → (b ≡ 0 → ⊥) → Wrote l m at (row "LOT" (digits (i + 1) ∷ digits b ∷ [])) r → Wrote l m at (lotLine i b) r
+line-wrote {l} {m} {at} {r} i b n w = subst (λ (x : List ℕ). Wrote l m at x r) (sym (line-some i b n)) w
+
 module _ (h : Hypergraph) (s : State) where
   -- the line of the vertex v
   abbrev pub lotRow : ℕ → List ℕ
   lotRow v = row "LOT" (digits v ∷ digits (s .block (representative (s .stack) v)) ∷ [])
 
-  -- the lines of the vertices 1..i
+  -- the lines of the vertices 1..i that are in the sale
   unfoldable pub lotsTo : ℕ → List ℕ
-  lotsTo i = foldTo i (λ out v. out ++ lotRow v) []
+  lotsTo i = foldTo i (λ out v. cond (inSale h v) (out ++ lotRow v) out) []
 
   pub lots-none : (l : List ℕ) (at : ℕ) → Wrote l l at (lotsTo 0) at
   unfolding lotsTo foldTo
   lots-none l at = wrote-none l at
 
-  lots-step : (i : ℕ) → lotsTo (i + 1) ≡ lotsTo i ++ lotRow (i + 1)
+  lots-step : (i : ℕ) → lotsTo (i + 1) ≡ cond (inSale h (i + 1)) (lotsTo i ++ lotRow (i + 1)) (lotsTo i)
   unfolding lotsTo
-  lots-step i = foldTo-step i (λ out v. out ++ lotRow v) []
+  lots-step i = foldTo-step i (λ out v. cond (inSale h v) (out ++ lotRow v) out) []
+
+  -- the next line, by the block of the representative
+  lots-line : (i b : ℕ) → b ≡ s .block (representative (s .stack) (i + 1)) → ltb 0 (s .block (representative (s .stack) (i + 1))) ≡ inSale h (i + 1) → lotsTo (i + 1) ≡ lotsTo i ++ lotLine i b
+  lots-line i b q z = lots-step i ∙ go (inSale h (i + 1)) (ap (ltb 0) q ∙ z)
+    where
+      go : (t : Bool) → ltb 0 b ≡ t → cond t (lotsTo i ++ lotRow (i + 1)) (lotsTo i) ≡ lotsTo i ++ cond (ltb 0 b) (row "LOT" (digits (i + 1) ∷ digits b ∷ [])) []
+      go true e = ap (λ (x : ℕ). lotsTo i ++ row "LOT" (digits (i + 1) ∷ digits x ∷ [])) (sym q) ∙ ap (λ (t : Bool). lotsTo i ++ cond t (row "LOT" (digits (i + 1) ∷ digits b ∷ [])) []) (sym e)
+      go false e = sym (append-nil (lotsTo i)) ∙ ap (λ (t : Bool). lotsTo i ++ cond t (row "LOT" (digits (i + 1) ∷ digits b ∷ [])) []) (sym e)
+
+  lots-longer : (i : ℕ) → length (lotsTo i) ≤ length (lotsTo (i + 1))
+  lots-longer i = go (inSale h (i + 1)) (lots-step i)
+    where
+      go : (t : Bool) → lotsTo (i + 1) ≡ cond t (lotsTo i ++ lotRow (i + 1)) (lotsTo i) → length (lotsTo i) ≤ length (lotsTo (i + 1))
+      go true e = omega (arith, ap length e, length-append (lotsTo i) (lotRow (i + 1)))
+      go false e = omega (arith, ap length e)
 
   lots-mono : (i j : ℕ) → length (lotsTo i) ≤ length (lotsTo (i + j))
   lots-mono i zero = let e : i ≡ i + 0 = omega arith in omega (arith, ap (λ (k : ℕ). length (lotsTo k)) e)
   lots-mono i (suc j) =
       let e : i + suc j ≡ i + j + 1 = omega arith in
-      omega (arith, lots-mono i j, ap (λ (k : ℕ). length (lotsTo k)) e, ap length (lots-step (i + j)), length-append (lotsTo (i + j)) (lotRow (i + j + 1)))
+      omega (arith, lots-mono i j, ap (λ (k : ℕ). length (lotsTo k)) e, lots-longer (i + j))
 
   -- there is room for the next line
-  pub lots-room : (i b : ℕ) → i < vertices h → b ≡ s .block (representative (s .stack) (i + 1)) → length (lotsTo i) + length (row "LOT" (digits (i + 1) ∷ digits b ∷ [])) ≤ length (lotRows h s)
+  pub lots-room : (i b : ℕ) → i < vertices h → b ≡ s .block (representative (s .stack) (i + 1)) → ltb 0 (s .block (representative (s .stack) (i + 1))) ≡ inSale h (i + 1) → length (lotsTo i) + length (lotLine i b) ≤ length (lotRows h s)
   unfolding lotRows lotsTo
-  lots-room i b l q =
+  lots-room i b l q z =
       let e : i + 1 + (vertices h - (i + 1)) ≡ vertices h = omega arith in
       omega (
         arith,
         lots-mono (i + 1) (vertices h - (i + 1)),
         ap (λ (k : ℕ). length (lotsTo k)) e,
-        ap length (lots-step i),
-        length-append (lotsTo i) (lotRow (i + 1)),
-        ap (λ (x : ℕ). length (row "LOT" (digits (i + 1) ∷ digits x ∷ []))) q,
+        ap length (lots-line i b q z),
+        length-append (lotsTo i) (lotLine i b),
       )
 
-  pub lots-more : {l m l′ : List ℕ} {at p r : ℕ} (i b : ℕ) → b ≡ s .block (representative (s .stack) (i + 1)) → p ≤ length l → Wrote l m at (lotsTo i) p →
-      Wrote m l′ p (row "LOT" (digits (i + 1) ∷ digits b ∷ [])) r → Wrote l l′ at (lotsTo (i + 1)) r
-  lots-more {m = m} {l′ = l′} {p = p} {r = r} i b q f v w = rw (lots-step i) (wrote-then f v (subst (λ (x : ℕ). Wrote m l′ p (row "LOT" (digits (i + 1) ∷ digits x ∷ [])) r) q w))
+  pub lots-more : {l m l′ : List ℕ} {at p r : ℕ} (i b : ℕ) → b ≡ s .block (representative (s .stack) (i + 1)) → ltb 0 (s .block (representative (s .stack) (i + 1))) ≡ inSale h (i + 1) → p ≤ length l → Wrote l m at (lotsTo i) p →
+      Wrote m l′ p (lotLine i b) r → Wrote l l′ at (lotsTo (i + 1)) r
+  lots-more i b q z f v w = rw (lots-line i b q z) (wrote-then f v w)
 
   pub lots-all : (n : ℕ) → n ≡ vertices h → lotsTo n ≡ lotRows h s
   unfolding lotRows lotsTo
@@ -120,11 +147,11 @@ module _ (h : Hypergraph) (s : State) where
 
 -- ---- the whole
 module _ {h : Hypergraph} {s : State} {blocks aboves visited gone : List ℕ} {n m depth draft total : ℕ} (t : Ended h s blocks aboves visited gone n m depth draft total) where
-  pub closing-parts : closing h s ≡ row "TOTAL" (digits draft ∷ digits total ∷ []) ++ lotRows h s ++ buyRows h s 1 (h .nets)
+  pub closing-parts : closing draft h s ≡ row "TOTAL" (digits draft ∷ digits total ∷ []) ++ lotRows h s ++ buyRows h s 1 (h .nets)
   unfolding closing
-  closing-parts = ap₂ (λ (a b : ℕ). row "TOTAL" (digits a ∷ digits b ∷ []) ++ lotRows h s ++ buyRows h s 1 (h .nets)) (sym (t .draft-is)) (sym (t .sound .total-is))
+  closing-parts = ap (λ (b : ℕ). row "TOTAL" (digits draft ∷ digits b ∷ []) ++ lotRows h s ++ buyRows h s 1 (h .nets)) (sym (t .sound .total-is))
 
-  pub closing-length : length (closing h s) ≡ length (row "TOTAL" (digits draft ∷ digits total ∷ [])) + length (lotRows h s) + length (buyRows h s 1 (h .nets))
+  pub closing-length : length (closing draft h s) ≡ length (row "TOTAL" (digits draft ∷ digits total ∷ [])) + length (lotRows h s) + length (buyRows h s 1 (h .nets))
   closing-length = omega (
     arith,
     ap length closing-parts,

@@ -2,15 +2,18 @@
 -- and model's Report. Assumes nothing.
 use Prim.Native.Nat.{ℕ, _+_, _<_, _≤_}
 use mathlib.Core.Path.{_≡_}
-use mathlib.Core.List.{List, []}
+use mathlib.Core.Bool.{cond}
+use mathlib.Core.List.{List, [], _∷_}
+use lib.Dec.{ltb}
 use lib.ListN.{length, getD}
 use lib.IntN.{ℤ}
 use Rattle.laws.specs.Sum.{sum}
 use Rattle.laws.specs.Bit.{bit}
 use Rattle.model.specs.Catalogue.{Hypergraph, vertices}
-use Rattle.model.specs.Measure.{Contraction, above, connectivity, metric}
-use Rattle.model.specs.Machine.{State, fresh}
-use Rattle.model.specs.Report.{lotRows, buyRows, closing}
+use Rattle.model.specs.Measure.{Contraction, above, connectivity}
+use Rattle.model.specs.Machine.{State}
+use Rattle.model.specs.Report.{digits, row, lotRows, buyRows, closing}
+use Rattle.guarantees.specs.Ends.{Placed}
 use Rattle.guarantees.specs.Climbs.{Sound as SoundStack}
 use Rattle.guarantees.specs.Splits.{AllInside}
 use Rattle.levels.specs.Running.{netAt}
@@ -38,6 +41,7 @@ pub record Vertices (h : Hypergraph) (s : State) (blocks aboves gone : List ℕ)
   pub few : n ≤ 1024
   pub sound : SoundStack (s .stack)
   pub inside : AllInside h (s .stack)
+  pub placed : Placed h (s .stack) (s .block)
   pub hangs : Aboves (s .stack) n aboves
   pub sits : (y : ℕ) → y < n → getD blocks y 0 ≡ s .block (y + 1)
   pub blocks-fit : n ≤ length blocks
@@ -53,6 +57,10 @@ pub record VertexIn (blocks aboves gone : List ℕ) (v depth : ℕ) : Type 0 whe
   pub shown : Vertices h s blocks aboves gone n depth
   pub low : 1 ≤ v
   pub high : v ≤ n
+
+-- the line of the vertex at place i, or nothing where its representative has no block
+abbrev pub lotLine : ℕ → ℕ → List ℕ
+lotLine i b = cond (ltb 0 b) (row "LOT" (digits (i + 1) ∷ digits b ∷ [])) []
 
 -- the lines of the vertices fit into a buffer of `room` bytes
 pub record VerticesFit (room at : ℕ) (blocks aboves gone : List ℕ) (n depth : ℕ) : Type 0 where
@@ -75,7 +83,7 @@ pub record NetsFit (room at : ℕ) (visited : List ℕ) (m : ℕ) : Type 0 where
   pub shown : Nets h s visited m
   pub fits : at + length (buyRows h s 1 (h .nets)) ≤ room
 
--- these tables, with some others, are sound for the state; `draft` is the metric of the first partition, `total` that of the last
+-- these tables, with some others, are sound for the state; `total` is the metric, and `draft` is any number
 pub record Ended (h : Hypergraph) (s : State) (blocks aboves visited gone : List ℕ) (n m depth draft total : ℕ) : Type 0 where
   pub counts : List ℕ
   pub gains : List ℤ
@@ -92,11 +100,10 @@ pub record Ended (h : Hypergraph) (s : State) (blocks aboves visited gone : List
   pub into : List ℕ
   pub stack-is : s .stack ≡ stackOf into gone depth
   pub stack-fits : depth ≤ 512
-  pub draft-is : draft ≡ metric h [] (fresh h .block)
 
 -- the closing report fits
 pub record ClosingFits (room at : ℕ) (blocks aboves visited gone : List ℕ) (n m depth draft total : ℕ) : Type 0 where
   pub h : Hypergraph
   pub s : State
   pub ended : Ended h s blocks aboves visited gone n m depth draft total
-  pub fits : at + length (closing h s) ≤ room
+  pub fits : at + length (closing draft h s) ≤ room

@@ -5,3 +5,4 @@
 pub mod Meaning
 pub mod Place
 pub mod Closing
+pub mod Present

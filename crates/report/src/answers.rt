@@ -49,6 +49,15 @@ pub enum Answer {
         moves: u32,
         total: u32,
     },
+    // X
+    Withdrawn {
+        total: u32,
+    },
+    // N
+    Added {
+        lot: u32,
+        total: u32,
+    },
     // NO
     Refused {
         number: u32,
@@ -82,6 +91,8 @@ pub fn put_answer(out: &mut [u8], at: usize, a: Answer) -> usize
             moves,
             total,
         } => { put_row(out, at, b"A", &[contractions, tried, kept, moves, total]) }
+        Answer::Withdrawn { total } => put_row(out, at, b"X", &[total]),
+        Answer::Added { lot, total } => put_row(out, at, b"N", &[lot, total]),
         Answer::Refused { number } => put_row(out, at, b"NO", &[number]),
     }
 }

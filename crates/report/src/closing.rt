@@ -15,7 +15,7 @@ ghost use Rattle.model.specs.Report.{digits, row, lotRows, buyRows, closing};
 ghost use Rattle.model.specs.Lent.{stackOf};
 ghost use Rattle.fields.specs.Wrote.{Wrote};
 ghost use Rattle.report.specs.Place.{joinPlace};
-ghost use Rattle.report.specs.Closing.{Aboves, Climbable, Vertices, VertexIn, VerticesFit, Nets, NetsFit, Ended, ClosingFits};
+ghost use Rattle.report.specs.Closing.{lotLine, Aboves, Climbable, Vertices, VertexIn, VerticesFit, Nets, NetsFit, Ended, ClosingFits};
 
 // The number from 1 of what stands at place `i`.
 fn number(i: usize) -> u32
@@ -76,7 +76,18 @@ fn put_lot(out: &mut [u8], at: usize, i: usize, block: u32) -> usize
     put_row(out, at, b"LOT", &[v, block])
 }
 
-// Writes the lines of all vertices.
+// Writes the line of the vertex at place `i`, unless it is withdrawn: its representative is in no block then.
+fn put_present(out: &mut [u8], at: usize, i: usize, block: u32) -> usize
+    requires { ⌜ (i < 1024) × (at + length (lotLine i block) ≤ length (now out)) ⌝ }
+    ensures { λ r. ⌜ Wrote (now (out .entry)) (now (out .exit)) at (lotLine i block) r ⌝ }
+{
+    if block == 0 {
+        return at;
+    }
+    put_lot(out, at, i, block)
+}
+
+// Writes the lines of the vertices in the sale.
 fn put_lots(
     out: &mut [u8],
     at: usize,
@@ -94,7 +105,7 @@ fn put_lots(
     let mut i = 0;
     while i < n {
         let block = block_of(blocks, aboves, gone, i + 1, depth);
-        p = put_lot(out, p, i, block);
+        p = put_present(out, p, i, block);
         i += 1;
     }
     p
@@ -146,7 +157,7 @@ pub fn put_closing(
     total: u32,
 ) -> usize
     requires { ⌜ ClosingFits (length (now out)) at (now blocks) (now aboves) (now visited) (now gone) n m depth draft total ⌝ }
-    ensures { λ r. ⌜ ((h : Hypergraph) (s : State) → Ended h s (now (blocks .entry)) (now (aboves .entry)) (now (visited .entry)) (now (gone .entry)) n m depth draft total → Wrote (now (out .entry)) (now (out .exit)) at (closing h s) r) ⌝ }
+    ensures { λ r. ⌜ ((h : Hypergraph) (s : State) → Ended h s (now (blocks .entry)) (now (aboves .entry)) (now (visited .entry)) (now (gone .entry)) n m depth draft total → Wrote (now (out .entry)) (now (out .exit)) at (closing draft h s) r) ⌝ }
 {
     let p = put_row(out, at, b"TOTAL", &[draft, total]);
     let q = put_lots(out, p, blocks, aboves, gone, n, depth);

@@ -13,7 +13,7 @@ use Rattle.incidence.specs.On.{on, Next}
 use Rattle.connectivity.specs.Listed.{has-in, vertexAt}
 use Rattle.best_move.specs.Peak.{Under, Higher}
 use Rattle.operations.specs.Tables.{Tables, Sound}
-use Rattle.operations.specs.Move.{Open, own-block, on-board, in-range}
+use Rattle.operations.specs.Move.{Open, own-block, here-board, in-range}
 use Rattle.search_moves.specs.Peaks.{Lifted}
 
 -- ---- what the functions ask
@@ -168,7 +168,7 @@ module _ (gains : List ℤ) (counts blocks pins firsts sizes bits : List ℕ) (m
 -- ---- sound tables meet what is asked, also when their entries have changed
 module _ {h : Hypergraph} {cs : List Contraction} {block : ℕ → ℕ} {T : Tables} (s : Sound h cs block T) {u t : ℕ} (o : Open (T .blocks) (T .n) (T .k) u t) where
   own-in : (1 ≤ getD (T .blocks) u 0) × (getD (T .blocks) u 0 ≤ 16)
-  own-in = (o .on, omega (arith, own-block s u (o .u-in), in-range s u (o .u-in) (on-board s u (o .u-in) (o .on)) .1, s .follows .world .frame .few))
+  own-in = (o .on, omega (arith, own-block s u (o .u-in), in-range s u (o .u-in) (here-board s u (o .u-in) (o .on)) .1, s .follows .world .frame .few))
 
   pub lift-asks : {gains counts blocks : ℕ} → gains ≡ length (T .gains) → counts ≡ length (T .counts) → blocks ≡ length (T .blocks)
       → LiftOk gains counts blocks (T .bits) (T .pins) (T .firsts) (T .sizes) (T .m) (T .k) u (getD (T .blocks) u 0) t

@@ -19,7 +19,7 @@ use Rattle.levels.specs.World.{World}
 use Rattle.levels.specs.Reading.{has-pin}
 use Rattle.best_move.specs.Peak.{UnderAt, Under, Peaked, Higher, not-below}
 use Rattle.operations.specs.Tables.{Tables, tables, Sound}
-use Rattle.operations.specs.Move.{Open, own-block, on-board, in-range}
+use Rattle.operations.specs.Move.{Open, own-block, here-board, on-board, in-range}
 use Rattle.search_moves.specs.Tabled.{bit-is}
 use Rattle.search_moves.specs.Falls.{Quiet, falls}
 
@@ -80,7 +80,7 @@ module _ {h : Hypergraph} {cs : List Contraction} {block : ℕ → ℕ} {T : Tab
   pin-marked e le q = eqb-true (on (T .bits) u e) 1 (bit-is s u e (o .u-in) le up-on ∙ sym (has-pin (s .follows .says) e le u) ∙ q)
 
   pub own-in : (1 ≤ getD (T .blocks) u 0) × (getD (T .blocks) u 0 ≤ T .k)
-  own-in = (o .on, omega (arith, own-block s u (o .u-in), in-range s u (o .u-in) up-on .1))
+  own-in = (o .on, omega (arith, own-block s u (o .u-in), in-range s u (o .u-in) (here-board s u (o .u-in) (o .on)) .1))
 
   pub own-after : getD blocks u 0 ≡ t
   own-after = own-block s′ u (o .u-in) ∙ place-at block (u + 1) t

@@ -10,9 +10,9 @@ use borrow.Author.Tests.{eqb-true, eqb-false, eq-eqb, not-true}
 use lib.Dec.{eqb}
 use lib.ListN.{length, getD}
 use Rattle.laws.specs.Choice.{one, one-eqb, and-left, and-right}
-use Rattle.laws.specs.Fold.{any, any-at, any-not}
+use Rattle.laws.specs.Fold.{any, any-at, any-not, all-get}
 use Rattle.model.specs.Catalogue.{Hypergraph, vertices}
-use Rattle.model.specs.Measure.{Contraction, above, pin, weight, blockWeight, gain, adjacent}
+use Rattle.model.specs.Measure.{Contraction, above, onBoard, pin, weight, blockWeight, gain, adjacent}
 use Rattle.model.specs.Memory.{noNet}
 use Rattle.pins.specs.Stack.{present-off, present-pin, loadedPin, row-pin}
 use Rattle.incidence.specs.On.{on}
@@ -20,7 +20,8 @@ use Rattle.connectivity.specs.Listed.{has}
 use Rattle.levels.specs.Running.{netAt}
 use Rattle.levels.specs.Reading.{has-pin, reads}
 use Rattle.guarantees.specs.Caps.{CeilingIs}
-use Rattle.guarantees.specs.Ends.{may-on}
+use Rattle.guarantees.specs.Clumps.{pin-board}
+use Rattle.guarantees.specs.Ends.{may-on, placed-high}
 use Rattle.operations.specs.Tables.{Tables, Sound}
 use Rattle.operations.specs.Move.{back, Open, own-block, own-weight, in-range}
 use Rattle.index.specs.Indexed.{TablesOk}
@@ -59,9 +60,11 @@ module _ {h : Hypergraph} {cs : List Contraction} {block : ℕ → ℕ} {T : Tab
           near-no (T .bits) (T .pins) (T .firsts) (T .sizes) u (T .m) x (λ e le. both-is u x e lu le q ∙ any-not (h .nets) noNet (λ e. pin cs e (u + 1) && pin cs e (x + 1)) r e (omega (arith, s .follows .says .all-nets)))
           ∙ sym r
 
-  pub near-on : (u x : ℕ) → adjacent h cs u x ≡ true → above cs x ≡ 0
+  pub near-on : (u x : ℕ) → adjacent h cs u x ≡ true → onBoard h cs x ≡ true
   unfolding adjacent
-  near-on u x q = let w = any-at (h .nets) noNet (λ e. pin cs e u && pin cs e x) q in pin-on (w .0) x (and-right (pin cs (netAt h (w .0)) u) (pin cs (netAt h (w .0)) x) (w .2))
+  near-on u x q =
+      let w = any-at (h .nets) noNet (λ e. pin cs e u && pin cs e x) q in
+      pin-board h cs (s .follows .says .sound) (s .inside) (netAt h (w .0)) (all-get (h .nets) _ noNet (s .fit .ranges .loaded .nets-sale) (w .0) (w .1)) x (and-right (pin cs (netAt h (w .0)) u) (pin cs (netAt h (w .0)) x) (w .2))
 
   pub pins-ok : (e : ℕ) → e < T .m → PinsOk (T .pins) (getD (T .firsts) e 0) (getD (T .sizes) e 0)
   pins-ok e le = record {
@@ -89,7 +92,7 @@ module _ {h : Hypergraph} {cs : List Contraction} {block : ℕ → ℕ} {T : Tab
     in-candidates = l;
   }
 
-  pub index-ok : (index : ℕ) (marks : List ℕ) → 16 * T .n ≤ index → ((x : ℕ) → x < T .n → candidateBit marks x ≡ true → above cs (x + 1) ≡ 0) → IndexOk index marks (T .blocks) (T .n) (T .k)
+  pub index-ok : (index : ℕ) (marks : List ℕ) → 16 * T .n ≤ index → ((x : ℕ) → x < T .n → candidateBit marks x ≡ true → onBoard h cs (x + 1) ≡ true) → IndexOk index marks (T .blocks) (T .n) (T .k)
   index-ok index marks long bd = record {
     in-index = long;
     on-board = λ x l q.
@@ -106,12 +109,8 @@ module _ {h : Hypergraph} {cs : List Contraction} {block : ℕ → ℕ} {T : Tab
     in-index = l;
     in-gains = s .follows .world .frame .gains-fit;
     in-blocks = s .follows .world .lists .blocks-fit;
-    blocks-to = λ x u. go x u (ℕ-discrete (above cs (x + 1)) 0);
+    blocks-to = λ x u. omega (arith, own-block s x u, placed-high h cs block (s .placed) (x + 1) (omega arith) (omega (arith, s .follows .says .all-vertices)), s .follows .says .all-blocks);
   }
-    where
-      go : (x : ℕ) → x < T .n → Dec (above cs (x + 1) ≡ 0) → getD (T .blocks) x 0 ≤ T .k
-      go x u (yes q) = omega (arith, own-block s x u, in-range s x u q .1)
-      go x u (no q) = omega (arith, own-block s x u, s .placed (x + 1) (omega arith) (omega (arith, s .follows .says .all-vertices)) .off q)
 
   pub holds : (ceiling : ℕ → ℕ) (ceilings : List ℕ) → CeilingIs ceilings h ceiling → Holds h ceiling cs block (T .gains) (T .blocks) (T .weights) (T .loads) ceilings (T .n) (T .k)
   holds ceiling ceilings q = record {
@@ -130,7 +129,7 @@ module _ {h : Hypergraph} {cs : List Contraction} {block : ℕ → ℕ} {T : Tab
       at-one v l q = ap (above cs) (back v l) ∙ q
 
   -- an open pair of candidates on the board can be moved
-  pub pair-open : (marks ceilings : List ℕ) (v b : ℕ) → ((x : ℕ) → x < T .n → candidateBit marks x ≡ true → above cs (x + 1) ≡ 0) → (1 ≤ v) × (v ≤ T .n) × (1 ≤ b) × (b ≤ T .k)
+  pub pair-open : (marks ceilings : List ℕ) (v b : ℕ) → ((x : ℕ) → x < T .n → candidateBit marks x ≡ true → onBoard h cs (x + 1) ≡ true) → (1 ≤ v) × (v ≤ T .n) × (1 ≤ b) × (b ≤ T .k)
       → openIn marks (T .blocks) (T .weights) (T .loads) ceilings v b ≡ true → Open (T .blocks) (T .n) (T .k) (v - 1) b
   pair-open marks ceilings v b bd i o =
       let u-in : v - 1 < T .n = omega (arith, i .0, i .1) in

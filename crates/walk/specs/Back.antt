@@ -3,11 +3,12 @@
 use Prim.Native.Nat.{ℕ, suc, _+_, _-_, _<_, _≤_}
 use native.Mathlib.Omega.{arith}
 use mathlib.Core.Path.{_≡_, refl, sym, ap, _∙_, subst}
+use mathlib.Core.Bool.{true}
 use mathlib.Core.List.{List, [], _∷_}
 use lib.ListN.{length, getD}
 use Rattle.laws.specs.Place.{place, place-at, place-back}
 use Rattle.model.specs.Catalogue.{Hypergraph, vertices}
-use Rattle.model.specs.Measure.{Contraction, above}
+use Rattle.model.specs.Measure.{Contraction, onBoard}
 use Rattle.model.specs.Machine.{Move}
 use Rattle.model.specs.Search.{reversed}
 use Rattle.model.specs.Lent.{journalOf}
@@ -20,7 +21,7 @@ use Rattle.operations.specs.Keeping.{keeps-none, keeps-more}
 -- a move that was made last: its vertex is on the board, and in another block than the one it left
 pub record Latest (h : Hypergraph) (cs : List Contraction) (block : ℕ → ℕ) (v from : ℕ) : Type 0 where
   pub vertex-in : (1 ≤ v) × (v ≤ vertices h)
-  pub on : above cs v ≡ 0
+  pub on : onBoard h cs v ≡ true
   pub from-in : (1 ≤ from) × (from ≤ h .blocks)
   pub away : block v ≡ from → ⊥
 
@@ -34,7 +35,7 @@ unfolding Backs
 backs-none h cs block = tt
 
 -- one move more
-pub backs-more : (h : Hypergraph) (cs : List Contraction) (block : ℕ → ℕ) (ms : List Move) (v t : ℕ) → (1 ≤ v) × (v ≤ vertices h) → above cs v ≡ 0 → (1 ≤ block v) × (block v ≤ h .blocks) → (block v ≡ t → ⊥)
+pub backs-more : (h : Hypergraph) (cs : List Contraction) (block : ℕ → ℕ) (ms : List Move) (v t : ℕ) → (1 ≤ v) × (v ≤ vertices h) → onBoard h cs v ≡ true → (1 ≤ block v) × (block v ≤ h .blocks) → (block v ≡ t → ⊥)
     → Backs h cs block ms → Backs h cs (place block v t) (record { vertex = v; from = block v } ∷ ms)
 unfolding Backs
 backs-more h cs block ms v t i o f a b = (
@@ -96,7 +97,7 @@ rewind-asks T T′ vs bs tried kept j v ok f l q =
     let x = backs-step (ok .h) (ok .cs) (b .there) vs bs j l (b .backs (ok .backs)) .0 in
     let i : v - 1 + 1 ≡ getD vs (j - 1) 0 = omega (arith, x .vertex-in) in
     let u-in : v - 1 < T′ (ok .aboves) (ok .loaded) .n = omega (arith, x .vertex-in, b .sound .follows .says .all-vertices) in
-    let o : above (ok .cs) (v - 1 + 1) ≡ 0 = ap (above (ok .cs)) i ∙ x .on in
+    let o : onBoard (ok .h) (ok .cs) (v - 1 + 1) ≡ true = ap (onBoard (ok .h) (ok .cs)) i ∙ x .on in
     let own = own-block (b .sound) (v - 1) u-in in
     record {
       aboves = ok .aboves;

@@ -19,7 +19,7 @@ use Rattle.model.specs.Lent.{journalOf}
 use Rattle.guarantees.specs.Walks.{moved}
 use Rattle.operations.specs.Pairs.{Pushed, pairs-push}
 use Rattle.operations.specs.Tables.{Tables, Sound}
-use Rattle.operations.specs.Move.{Open, CanGo, Went, on-board, own-block, in-range}
+use Rattle.operations.specs.Move.{Open, CanGo, Went, here-board, on-board, own-block, in-range}
 use Rattle.search_moves.specs.Marks.{candidateBit, movedBit, Covered, near, NetsOk, Spread}
 use Rattle.search_moves.specs.Tabled.{near-is, near-on, nets-ok}
 use Rattle.walk.specs.Back.{backs-more}
@@ -68,8 +68,8 @@ module _ {h : Hypergraph} {cs : List Contraction} {w : Walk} {T T′ : Tables} {
     (eh : heavy ≡ heaviestIn (T′ .loads) (T′ .k))
     (ek : kept′ ≡ cond (isKept (worth (T′ .total) heavy) (worth low most)) tried′ kept)
     (ew : worth low′ most′ ≡ cond (isKept (worth (T′ .total) heavy) (worth low most)) (worth (T′ .total) heavy) (worth low most)) where
-  on : above cs v ≡ 0
-  on = ap (above cs) (sym e) ∙ on-board (A .sound) x (o .u-in) (o .on)
+  on : onBoard h cs v ≡ true
+  on = ap (onBoard h cs) (sym e) ∙ here-board (A .sound) x (o .u-in) (o .on)
 
   on-x : above cs (x + 1) ≡ 0
   on-x = on-board (A .sound) x (o .u-in) (o .on)
@@ -98,7 +98,7 @@ module _ {h : Hypergraph} {cs : List Contraction} {w : Walk} {T T′ : Tables} {
       ∙ ap₂ (λ (s t : Bool). s || t)
       (ap₂ (λ (s t : Bool). s && not t) (A .chosen y l) (eqb-next x y v e))
       (ap₂ (λ (s t : Bool). s && not t) (beside y) (ap₂ (λ (s t : Bool). s || t) (eqb-next x y v e) (A .spent y l)))
-      ∙ spread-bool (w .candidate (y + 1)) (moved h cs w (y + 1)) (onBoard cs (y + 1)) (isFixed h cs (y + 1)) (adjacent h cs v (y + 1)) (eqb v (y + 1)) (λ q. eq-eqb (above cs (y + 1)) 0 (near-on (A .sound) v (y + 1) q))
+      ∙ spread-bool (w .candidate (y + 1)) (moved h cs w (y + 1)) (onBoard h cs (y + 1)) (isFixed h cs (y + 1)) (adjacent h cs v (y + 1)) (eqb v (y + 1)) (λ q. near-on (A .sound) v (y + 1) q)
 
   journaled : record { vertex = v; from = w .block v } ∷ w .journal ≡ journalOf vs′ bs′ tried′
   journaled =
@@ -134,7 +134,7 @@ module _ {h : Hypergraph} {cs : List Contraction} {w : Walk} {T T′ : Tables} {
     worth-is = ew ∙ keeps now-is (A .worth-is);
     kept-to = omega (arith, ek, least (isKept (worth (T′ .total) heavy) (worth low most)) (A .kept-to));
     backs = backs-more h cs (w .block) (w .journal) v b (omega (arith, o .u-in, A .sound .follows .says .all-vertices)) on
-        (let r = in-range (A .sound) x (o .u-in) on-x in
+        (let r = in-range (A .sound) x (o .u-in) (here-board (A .sound) x (o .u-in) (o .on)) in
         subst (λ (z : ℕ). (1 ≤ w .block z) × (w .block z ≤ h .blocks)) e (r .0, omega (arith, r .1, A .sound .follows .says .all-blocks)))
         (λ q. o .away (own ∙ q)) (A .backs);
     marks-fit = sp .len ∙ A .marks-fit;

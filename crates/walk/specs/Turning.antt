@@ -8,13 +8,12 @@ use mathlib.Core.List.{List}
 use borrow.Author.Tests.{le-leb, lt-leb}
 use lib.Dec.{leb}
 use lib.IntN.{ℤ}
-use Rattle.laws.specs.Choice.{and-right}
+use Rattle.laws.specs.Choice.{and-left, and-right}
 use Rattle.laws.specs.Place.{place}
 use Rattle.model.specs.Catalogue.{Hypergraph}
-use Rattle.model.specs.Measure.{Contraction, above, mayMove}
+use Rattle.model.specs.Measure.{Contraction, onBoard, isFixed, mayMove}
 use Rattle.model.specs.Search.{Best, none, best, Walk, worthOf, bestPair, walkBest, walkMove, walkTurn, walkOn, walk, patience}
 use Rattle.guarantees.specs.Caps.{CeilingIs}
-use Rattle.guarantees.specs.Ends.{may-on}
 use Rattle.guarantees.specs.Walks.{moved}
 use Rattle.operations.specs.Tables.{Tables}
 use Rattle.best_move.specs.declared.open.Pick.{Pick}
@@ -60,8 +59,8 @@ module _ {h : Hypergraph} {cs : List Contraction} {w : Walk} {T : Tables} {L : L
       A .chosen (v - 1) (omega arith) ∙ ap (λ (z : ℕ). w .candidate z && not (moved h cs w z) && mayMove h cs z) e))
 
   -- a candidate is on the board
-  pub chosen-on : (x : ℕ) → x < T .n → candidateBit (L .marks) x ≡ true → above cs (x + 1) ≡ 0
-  chosen-on x l q = may-on h cs (x + 1) (and-right (w .candidate (x + 1) && not (moved h cs w (x + 1))) (mayMove h cs (x + 1)) (sym (A .chosen x l) ∙ q))
+  pub chosen-on : (x : ℕ) → x < T .n → candidateBit (L .marks) x ≡ true → onBoard h cs (x + 1) ≡ true
+  chosen-on x l q = and-left (onBoard h cs (x + 1)) (not (isFixed h cs (x + 1))) (and-right (w .candidate (x + 1) && not (moved h cs w (x + 1))) (mayMove h cs (x + 1)) (sym (A .chosen x l) ∙ q))
 
 module _ (h : Hypergraph) (ceiling : ℕ → ℕ) (cs : List Contraction) where
   on-next : (f : ℕ) (w : Walk) → walkOn h ceiling cs (suc f) w ≡ walkTurn h cs w (walkOn h ceiling cs f) (next h ceiling cs w)

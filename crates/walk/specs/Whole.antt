@@ -11,14 +11,14 @@ use lib.Dec.{eqb}
 use lib.ListN.{length, getD}
 use Rattle.laws.specs.Fold.{any}
 use Rattle.model.specs.Catalogue.{Hypergraph, vertices}
-use Rattle.model.specs.Measure.{Contraction, above, onBoard, isFixed, mayMove}
+use Rattle.model.specs.Measure.{Contraction, onBoard, isFixed, mayMove}
 use Rattle.model.specs.Machine.{Move}
 use Rattle.model.specs.Search.{Walk, worthOf, walkOn, walk, walked, reversed}
 use Rattle.model.specs.Lent.{journalOf}
 use Rattle.fixed.specs.Starting.{FixedIs}
 use Rattle.operations.specs.Pairs.{pairs-none}
 use Rattle.operations.specs.Tables.{Tables, Sound}
-use Rattle.operations.specs.Move.{on-board}
+use Rattle.operations.specs.Move.{here-board}
 use Rattle.search_moves.specs.Marks.{candidateBit, movedBit, Marked, marked-more, SameNets, nets-then, covered-none}
 use Rattle.operations.specs.Keeping.{keeps-none, keeps-more}
 use Rattle.walk.specs.Back.{Backs, backs-none, RewindOk, Rewinds}
@@ -38,14 +38,14 @@ pub record Started (T : Tables) (fixedmarks : List ℕ) (u v : ℕ) (L : Locals)
 
 -- u and v are candidates, and on the board
 module _ {h : Hypergraph} {cs : List Contraction} {block : ℕ → ℕ} {T : Tables} (s : Sound h cs block T) (u v : ℕ) (u-in : u < T .n) (u-on : 1 ≤ getD (T .blocks) u 0) (v-in : v < T .n) (v-on : 1 ≤ getD (T .blocks) v 0) where
-  two-on : (x : ℕ) (t : Bool) → (eqb (x + 1) (u + 1) || eqb (x + 1) (v + 1)) ≡ t → t ≡ (t && onBoard cs (x + 1))
+  two-on : (x : ℕ) (t : Bool) → (eqb (x + 1) (u + 1) || eqb (x + 1) (v + 1)) ≡ t → t ≡ (t && onBoard h cs (x + 1))
   two-on x false q = refl
   two-on x true q = sym (go (eqb (x + 1) (u + 1)) refl q)
     where
-      at : (y : ℕ) → y < T .n → 1 ≤ getD (T .blocks) y 0 → eqb (x + 1) (y + 1) ≡ true → onBoard cs (x + 1) ≡ true
-      at y ly oy r = let e : x + 1 ≡ y + 1 = eqb-true (x + 1) (y + 1) r in eq-eqb (above cs (x + 1)) 0 (ap (above cs) e ∙ on-board s y ly oy)
+      at : (y : ℕ) → y < T .n → 1 ≤ getD (T .blocks) y 0 → eqb (x + 1) (y + 1) ≡ true → onBoard h cs (x + 1) ≡ true
+      at y ly oy r = let e : x + 1 ≡ y + 1 = eqb-true (x + 1) (y + 1) r in ap (onBoard h cs) e ∙ here-board s y ly oy
 
-      go : (b : Bool) → eqb (x + 1) (u + 1) ≡ b → (b || eqb (x + 1) (v + 1)) ≡ true → onBoard cs (x + 1) ≡ true
+      go : (b : Bool) → eqb (x + 1) (u + 1) ≡ b → (b || eqb (x + 1) (v + 1)) ≡ true → onBoard h cs (x + 1) ≡ true
       go true r _ = at u u-in u-on r
       go false r z = at v v-in v-on z
 
@@ -80,7 +80,7 @@ module _ {fixedmarks l l′ : List ℕ} (u v : ℕ) (a : Marked fixedmarks l (λ
             chosen = λ x k.
                 first-marks f few x (omega (arith, s .follows .says .all-vertices))
                 ∙ ap (λ (t : Bool). t && not (isFixed h cs (x + 1))) (two-on s u v u-in u-on v-in v-on x (eqb (x + 1) (u + 1) || eqb (x + 1) (v + 1)) refl)
-                ∙ and-assoc (eqb (x + 1) (u + 1) || eqb (x + 1) (v + 1)) (onBoard cs (x + 1)) (not (isFixed h cs (x + 1)))
+                ∙ and-assoc (eqb (x + 1) (u + 1) || eqb (x + 1) (v + 1)) (onBoard h cs (x + 1)) (not (isFixed h cs (x + 1)))
                 ∙ ap (λ (t : Bool). t && mayMove h cs (x + 1)) (sym (and-true (eqb (x + 1) (u + 1) || eqb (x + 1) (v + 1))));
             spent = λ x k. first-moved f few x (omega (arith, s .follows .says .all-vertices));
             covered = covered-none (λ i k. nets-then na nb .same i k ∙ f .no-net i k);

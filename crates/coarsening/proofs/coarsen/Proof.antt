@@ -9,7 +9,7 @@ use Rattle.best_contraction.specs.Rating.{Blank, scoreOf}
 use Rattle.best_contraction.specs.Bound.{Bounded}
 use Rattle.best_contraction.specs.BoundLaw.{bounded-begin}
 use Rattle.coarsening.specs.Linked.{blank, tables-ok}
-use Rattle.coarsening.specs.Coarsen.{locals, Going, len-is, going-none, going-more, going-done, once-asks}
+use Rattle.coarsening.specs.Coarsen.{locals, Going, going-none, going-more, going-done, once-asks}
 use Rattle.coarsening.proofs.coarsen.Statement.{statement}
 use Rattle.coarsening.proofs.coarsen.Tie as tie
 
@@ -41,20 +41,20 @@ begin-requires c κs =
 
 excess-requires : tie.Need-excess-requires Inv-loop μ-loop
 excess-requires c κs =
-    let p = c .before .before .before .before .before .before .before .before .before .before .before .before .before .before .before .before .before .before .before .pre in
-    (omega (arith, len-is (p .stands)), p .stands .sound .follows .world .frame .few)
+    let p = c .before .before .before .before .before .before .before .before .before .before .before .before .before .before .before .before .before .before .before .before .pre in
+    ((p .stands .sound .follows .room .few-vertices, p .stands .sound .follows .world .lists .blocks-fit), p .stands .sound .follows .world .frame .few)
 
 loop-holds : tie.Need-loop-holds Inv-loop μ-loop
 loop-holds c =
-    let at-join-blocks = c .before .before .before .before .before .before .before in
+    let at-join-blocks = c .before .before .before .before .before .before .before .before in
     let start = at-join-blocks .before .before .before .before .before .before .before .before .before .before .before .before .before in
-    (λ loads loaded. going-none _ _ _ _ _ _ _ (c .excess .ensures), blank 1025 refl, bounded-begin _ _ _ _ _ _ _ _ _ _ (tables-ok (start .pre .stands .sound) (at-join-blocks .join-blocks .ensures)) _ (c .before .begin .ensures), refl, refl, refl, refl, refl, refl, refl, refl, refl)
+    (λ loads loaded. going-none _ _ _ _ _ _ _ (c .excess .ensures), blank 1025 refl, bounded-begin _ _ _ _ _ _ _ _ _ _ (tables-ok (start .pre .stands .sound) (at-join-blocks .join-blocks .ensures)) _ (c .before .before .begin .ensures), refl, refl, refl, refl, refl, refl, refl, refl, refl)
 
 coarsen-once-requires : tie.Need-coarsen-once-requires Inv-loop μ-loop
 coarsen-once-requires c κs =
     let at-if1 = c .before .before .before .before .before .before .before .before .before .before .before .before in
     let at-loop = at-if1 .before .before in
-    let at-join-blocks = at-loop .before .before .before .before .before .before .before .before in
+    let at-join-blocks = at-loop .before .before .before .before .before .before .before .before .before in
     let start = at-join-blocks .before .before .before .before .before .before .before .before .before .before .before .before .before in
     let v = at-loop .loop .inv in
     (once-asks (start .pre) (at-join-blocks .join-blocks .ensures) (v .0) (omega (arith, at-if1 .if1 .taken)), (v .1, v .2))
@@ -62,7 +62,7 @@ coarsen-once-requires c κs =
 loop-less : tie.Need-loop-less Inv-loop μ-loop
 loop-less c =
     let at-coarsen-once = c .before .before .before .before .before .before .before .before .before .before .before .before .before .before .before .before .before in
-    let start = at-coarsen-once .before .before .before .before .before .before .before .before .before .before .before .before .before .before .before .before .before .before .before .before .before .before .before .before .before .before .before .before .before .before .before .before .before .before .before .before in
+    let start = at-coarsen-once .before .before .before .before .before .before .before .before .before .before .before .before .before .before .before .before .before .before .before .before .before .before .before .before .before .before .before .before .before .before .before .before .before .before .before .before .before in
     at-coarsen-once .coarsen-once .ensures .0 (start .pre .loads) (start .pre .loaded) .less
 
 loop-again : tie.Need-loop-again Inv-loop μ-loop
@@ -121,7 +121,7 @@ same-length-9 c =
 returns : tie.Need-returns Inv-loop μ-loop
 returns c =
     let at-loop = c .before .before .before in
-    let at-join-blocks = at-loop .before .before .before .before .before .before .before .before in
+    let at-join-blocks = at-loop .before .before .before .before .before .before .before .before .before in
     λ loads loaded. going-done (at-join-blocks .join-blocks .ensures) (at-loop .loop .inv .0 loads loaded) (omega (arith, c .before .if1 .left))
 
 pub coarsen-spec : {M : Type 1} → statement M

@@ -125,6 +125,36 @@ put-row-requires-8 c κs =
     let start = c .before .before .before .before .before .before .before in
     rw (c .before .before .before .before .a8 .given .1) at (start .pre)
 
+enum-known-a-9 : tie.Need-enum-known-a-9
+enum-known-a-9 c = search needs
+
+slice-aggregate-put-row-17 : tie.Need-slice-aggregate-put-row-17
+slice-aggregate-put-row-17 c = search needs
+
+slice-aggregate-put-row-18 : tie.Need-slice-aggregate-put-row-18
+slice-aggregate-put-row-18 c = search needs
+
+put-row-requires-9 : tie.Need-put-row-requires-9
+unfolding answerRow row bytes
+put-row-requires-9 c κs =
+    let start = c .before .before .before .before .before .before .before in
+    rw (c .before .before .before .before .a9 .given .1) at (start .pre)
+
+enum-known-a-10 : tie.Need-enum-known-a-10
+enum-known-a-10 c = search needs
+
+slice-aggregate-put-row-19 : tie.Need-slice-aggregate-put-row-19
+slice-aggregate-put-row-19 c = search needs
+
+slice-aggregate-put-row-20 : tie.Need-slice-aggregate-put-row-20
+slice-aggregate-put-row-20 c = search needs
+
+put-row-requires-10 : tie.Need-put-row-requires-10
+unfolding answerRow row bytes
+put-row-requires-10 c κs =
+    let start = c .before .before .before .before .before .before .before in
+    rw (c .before .before .before .before .a10 .given .1) at (start .pre)
+
 same-length : tie.Need-same-length
 same-length c = search needs
 
@@ -197,6 +227,24 @@ returns-8 c =
     let start = c .before .before .before .before .before .before .before in
     rw (start .a8 .given .1) (c .before .before .put-row8 .ensures)
 
+same-length-9 : tie.Need-same-length-9
+same-length-9 c = search needs
+
+returns-9 : tie.Need-returns-9
+unfolding answerRow row bytes
+returns-9 c =
+    let start = c .before .before .before .before .before .before .before in
+    rw (start .a9 .given .1) (c .before .before .put-row9 .ensures)
+
+same-length-10 : tie.Need-same-length-10
+same-length-10 c = search needs
+
+returns-10 : tie.Need-returns-10
+unfolding answerRow row bytes
+returns-10 c =
+    let start = c .before .before .before .before .before .before .before in
+    rw (start .a10 .given .1) (c .before .before .put-row10 .ensures)
+
 pub put-answer-spec : {M : Type 1} → statement M
 put-answer-spec =
     tie.close
@@ -233,6 +281,14 @@ put-answer-spec =
     slice-aggregate-put-row-15
     slice-aggregate-put-row-16
     put-row-requires-8
+    enum-known-a-9
+    slice-aggregate-put-row-17
+    slice-aggregate-put-row-18
+    put-row-requires-9
+    enum-known-a-10
+    slice-aggregate-put-row-19
+    slice-aggregate-put-row-20
+    put-row-requires-10
     same-length
     returns
     same-length-2
@@ -248,4 +304,8 @@ put-answer-spec =
     same-length-7
     returns-7
     same-length-8
-    returns-8)
+    returns-8
+    same-length-9
+    returns-9
+    same-length-10
+    returns-10)

@@ -2,12 +2,13 @@
 use native.Mathlib.Omega.{arith}
 use mathlib.Core.Path.{_≡_, _∙_}
 use denote.Ref.{now}
-use Prim.Native.Nat.{ℕ, _-_, _≤_}
+use Prim.Native.Nat.{ℕ, _+_, _-_, _≤_}
 use lib.ListN.{length}
 use Rattle.model.specs.Catalogue.{Hypergraph, vertices}
 use Rattle.model.specs.Machine.{State}
 use Rattle.fields.specs.Wrote.{Wrote}
 use Rattle.report.specs.Closing.{Vertices}
+use Rattle.report.specs.Present.{sale-stands}
 use Rattle.report.proofs.Rows.{lotsTo, lots-none, lots-room, lots-more, lots-all}
 use borrow.Author.Needs.{needs}
 use Rattle.report.proofs.closing.put_lots.Statement.{statement}
@@ -34,14 +35,14 @@ block-of-requires c κs =
     let start = c .before .before .before .before .before in
     let k = start .pre in record { h = k .h; s = k .s; n = start .args .n; shown = k .shown; low = omega arith; high = omega arith }
 
-put-lot-requires : tie.Need-put-lot-requires Inv-loop μ-loop
-put-lot-requires c κs =
+put-present-requires : tie.Need-put-present-requires Inv-loop μ-loop
+put-present-requires c κs =
     let at-loop = c .before .before .before in
     let start = at-loop .before .before .before .before in
     let k = c .before .before .before .before .before .before .before .pre in
     let i : ℕ = at-loop .loop .i in
     let w = at-loop .loop .inv .2 (k .h) (k .s) (k .shown) in
-    let more = lots-room (k .h) (k .s) i (c .before .block-of .result) (omega (arith, k .shown .all)) (c .before .block-of .ensures (k .h) (k .s) (start .args .n) (k .shown) (omega arith)) in
+    let more = lots-room (k .h) (k .s) i (c .before .block-of .result) (omega (arith, k .shown .all)) (c .before .block-of .ensures (k .h) (k .s) (start .args .n) (k .shown) (omega arith)) (sale-stands (k .h) (k .s) (k .shown .sound) (k .shown .inside) (k .shown .placed) (i + 1) (omega arith) (omega (arith, k .shown .all))) in
     (omega (arith, k .shown .few), omega (arith, w .ends, k .fits, at-loop .loop .inv .1))
 
 add-i : tie.Need-add-i Inv-loop μ-loop
@@ -60,10 +61,10 @@ loop-again c =
     let k = c .before .before .before .before .before .before .before .before .before .before .pre in
     let i : ℕ = at-loop .loop .i in
     let w = at-loop .loop .inv .2 (k .h) (k .s) (k .shown) in
-    let more = lots-room (k .h) (k .s) i (at-block-of .block-of .result) (omega (arith, k .shown .all)) (at-block-of .block-of .ensures (k .h) (k .s) (start .args .n) (k .shown) (omega arith)) in (
+    let more = lots-room (k .h) (k .s) i (at-block-of .block-of .result) (omega (arith, k .shown .all)) (at-block-of .block-of .ensures (k .h) (k .s) (start .args .n) (k .shown) (omega arith)) (sale-stands (k .h) (k .s) (k .shown .sound) (k .shown .inside) (k .shown .placed) (i + 1) (omega arith) (omega (arith, k .shown .all))) in (
       omega arith,
-      c .before .before .put-lot .kept .0 ∙ at-loop .loop .inv .1,
-      λ h s t. lots-more h s i (at-block-of .block-of .result) (at-block-of .block-of .ensures h s (start .args .n) t (omega arith)) (omega (arith, w .ends, k .fits)) (at-loop .loop .inv .2 h s t) (c .before .before .put-lot .ensures),
+      c .before .before .put-present .kept .0 ∙ at-loop .loop .inv .1,
+      λ h s t. lots-more h s i (at-block-of .block-of .result) (at-block-of .block-of .ensures h s (start .args .n) t (omega arith)) (sale-stands h s (t .sound) (t .inside) (t .placed) (i + 1) (omega arith) (omega (arith, t .all))) (omega (arith, w .ends, k .fits)) (at-loop .loop .inv .2 h s t) (c .before .before .put-present .ensures),
     )
 
 same-length : tie.Need-same-length Inv-loop μ-loop
@@ -83,7 +84,7 @@ put-lots-spec =
     loop-holds
     add-block-of
     block-of-requires
-    put-lot-requires
+    put-present-requires
     add-i
     loop-less
     loop-again
