@@ -1,31 +1,22 @@
-// A list of calls on a running sale: each call steps the tables, the rows of the index are made right after it, and its answer's line goes to the output.
-ghost use Prim.Native.Nat.{ℕ, _*_, _≤_};
+// A list of call lines on a running sale: each steps the tables, and its answer's line goes to the output.
+ghost use Prim.Native.Nat.{ℕ, _+_, _-_, _<_, _≤_};
 ghost use mathlib.Core.Path.{_≡_};
-ghost use mathlib.Core.List.{[]};
-ghost use lib.ListN.{length};
+ghost use lib.ListN.{length, getD, take, drop};
 ghost use Rattle.model.specs.Catalogue.{Limits, Hypergraph};
-ghost use Rattle.model.specs.Lent.{two};
-ghost use Rattle.guarantees.specs.Caps.{CeilingIs};
-ghost use Rattle.fixed.specs.Starting.{FixedIs};
-ghost use Rattle.index.specs.Indexed.{KeepsRight};
-ghost use Rattle.operations.specs.Tables.{tables};
-ghost use Rattle.search_calls.specs.Cycling.{AverageIs};
-ghost use Rattle.any_call.specs.Kinds.{anyCall};
-ghost use Rattle.call_list.specs.Course.{CanStep, Steps, Begins, CanRun, Done};
-use any_call::performing::perform;
-use index::rows::put_all_right;
-use operations::pairs::Journal;
-use operations::pairs::Stack;
-use operations::size::Size;
-use report::answers::put_answer;
+ghost use Rattle.model.specs.Grammar.{letterN};
+ghost use Rattle.model.specs.Memory.{Tables};
+ghost use Rattle.call_list.specs.Point.{pointOf, CanStep, Steps};
+ghost use Rattle.call_list.specs.Asked.{lateAt, requestOf};
+ghost use Rattle.call_list.specs.Course.{Begins, CanRun, Done};
 
-// Where a list stands between two calls: the contraction stack, the journal, the metric, and where the output's text ends.
-pub struct Course {
-    pub stack: Stack,
-    pub journal: Journal,
-    pub total: u32,
-    pub at: usize,
-}
+pub mod course;
+mod stepping;
+
+use course::Course;
+use course::Frame;
+use stepping::add;
+use stepping::run_machine;
+use stepping::withdraw;
 
 // A number of a call as code works with it.
 fn wide(x: u32) -> usize
@@ -34,7 +25,95 @@ fn wide(x: u32) -> usize
     x as usize
 }
 
-// One call, the rows of the index after it, and its line.
+// The bales, the session and the buyers of an N whose numbers are `y` operands from `x` on.
+fn bales_of(operands: &[u32], x: usize) -> u32
+    requires { ⌜ x < length (now operands) ⌝ }
+    ensures { λ r. ⌜ r ≡ getD (now (operands .entry)) x 0 ⌝ }
+{
+    operands[x]
+}
+
+fn session_of(operands: &[u32], x: usize) -> usize
+    requires { ⌜ x + 1 < length (now operands) ⌝ }
+    ensures { λ r. ⌜ r ≡ getD (now (operands .entry)) (x + 1) 0 ⌝ }
+{
+    wide(operands[x + 1])
+}
+
+fn buyers_of(operands: &[u32], x: usize, y: usize) -> &[u32]
+    requires { ⌜ (2 ≤ y) × (x + y ≤ length (now operands)) ⌝ }
+    ensures { λ r. ⌜ now r ≡ take (y - 2) (drop (x + 2) (now (operands .entry))) ⌝ }
+{
+    let from = x + 2;
+    let to = x + y;
+    &operands[from..to]
+}
+
+// N, whose numbers are `y` operands from `x` on.
+fn add_from(
+    output: &mut [u8],
+    counts: &mut [u16],
+    visited: &mut [u16],
+    gains: &mut [i32],
+    index: &mut [u16],
+    presentpins: &mut [u16],
+    presentsizes: &mut [u16],
+    bits: &mut [u64],
+    blocks: &mut [u16],
+    weights: &mut [u32],
+    aboves: &mut [u16],
+    fixed: &mut [u16],
+    loads: &mut [u64; 16],
+    loadedpins: &mut [u16],
+    firsts: &mut [u16],
+    loadedsizes: &mut [u16],
+    netweights: &[u16],
+    ceilings: &[u64; 16],
+    operands: &[u32],
+    frame: Frame,
+    course: Course,
+    x: usize,
+    y: usize,
+) -> Course
+    requires { ⌜ CanStep (frame .average) (frame .lots) (now ceilings) (length (now output)) (course .at) (lateAt (now operands) x y)
+        (pointOf (now counts) (now visited) (now gains) (now index) (now presentpins) (now presentsizes) (now bits) (now blocks) (now weights) (now aboves) (now fixed) (now loads) (now loadedpins) (now firsts) (now loadedsizes) (now netweights) (frame .m) (frame .k) course) ⌝ }
+    requires { ⌜ (2 ≤ y) × (x + y ≤ length (now operands)) ⌝ }
+    ensures { λ r. ⌜ (Steps (frame .average) (frame .lots) (now (ceilings .entry)) (lateAt (now (operands .entry)) x y)
+        (pointOf (now (counts .entry)) (now (visited .entry)) (now (gains .entry)) (now (index .entry)) (now (presentpins .entry)) (now (presentsizes .entry)) (now (bits .entry)) (now (blocks .entry)) (now (weights .entry)) (now (aboves .entry)) (now (fixed .entry)) (now (loads .entry)) (now (loadedpins .entry)) (now (firsts .entry)) (now (loadedsizes .entry)) (now (netweights .entry)) (frame .m) (frame .k) course)
+        (pointOf (now (counts .exit)) (now (visited .exit)) (now (gains .exit)) (now (index .exit)) (now (presentpins .exit)) (now (presentsizes .exit)) (now (bits .exit)) (now (blocks .exit)) (now (weights .exit)) (now (aboves .exit)) (now (fixed .exit)) (now (loads .exit)) (now (loadedpins .exit)) (now (firsts .exit)) (now (loadedsizes .exit)) (now (netweights .exit)) (frame .m) (frame .k) r)
+        (now (output .entry)) (now (output .exit)) (course .at) (r .at)) ⌝ }
+{
+    let bales = bales_of(operands, x);
+    let session = session_of(operands, x);
+    let buyers = buyers_of(operands, x, y);
+    add(
+        output,
+        counts,
+        visited,
+        gains,
+        index,
+        presentpins,
+        presentsizes,
+        bits,
+        blocks,
+        weights,
+        aboves,
+        fixed,
+        loads,
+        loadedpins,
+        firsts,
+        loadedsizes,
+        netweights,
+        ceilings,
+        buyers,
+        frame,
+        course,
+        bales,
+        session,
+    )
+}
+
+// One call line: its letter's byte and its two numbers.
 fn step(
     output: &mut [u8],
     counts: &mut [u16],
@@ -47,31 +126,82 @@ fn step(
     blocks: &mut [u16],
     weights: &mut [u32],
     aboves: &mut [u16],
+    fixed: &mut [u16],
     loads: &mut [u64; 16],
+    loadedpins: &mut [u16],
+    firsts: &mut [u16],
+    loadedsizes: &mut [u16],
     netweights: &[u16],
-    firsts: &[u16],
-    loadedsizes: &[u16],
     ceilings: &[u64; 16],
-    fixedmarks: [u64; 48],
-    size: Size,
+    operands: &[u32],
+    frame: Frame,
     course: Course,
     letter: u32,
     x: usize,
     y: usize,
 ) -> Course
-    requires { ⌜ CanStep
-        (tables (now counts) (now visited) (now gains) (now presentpins) (now presentsizes) (now bits) (now blocks) (now weights) (now aboves) (now loads) (now netweights) (now firsts) (now loadedsizes) (size .n) (size .m) (size .k) (course .total))
-        (two (course .stack .into) (course .stack .gone) (course .stack .len)) (two (course .journal .vertices) (course .journal .blocks) (course .journal .len)) (size .average) (now ceilings) fixedmarks (length (now output)) (course .at) (anyCall letter x y) ⌝ }
-    requires { ⌜ 16 * size .n ≤ length (now index) ⌝ }
-    ensures { λ r. ⌜ ((h : Hypergraph) (ceiling : ℕ → ℕ) → AverageIs (size .average) h → CeilingIs (now (ceilings .entry)) h ceiling → FixedIs fixedmarks h [] → Steps h ceiling
-        (tables (now (counts .entry)) (now (visited .entry)) (now (gains .entry)) (now (presentpins .entry)) (now (presentsizes .entry)) (now (bits .entry)) (now (blocks .entry)) (now (weights .entry)) (now (aboves .entry)) (now (loads .entry)) (now (netweights .entry)) (now (firsts .entry)) (now (loadedsizes .entry)) (size .n) (size .m) (size .k) (course .total))
-        (tables (now (counts .exit)) (now (visited .exit)) (now (gains .exit)) (now (presentpins .exit)) (now (presentsizes .exit)) (now (bits .exit)) (now (blocks .exit)) (now (weights .exit)) (now (aboves .exit)) (now (loads .exit)) (now (netweights .exit)) (now (firsts .exit)) (now (loadedsizes .exit)) (size .n) (size .m) (size .k) (r .total))
-        (two (course .stack .into) (course .stack .gone) (course .stack .len)) (two (r .stack .into) (r .stack .gone) (r .stack .len)) (two (course .journal .vertices) (course .journal .blocks) (course .journal .len)) (two (r .journal .vertices) (r .journal .blocks) (r .journal .len)) (anyCall letter x y) (now (output .entry)) (now (output .exit)) (course .at) (r .at)) ⌝ }
-    ensures { λ _. ⌜ KeepsRight (now (gains .entry)) (now (blocks .entry)) (now (gains .exit)) (now (blocks .exit)) (size .n) (size .k) (now (index .entry)) (now (index .exit)) ⌝ }
+    requires { ⌜ CanStep (frame .average) (frame .lots) (now ceilings) (length (now output)) (course .at) (requestOf (now operands) letter x y)
+        (pointOf (now counts) (now visited) (now gains) (now index) (now presentpins) (now presentsizes) (now bits) (now blocks) (now weights) (now aboves) (now fixed) (now loads) (now loadedpins) (now firsts) (now loadedsizes) (now netweights) (frame .m) (frame .k) course) ⌝ }
+    requires { ⌜ (letter ≡ letterN → (2 ≤ y) × (x + y ≤ length (now operands))) ⌝ }
+    ensures { λ r. ⌜ (Steps (frame .average) (frame .lots) (now (ceilings .entry)) (requestOf (now (operands .entry)) letter x y)
+        (pointOf (now (counts .entry)) (now (visited .entry)) (now (gains .entry)) (now (index .entry)) (now (presentpins .entry)) (now (presentsizes .entry)) (now (bits .entry)) (now (blocks .entry)) (now (weights .entry)) (now (aboves .entry)) (now (fixed .entry)) (now (loads .entry)) (now (loadedpins .entry)) (now (firsts .entry)) (now (loadedsizes .entry)) (now (netweights .entry)) (frame .m) (frame .k) course)
+        (pointOf (now (counts .exit)) (now (visited .exit)) (now (gains .exit)) (now (index .exit)) (now (presentpins .exit)) (now (presentsizes .exit)) (now (bits .exit)) (now (blocks .exit)) (now (weights .exit)) (now (aboves .exit)) (now (fixed .exit)) (now (loads .exit)) (now (loadedpins .exit)) (now (firsts .exit)) (now (loadedsizes .exit)) (now (netweights .exit)) (frame .m) (frame .k) r)
+        (now (output .entry)) (now (output .exit)) (course .at) (r .at)) ⌝ }
 {
-    let stack = course.stack;
-    let journal = course.journal;
-    let t = perform(
+    if letter == text::letters::X {
+        return withdraw(
+            output,
+            counts,
+            visited,
+            gains,
+            index,
+            presentpins,
+            presentsizes,
+            bits,
+            blocks,
+            weights,
+            aboves,
+            fixed,
+            loads,
+            loadedpins,
+            firsts,
+            loadedsizes,
+            netweights,
+            ceilings,
+            frame,
+            course,
+            x,
+        );
+    }
+    if letter == text::letters::N {
+        return add_from(
+            output,
+            counts,
+            visited,
+            gains,
+            index,
+            presentpins,
+            presentsizes,
+            bits,
+            blocks,
+            weights,
+            aboves,
+            fixed,
+            loads,
+            loadedpins,
+            firsts,
+            loadedsizes,
+            netweights,
+            ceilings,
+            operands,
+            frame,
+            course,
+            x,
+            y,
+        );
+    }
+    run_machine(
+        output,
         counts,
         visited,
         gains,
@@ -82,34 +212,22 @@ fn step(
         blocks,
         weights,
         aboves,
+        fixed,
         loads,
-        netweights,
+        loadedpins,
         firsts,
         loadedsizes,
+        netweights,
         ceilings,
-        fixedmarks,
-        size,
-        course.total,
-        stack,
-        journal,
+        frame,
+        course,
         letter,
         x,
         y,
-    );
-    let joins = t.stack;
-    let moves = t.journal;
-    let says = t.answer;
-    let end = put_answer(output, course.at, says);
-    Course {
-        stack: joins,
-        journal: moves,
-        total: t.total,
-        at: end,
-    }
+    )
 }
 
-// The first `count` calls of the table, three numbers each: the letter's byte and two numbers. `total` is the draft's metric. The rows of the index
-// are right from before the first call on.
+// The first `count` call lines of the table, three numbers each: the letter's byte and two numbers, which for N are a stretch of the operands.
 pub fn run_calls(
     output: &mut [u8],
     counts: &mut [u16],
@@ -122,37 +240,29 @@ pub fn run_calls(
     blocks: &mut [u16],
     weights: &mut [u32],
     aboves: &mut [u16],
+    fixed: &mut [u16],
     loads: &mut [u64; 16],
+    loadedpins: &mut [u16],
+    firsts: &mut [u16],
+    loadedsizes: &mut [u16],
     netweights: &[u16],
-    firsts: &[u16],
-    loadedsizes: &[u16],
     ceilings: &[u64; 16],
-    fixedmarks: [u64; 48],
     calls: &[u32],
+    operands: &[u32],
     count: usize,
-    size: Size,
-    total: u32,
+    frame: Frame,
+    start: Course,
 ) -> Course
-    requires { ⌜ CanRun
-        (tables (now counts) (now visited) (now gains) (now presentpins) (now presentsizes) (now bits) (now blocks) (now weights) (now aboves) (now loads) (now netweights) (now firsts) (now loadedsizes) (size .n) (size .m) (size .k) total)
-        (size .average) (now ceilings) fixedmarks (now calls) count (length (now output)) ⌝ }
-    requires { ⌜ 16 * size .n ≤ length (now index) ⌝ }
-    ensures { λ r. ⌜ ((limits : Limits) (h : Hypergraph) → Begins limits h
-        (tables (now (counts .entry)) (now (visited .entry)) (now (gains .entry)) (now (presentpins .entry)) (now (presentsizes .entry)) (now (bits .entry)) (now (blocks .entry)) (now (weights .entry)) (now (aboves .entry)) (now (loads .entry)) (now (netweights .entry)) (now (firsts .entry)) (now (loadedsizes .entry)) (size .n) (size .m) (size .k) total)
-        (size .average) (now (ceilings .entry)) fixedmarks (now (calls .entry)) count (length (now (output .entry))) → Done h (now (calls .entry)) count
-        (tables (now (counts .entry)) (now (visited .entry)) (now (gains .entry)) (now (presentpins .entry)) (now (presentsizes .entry)) (now (bits .entry)) (now (blocks .entry)) (now (weights .entry)) (now (aboves .entry)) (now (loads .entry)) (now (netweights .entry)) (now (firsts .entry)) (now (loadedsizes .entry)) (size .n) (size .m) (size .k) total)
-        (tables (now (counts .exit)) (now (visited .exit)) (now (gains .exit)) (now (presentpins .exit)) (now (presentsizes .exit)) (now (bits .exit)) (now (blocks .exit)) (now (weights .exit)) (now (aboves .exit)) (now (loads .exit)) (now (netweights .exit)) (now (firsts .exit)) (now (loadedsizes .exit)) (size .n) (size .m) (size .k) (r .total))
-        (now (index .entry)) (now (index .exit)) (two (r .stack .into) (r .stack .gone) (r .stack .len)) (two (r .journal .vertices) (r .journal .blocks) (r .journal .len)) (now (output .entry)) (now (output .exit)) (r .at)) ⌝ }
+    requires { ⌜ CanRun (frame .average) (frame .lots) (now ceilings) (now calls) (now operands) count (length (now output))
+        (pointOf (now counts) (now visited) (now gains) (now index) (now presentpins) (now presentsizes) (now bits) (now blocks) (now weights) (now aboves) (now fixed) (now loads) (now loadedpins) (now firsts) (now loadedsizes) (now netweights) (frame .m) (frame .k) start) ⌝ }
+    requires { ⌜ start .at ≡ 0 ⌝ }
+    ensures { λ r. ⌜ ((limits : Limits) (h : Hypergraph) (old : Tables) → Begins limits h old (frame .average) (frame .lots) (now (ceilings .entry)) (now (calls .entry)) (now (operands .entry)) count (length (now (output .entry)))
+        (pointOf (now (counts .entry)) (now (visited .entry)) (now (gains .entry)) (now (index .entry)) (now (presentpins .entry)) (now (presentsizes .entry)) (now (bits .entry)) (now (blocks .entry)) (now (weights .entry)) (now (aboves .entry)) (now (fixed .entry)) (now (loads .entry)) (now (loadedpins .entry)) (now (firsts .entry)) (now (loadedsizes .entry)) (now (netweights .entry)) (frame .m) (frame .k) start)
+        → Done limits h old (now (calls .entry)) (now (operands .entry)) count
+        (pointOf (now (counts .exit)) (now (visited .exit)) (now (gains .exit)) (now (index .exit)) (now (presentpins .exit)) (now (presentsizes .exit)) (now (bits .exit)) (now (blocks .exit)) (now (weights .exit)) (now (aboves .exit)) (now (fixed .exit)) (now (loads .exit)) (now (loadedpins .exit)) (now (firsts .exit)) (now (loadedsizes .exit)) (now (netweights .exit)) (frame .m) (frame .k) r)
+        (now (output .entry)) (now (output .exit)) (r .at)) ⌝ }
 {
-    put_all_right(index, gains, blocks, size.n, size.k);
-    let stack = Stack::new();
-    let journal = Journal::new();
-    let mut course = Course {
-        stack: stack,
-        journal: journal,
-        total: total,
-        at: 0,
-    };
+    let mut course = start;
     let mut i = 0;
     while i < count {
         let at = 3 * i;
@@ -168,13 +278,15 @@ pub fn run_calls(
             blocks,
             weights,
             aboves,
+            fixed,
             loads,
-            netweights,
+            loadedpins,
             firsts,
             loadedsizes,
+            netweights,
             ceilings,
-            fixedmarks,
-            size,
+            operands,
+            frame,
             course,
             calls[at],
             wide(calls[at + 1]),

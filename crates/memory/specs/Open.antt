@@ -8,8 +8,8 @@ use mathlib.Core.Path.{_≡_, refl, sym, ap, ap₂, _∙_}
 use mathlib.Core.Logic.{_⊎_, inl, inr}
 use mathlib.Core.List.{List, []}
 use lib.Dec.{ltb}
-use lib.ListN.{length, getD}
-use lib.Seq.{getD-take}
+use lib.ListN.{length, getD, take}
+use lib.Seq.{getD-take, ext-getD, length-take-le}
 use lib.IntN.{ℤ}
 use Rattle.laws.specs.Choice.{one}
 use Rattle.laws.specs.Fold.{all-get}
@@ -18,7 +18,7 @@ use Rattle.laws.specs.Occurrence.{occ, Distinct}
 use Rattle.model.specs.Catalogue.{Limits, Net, Hypergraph, vertices, fixedEntry, loaded, drafted}
 use Rattle.model.specs.Measure.{size}
 use Rattle.model.specs.Grammar.{Book, parse, reading}
-use Rattle.model.specs.Memory.{Filled, noNet, net, firstPlace}
+use Rattle.model.specs.Memory.{Filled, noNet, net, allPins, firstPlace}
 use Rattle.model.specs.Lent.{callsOf, Lists}
 use Rattle.model.specs.Demand.{Accepted as ModelAccepted}
 use Rattle.guarantees.specs.Clumps.{Within}
@@ -38,6 +38,7 @@ use Rattle.loader.specs.declared.Loaded.the-variants.{Accepted}
 use Rattle.loader.proofs.Fill.{filled-in}
 use Rattle.loader.proofs.Stretches.{nets-at}
 use Rattle.opening.specs.Opening.{Opens}
+use Rattle.renewal.specs.Nets.{first-place, Stored}
 
 -- a net's stretch ends where a later net's begins, or before
 stretch-before : (h : Hypergraph) (d e : ℕ) → d < e → firstPlace h (suc d) + length (net h (suc d) .pins) ≤ firstPlace h (suc e)
@@ -52,18 +53,18 @@ stretch-before h d e l =
     down : (n : ℕ) → suc n - 1 ≡ n
     down n = omega arith
 
-module _ {limits : Limits} {file : List ℕ} {z : Sizes} {old new : Lists} {nw lo calls : List ℕ} (narrow : limits .blockLimit ≤ 16) (short : limits .vertexLimit ≤ 1024)
-    (long : LongLists (limits .vertexLimit) old) (l : Loads limits file (Accepted z) old new nw lo calls) where
+module _ {limits : Limits} {file : List ℕ} {z : Sizes} {old new : Lists} {nw lo calls ops : List ℕ} (narrow : limits .blockLimit ≤ 16) (short : limits .vertexLimit ≤ 1024)
+    (long : LongLists (limits .vertexLimit) old) (l : Loads limits file (Accepted z) old new nw lo calls ops) where
   abbrev h : Hypergraph
   h = graph z new nw lo
 
   abbrev read : Book
-  read = book (l .estimated) (z .vertices) (z .nets) h (z .pins) (callsOf (z .calls) calls)
+  read = book (l .estimated) (z .vertices) (z .nets) h (z .pins) (callsOf ops (z .calls) calls)
 
-  parsed-as : parse limits file ≡ reading read
+  pub parsed-as : parse limits file ≡ reading read
   parsed-as = sym (l .says)
 
-  told : Accepts limits z old new nw lo calls
+  told : Accepts limits z old new nw lo calls ops
   told = l .accepts z refl
 
   -- the catalogue is accepted
@@ -76,10 +77,10 @@ module _ {limits : Limits} {file : List ℕ} {z : Sizes} {old new : Lists} {nw l
   ranges : Ranges limits h
   ranges = accepted-ranges limits h is-accepted
 
-  all-vertices : z .vertices ≡ vertices h
+  pub all-vertices : z .vertices ≡ vertices h
   all-vertices = sym (in-book .vertices-are)
 
-  all-nets : z .nets ≡ length (h .nets)
+  pub all-nets : z .nets ≡ length (h .nets)
   all-nets = sym (in-book .nets-are)
 
   net-number : (e : ℕ) → net h (suc e) ≡ netAt h e
@@ -107,13 +108,6 @@ module _ {limits : Limits} {file : List ℕ} {z : Sizes} {old new : Lists} {nw l
       ∙ ap (size h []) (net-number e)
       ∙ size-fresh h (netAt h e) (all-get (h .nets) (Within (vertices h)) noNet (ranges .loaded .nets-in) e (omega (arith, all-nets))) (all-get (h .nets) (λ n. Distinct (n .pins) 0 (length (n .pins))) noNet (ranges .loaded .nets-distinct) e (omega (arith, all-nets)))
       ∙ sym (loaded-at e le ∙ ap (λ (n : Net). length (n .pins)) (net-number e))
-
-  pub nets-few : length (h .nets) ≤ 1024
-  nets-few = omega (arith, all-nets, told .range .b-high)
-
-  -- with no contraction a net has its loaded pins
-  pub size-loaded : (e : ℕ) → e < length (h .nets) → size h [] (net h (suc e)) ≡ length (net h (suc e) .pins)
-  size-loaded e le = let q : e < z .nets = omega (arith, all-nets) in sym (present-at e q) ∙ sizes-same e q ∙ loaded-at e q
 
   listed-at : (e : ℕ) → e < z .nets → (x : ℕ) → occ (new .presentPins) (getD (new .firsts) e 0) (getD (new .presentSizes) e 0) x ≡ one (loadedPin (netAt h e) x)
   listed-at e le x =
@@ -188,11 +182,34 @@ module _ {limits : Limits} {file : List ℕ} {z : Sizes} {old new : Lists} {nw l
     λ y ly. filled-in (vertices h) _ (old .aboves) (new .aboves) (told .started .aboves) y (omega (arith, all-vertices)) (omega (arith, told .range .l-high, long .aboves)) ∙ above-none (suc y),
   )
 
+  -- the loaded marks stand buyer by buyer without gaps
+  pub stored : Stored (h .nets) (new .loadedPins) (new .firsts) (new .loadedSizes)
+  stored = record {
+    pins-are = ext-getD 0 (take marks (new .loadedPins)) (allPins (h .nets)) long-enough (λ i l. mark i (omega (arith, long-enough)));
+    first-is = λ e l. first-at e (omega (arith, all-nets)) ∙ first-place h e (omega arith);
+    size-is = λ e l. loaded-at e (omega (arith, all-nets)) ∙ ap (λ (n : Net). length (n .pins)) (net-number e);
+    firsts-fit = omega (arith, all-nets, told .range .b-high, long .firsts, told .started .firsts .as-long);
+    sizes-fit = omega (arith, all-nets, told .range .b-high, long .loadedSizes, told .started .loadedSizes .as-long);
+  }
+    where
+      marks : ℕ
+      marks = length (allPins (h .nets))
+
+      few : length (allPins (h .nets)) ≤ length (old .loadedPins)
+      few = omega (arith, marks-le limits h ranges, long .loadedPins)
+
+      long-enough : length (take marks (new .loadedPins)) ≡ length (allPins (h .nets))
+      long-enough = length-take-le marks (new .loadedPins) (omega (arith, few, told .started .loadedPins .as-long))
+
+      mark : (i : ℕ) → i < length (allPins (h .nets)) → getD (take marks (new .loadedPins)) i 0 ≡ getD (allPins (h .nets)) i 0
+      mark i l = getD-take marks (new .loadedPins) i 0 l ∙ filled-in (length (allPins (h .nets))) (λ i. getD (allPins (h .nets)) i 0) (old .loadedPins) (new .loadedPins) (told .started .loadedPins) i l (omega (arith, few))
+
+  pub fixed-at : (x : ℕ) → x < z .vertices → getD (new .fixed) x 0 ≡ fixedEntry h (x + 1)
+  fixed-at x l = filled-in (vertices h) (λ i. fixedEntry h (suc i)) (old .fixed) (new .fixed) (told .started .fixed) x (omega (arith, all-vertices)) (omega (arith, told .range .l-high, long .fixed)) ∙ sym (ap (fixedEntry h) (add-one x))
+
   -- the column of who is fixed: its marks are those of the catalogue with no contraction
   pub fixed-long : (z .vertices ≤ 1024) × (z .vertices ≤ length (new .fixed))
   fixed-long = (omega (arith, told .range .l-high), omega (arith, told .range .l-high, long .fixed, told .started .fixed .as-long))
 
   pub fixed-marked : {marks : List ℕ} → FixedMarked (new .fixed) (z .vertices) marks → FixedIs marks h []
-  fixed-marked f = f .is h (sym all-vertices) (λ x l.
-      filled-in (vertices h) (λ i. fixedEntry h (suc i)) (old .fixed) (new .fixed) (told .started .fixed) x (omega (arith, all-vertices)) (omega (arith, told .range .l-high, long .fixed))
-      ∙ sym (ap (fixedEntry h) (add-one x)))
+  fixed-marked f = f .is h (sym all-vertices) fixed-at

@@ -1,83 +1,67 @@
--- With no join standing each buyer's present marks in lent memory are its loaded ones. Rests on Open, loader's Tables and model's Demand.
--- Assumes nothing.
+-- With no join standing each buyer's present marks in lent memory are its loaded ones, of loading less withdrawals plus additions. Rests on Held and model's
+-- Demand. Assumes nothing.
 use Prim.Native.Nat.{ℕ, zero, suc, _+_, _-_, _<_, _≤_}
+use native.Mathlib.Nat.{zero-add}
 use native.Mathlib.Omega.{arith}
-use mathlib.Core.Path.{_≡_, refl, sym, ap, ap₂, _∙_}
+use mathlib.Core.Path.{_≡_, sym, ap, ap₂, _∙_}
 use mathlib.Core.List.{List, []}
-use lib.Dec.{ltb}
-use lib.ListN.{length, getD}
-use lib.IntN.{ℤ}
+use lib.ListN.{length, getD, take, drop}
+use lib.Seq.{getD-take, getD-drop}
 use Rattle.laws.specs.Choice.{one}
-use Rattle.laws.specs.Occurrence.{occ}
-use Rattle.model.specs.Catalogue.{Limits, Hypergraph}
-use Rattle.model.specs.Measure.{Contraction, pin, size}
-use Rattle.model.specs.Machine.{State}
-use Rattle.model.specs.Memory.{Tables, Filled, Holds, net, firstPlace}
-use Rattle.model.specs.Lent.{Lists, lent}
+use Rattle.laws.specs.Fold.{all-get}
+use Rattle.laws.specs.Sum.{sum-ext}
+use Rattle.laws.specs.Occurrence.{occ, same, distinct-any, Distinct}
+use Rattle.model.specs.Catalogue.{Net, Hypergraph, vertices}
+use Rattle.model.specs.Measure.{pin, size}
+use Rattle.model.specs.Memory.{noNet, net}
 use Rattle.model.specs.Demand.{LoadedSets}
-use Rattle.loader.specs.Tables.{LongLists, graph, Accepts, Loads}
-use Rattle.loader.specs.declared.Sizes.{Sizes}
-use Rattle.loader.specs.declared.Loaded.the-variants.{Accepted}
-use Rattle.loader.proofs.Fill.{filled-in}
-use Rattle.memory.specs.Open.{size-loaded, nets-few}
+use Rattle.guarantees.specs.Clumps.{Within}
+use Rattle.guarantees.specs.Splits.{pin-none}
+use Rattle.guarantees.specs.Stretches.{size-fresh}
+use Rattle.pins.specs.Stack.{loadedPin}
+use Rattle.levels.specs.Running.{netAt}
+use Rattle.operations.specs.Tables.{Tables, Sound}
+use Rattle.renewal.specs.Nets.{firstOf, Stored, stretch-is}
+use Rattle.memory.specs.Unused.{memoryOf}
+use Rattle.memory.specs.Held.{net-at, all-nets, pins-in, size-in}
 
-module _ {limits : Limits} {file : List ℕ} {z : Sizes} {old new : Lists} {nw lo calls : List ℕ} (narrow : limits .blockLimit ≤ 16) (short : limits .vertexLimit ≤ 1024)
-    (long : LongLists (limits .vertexLimit) old) (l : Loads limits file (Accepted z) old new nw lo calls) where
-  abbrev h : Hypergraph
-  h = graph z new nw lo
-
-  told : Accepts limits z old new nw lo calls
-  told = l .accepts z refl
-
-  few : length (h .nets) ≤ 1024
-  few = nets-few narrow short long l
-
-  fresh-size : (d : ℕ) → d < length (h .nets) → size h [] (net h (suc d)) ≡ length (net h (suc d) .pins)
-  fresh-size = size-loaded narrow short long l
+module _ {h : Hypergraph} {block : ℕ → ℕ} {T : Tables} (sound : Sound h [] block T) {pins : List ℕ} (stored : Stored (h .nets) pins (T .firsts) (T .loaded)) where
+  -- a place of a net's stretch
+  pin-at : (e i : ℕ) → e < length (h .nets) → i < length (netAt h e .pins) → getD pins (getD (T .firsts) e 0 + i) 0 ≡ getD (netAt h e .pins) (0 + i) 0
+  pin-at e i l u =
+      ap (λ (f : ℕ). getD pins (f + i) 0) (stored .first-is e l)
+      ∙ sym (getD-drop (firstOf (h .nets) e) pins i 0)
+      ∙ sym (getD-take (length (netAt h e .pins)) (drop (firstOf (h .nets) e) pins) i 0 u)
+      ∙ ap (λ (r : List ℕ). getD r i 0) (stretch-is stored e l)
+      ∙ ap (λ (j : ℕ). getD (netAt h e .pins) j 0) (sym (zero-add i))
 
   -- the loaded marks, as often as they are marked
-  loaded-often : (d v : ℕ) → d < length (h .nets) → occ (new .loadedPins) (firstPlace h (suc d)) (length (net h (suc d) .pins)) v ≡ one (pin [] (net h (suc d)) v)
-  loaded-often d v q =
-      ap (λ (n : ℕ). occ (new .loadedPins) (firstPlace h (suc d)) n v) (sym (fresh-size d q))
-      ∙ told .started .loadedOften (suc d) v (omega arith) (omega arith)
+  loaded-often : (e v : ℕ) → e < length (h .nets) → occ pins (getD (T .firsts) e 0) (getD (T .loaded) e 0) v ≡ one (pin [] (net h (suc e)) v)
+  unfolding occ
+  loaded-often e v l =
+      ap (λ (c : ℕ). occ pins (getD (T .firsts) e 0) c v) (stored .size-is e l)
+      ∙ sum-ext (length (netAt h e .pins)) _ (λ i. same (getD (netAt h e .pins) (0 + i) 0) v) (λ i u. ap (λ (y : ℕ). same y v) (pin-at e i l u))
+      ∙ distinct-any (netAt h e .pins) v (all-get (h .nets) _ noNet (sound .fit .ranges .loaded .nets-distinct) e l)
+      ∙ ap one (sym (pin-none (net h (suc e)) v ∙ ap (λ (a : Net). loadedPin a v) (sym (net-at h e))))
 
-  module _ {counts index visited : List ℕ} {gains : List ℤ} {t : Tables} {s : State} (q : Holds h s (lent old counts gains index visited) t) (same : t .loadedPins ≡ new .loadedPins) (none : s .stack ≡ []) where
-    entry : {value : ℕ → ℕ} {before now : List ℕ} → Filled 0 (λ i. ltb i (length (h .nets))) value before now → 1024 ≤ length before → (d : ℕ) → d < length (h .nets) → getD now d 0 ≡ value d
-    entry {value} {before} {now} f fits d u = filled-in (length (h .nets)) value before now f d u (omega (arith, few))
+  as-many : (e : ℕ) → e < length (h .nets) → getD (T .sizes) e 0 ≡ getD (T .loaded) e 0
+  as-many e l =
+      size-in sound e l
+      ∙ ap (size h []) (sym (net-at h e))
+      ∙ size-fresh h (netAt h e) (all-get (h .nets) (Within (vertices h)) noNet (sound .fit .ranges .loaded .nets-in) e l) (all-get (h .nets) (λ n. Distinct (n .pins) 0 (length (n .pins))) noNet (sound .fit .ranges .loaded .nets-distinct) e l)
+      ∙ sym (stored .size-is e l)
 
-    first-is : (d : ℕ) → d < length (h .nets) → getD (t .firsts) d 0 ≡ firstPlace h (suc d)
-    first-is = entry (q .firsts) (long .firsts)
+  down : (d : ℕ) → suc d - 1 ≡ d
+  down d = omega arith
 
-    loaded-is : (d : ℕ) → d < length (h .nets) → getD (t .loadedSizes) d 0 ≡ length (net h (suc d) .pins)
-    loaded-is = entry (q .loadedSizes) (long .loadedSizes)
+  pub loaded-sets : (fixed index : List ℕ) → LoadedSets h (memoryOf T fixed pins index)
+  loaded-sets fixed index = record { as-many = many; as-often = often }
+    where
+      many : (e : ℕ) → 1 ≤ e → e ≤ length (h .nets) → getD (T .sizes) (e - 1) 0 ≡ getD (T .loaded) (e - 1) 0
+      many zero a b = absurd (omega arith)
+      many (suc d) a b = rw (down d) (as-many d (omega arith))
 
-    present-is : (d : ℕ) → d < length (h .nets) → getD (t .presentSizes) d 0 ≡ size h [] (net h (suc d))
-    present-is d u = entry (q .presentSizes) (long .presentSizes) d u ∙ ap (λ (cs : List Contraction). size h cs (net h (suc d))) none
-
-    as-often : (d v : ℕ) → d < length (h .nets) → occ (t .presentPins) (getD (t .firsts) d 0) (getD (t .presentSizes) d 0) v ≡ occ (t .loadedPins) (getD (t .firsts) d 0) (getD (t .loadedSizes) d 0) v
-    as-often d v u =
-        ap₂ (λ (f n : ℕ). occ (t .presentPins) f n v) (first-is d u) (present-is d u)
-        ∙ ap (λ (cs : List Contraction). occ (t .presentPins) (firstPlace h (suc d)) (size h cs (net h (suc d))) v) (sym none)
-        ∙ q .presentPins .sets (suc d) v (omega arith) (omega arith)
-        ∙ ap (λ (cs : List Contraction). one (pin cs (net h (suc d)) v)) none
-        ∙ sym (loaded-often d v u)
-        ∙ ap (λ (l : List ℕ). occ l (firstPlace h (suc d)) (length (net h (suc d) .pins)) v) (sym same)
-        ∙ sym (ap₂ (λ (f n : ℕ). occ (t .loadedPins) f n v) (first-is d u) (loaded-is d u))
-
-    pub loaded-sets : LoadedSets h t
-    loaded-sets = record {
-      as-many = λ e a b. many e a b;
-      as-often = λ e v a b. often e v a b;
-    }
-      where
-        down : (d : ℕ) → suc d - 1 ≡ d
-        down d = omega arith
-
-        many : (e : ℕ) → 1 ≤ e → e ≤ length (h .nets) → getD (t .presentSizes) (e - 1) 0 ≡ getD (t .loadedSizes) (e - 1) 0
-        many zero a b = absurd (omega arith)
-        many (suc d) a b = rw (down d) (present-is d (omega arith) ∙ fresh-size d (omega arith) ∙ sym (loaded-is d (omega arith)))
-
-        often : (e v : ℕ) → 1 ≤ e → e ≤ length (h .nets)
-            → occ (t .presentPins) (getD (t .firsts) (e - 1) 0) (getD (t .presentSizes) (e - 1) 0) v ≡ occ (t .loadedPins) (getD (t .firsts) (e - 1) 0) (getD (t .loadedSizes) (e - 1) 0) v
-        often zero v a b = absurd (omega arith)
-        often (suc d) v a b = rw (down d) (as-often d v (omega arith))
+      often : (e v : ℕ) → 1 ≤ e → e ≤ length (h .nets)
+          → occ (T .pins) (getD (T .firsts) (e - 1) 0) (getD (T .sizes) (e - 1) 0) v ≡ occ pins (getD (T .firsts) (e - 1) 0) (getD (T .loaded) (e - 1) 0) v
+      often zero v a b = absurd (omega arith)
+      often (suc d) v a b = rw (down d) (pins-in sound d v (omega arith) ∙ sym (loaded-often d v (omega arith)))
