@@ -15,18 +15,18 @@ use Rattle.model.specs.Grammar.{Reading, parse}
 use Rattle.model.specs.Engine.{outcome}
 use Rattle.model.specs.Memory.{Tables as Lent, Memory, longLists, longTables, longMemory, Worked, Served, Serves}
 use Rattle.model.specs.Lent.{Lists, lent, memory}
-use Rattle.sale.specs.Files.{lotsIn, Long}
+use Rattle.sale.specs.Files.{lotsKnown, Long}
 
 -- ---- the lots of a file
 -- how many lots' entries are written, by whether lent memory is long enough
-abbrev pub lotsWritten : Bool → Reading → ℕ
-lotsWritten true r = lotsIn r
-lotsWritten false r = 0
+abbrev pub lotsWritten : Limits → Bool → Reading → ℕ
+lotsWritten limits true r = lotsKnown limits r
+lotsWritten limits false r = 0
 
 -- the engine's promise, with that number
 pub record ServesLots (limits : Limits) (file : List ℕ) (old new : Memory) (code bytes lots : ℕ) : Type 0 where
   pub serves : Serves limits file old new code bytes
-  pub lots-are : lots ≡ lotsWritten (longMemory limits old) (parse limits file)
+  pub lots-are : lots ≡ lotsWritten limits (longMemory limits old) (parse limits file)
 
 -- ---- is lent memory long enough
 -- what is long enough has its lengths
@@ -82,20 +82,20 @@ long-is limits out t counts gains index visited short narrow e q =
 module _ (limits : Limits) (file : List ℕ) (m : Memory) {r : Bool} (e : r ≡ longMemory limits m) where
   pub too-short : r ≡ false → ServesLots limits file m m 8 0 0
   too-short q = record {
-    serves = subst (λ (b : Bool). Served b (parse limits file) m m 8 0) (sym (sym e ∙ q)) (record { code-is = refl; nothing = refl; kept = refl });
-    lots-are = ap (λ (b : Bool). lotsWritten b (parse limits file)) (sym (sym e ∙ q));
+    serves = subst (λ (b : Bool). Served limits b (parse limits file) m m 8 0) (sym (sym e ∙ q)) (record { code-is = refl; nothing = refl; kept = refl });
+    lots-are = ap (λ (b : Bool). lotsWritten limits b (parse limits file)) (sym (sym e ∙ q));
   }
 
-  pub served : (m′ : Memory) {code bytes lots : ℕ} → r ≡ true → Worked (parse limits file) m m′ code bytes × (lots ≡ lotsIn (parse limits file)) → ServesLots limits file m m′ code bytes lots
+  pub served : (m′ : Memory) {code bytes lots : ℕ} → r ≡ true → Worked limits (parse limits file) m m′ code bytes × (lots ≡ lotsKnown limits (parse limits file)) → ServesLots limits file m m′ code bytes lots
   served m′ {code} {bytes} q w = record {
-    serves = subst (λ (b : Bool). Served b (parse limits file) m m′ code bytes) (sym (sym e ∙ q)) (w .0);
-    lots-are = w .1 ∙ ap (λ (b : Bool). lotsWritten b (parse limits file)) (sym (sym e ∙ q));
+    serves = subst (λ (b : Bool). Served limits b (parse limits file) m m′ code bytes) (sym (sym e ∙ q)) (w .0);
+    lots-are = w .1 ∙ ap (λ (b : Bool). lotsWritten limits b (parse limits file)) (sym (sym e ∙ q));
   }
 
 -- the bytes written lie in the output
 pub bytes-in : (limits : Limits) (file : List ℕ) (m m′ : Memory) (code bytes : ℕ) → Serves limits file m m′ code bytes → bytes ≤ length (m′ .output)
 bytes-in limits file m m′ code bytes s = go (longMemory limits m) s
   where
-    go : (b : Bool) → Served b (parse limits file) m m′ code bytes → bytes ≤ length (m′ .output)
+    go : (b : Bool) → Served limits b (parse limits file) m m′ code bytes → bytes ≤ length (m′ .output)
     go false u = omega (arith, u .nothing)
-    go true w = omega (arith, w .output .bytes, ap length (w .output .output), length-append (outcome (parse limits file) .report) (drop bytes (m .output)))
+    go true w = omega (arith, w .output .bytes, ap length (w .output .output), length-append (outcome limits (parse limits file) .report) (drop bytes (m .output)))

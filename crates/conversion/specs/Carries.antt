@@ -7,14 +7,14 @@ use mathlib.Core.List.{List, [], _∷_, _++_, map, append-nil, append-assoc}
 use borrow.Author.Tests.{leb-true, ltb-true, eqb-true, not-true}
 use lib.Dec.{eqb, leb, ltb}
 use lib.ListN.{length, length-map}
-use Rattle.laws.specs.Fold.{sumOver, any, all, All, all-map}
+use Rattle.laws.specs.Fold.{sumOver, sumOver-le, any, all, All, all-map}
 use Rattle.laws.specs.Choice.{and-left, and-right}
 use Rattle.laws.specs.Occurrence.{Distinct, distinct-more}
 use Rattle.model.specs.Catalogue.{Net, Hypergraph, mainLimits, vertices, drafted}
 use Rattle.model.specs.Machine.{fresh}
 use Rattle.model.specs.Grammar.{Fields, isNumber, value, within, overfull}
 use Rattle.guarantees.specs.Clumps.{Within}
-use Rattle.guarantees.specs.Loads.{Loaded, capped-draft}
+use Rattle.guarantees.specs.Loads.{Loaded, loaded-fair, sum-below, placed-start, capped-draft}
 use Rattle.guarantees.specs.Ranges.{Ranges}
 use Rattle.guarantees.specs.Reading.{within-range}
 use Rattle.model.specs.Hmetis.{words, numbersIn, Edge, isEdge, edgeFrom, edgeOf, edgesWeighted, code, edgeLines, Hmetis, said}
@@ -139,7 +139,7 @@ module _ (s : List ℕ) (w : Well s) (c : carried (said s) ≡ true) (t : listed
   unfolding catalogueOf
   none-fixed = all-of-map (λ b. 0) (f .listing) _ (all-map (f .listing) _ _ (λ b r. refl) listing-in)
 
-  loaded : Loaded mainLimits h
+  pub loaded : Loaded mainLimits h
   unfolding catalogueOf isCarried
   loaded =
       let p = carried-parts f c in
@@ -180,6 +180,8 @@ module _ (s : List ℕ) (w : Well s) (c : carried (said s) ≡ true) (t : listed
         vertices-high = omega (arith, vertices-is, v .1);
         nets-high = nets-few;
         marks-high = marks-few;
-        loaded = loaded;
+        total-high = omega (arith, loaded .total-is, sum-below (h .lows) (h .weights) (loaded .lows-long) (loaded .lows-in), sumOver-le (h .weights) _ (λ w. w) 65535 (loaded .weights-in) (λ w i. i .1), vertices-is, v .1);
+        loaded = loaded-fair loaded;
+        placed = placed-start mainLimits h loaded;
         draft-within = capped-draft mainLimits h o;
       }

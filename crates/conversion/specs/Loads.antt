@@ -18,7 +18,7 @@ use Rattle.written.specs.LoadsAgain.{bookOf, loads-again}
 use Rattle.model.specs.Hmetis.{Edge, Hmetis, wellWritten, said}
 use Rattle.model.specs.Convert.{carried, listed, netOf, catalogueOf, fits, refusal, converted, LoadsAs, Converts}
 use Rattle.conversion.specs.Well.{Well, well-parts}
-use Rattle.conversion.specs.Carries.{ranges, none-fixed, vertices-is, pins-in, listing-long}
+use Rattle.conversion.specs.Carries.{ranges, loaded, none-fixed, vertices-is, pins-in, listing-long}
 use Rattle.conversion.specs.Metric.{metric-is}
 
 -- an input that is not refused
@@ -60,7 +60,7 @@ module _ (s : List ℕ) (e : refusal s ≡ 0) where
       let short = leb-true _ _ (and-right (not (overfull (catalogueOf (said s)))) _ (a .fit)) in
       record {
         book = bookOf (catalogueOf (said s));
-        loads = loads-again mainLimits (omega arith) (omega arith) (catalogueOf (said s)) (ranges s w (a .carries) (a .lists) over) (none-fixed s w (a .carries) (a .lists)) refl short;
+        loads = loads-again mainLimits (omega arith) (omega arith) (catalogueOf (said s)) (ranges s w (a .carries) (a .lists) over) (loaded s w (a .carries) (a .lists)) (none-fixed s w (a .carries) (a .lists)) refl short;
         blocks = refl;
         imbalance = refl;
         weights = refl;

@@ -25,11 +25,12 @@ fn refused_list(code: u32) -> ListRan
     }
 }
 
-// A catalogue and a list of at most 512 calls, on lent memory.
+// A catalogue and a list of at most 512 calls with the operands of its N calls, on lent memory.
 #[no_mangle]
 pub extern "C" fn kapokdrill_list(
     file: &[u8],
     list: &[u32],
+    operands: &[u32],
     output: &mut [u8],
     weights: &mut [u32],
     blocks: &mut [u16],
@@ -45,7 +46,7 @@ pub extern "C" fn kapokdrill_list(
     index: &mut [u16],
     visited: &mut [u16],
 ) -> ListRan
-    ensures { λ r. ⌜ ListServes mainLimits (now (file .entry)) (now (list .entry))
+    ensures { λ r. ⌜ ListServes mainLimits (now (file .entry)) (now (list .entry)) (now (operands .entry))
         (memory (now (output .entry)) (lent (lists (now (weights .entry)) (now (blocks .entry)) (now (aboves .entry)) (now (fixed .entry)) (now (loadedpins .entry)) (now (presentpins .entry)) (now (firsts .entry)) (now (loadedsizes .entry)) (now (presentsizes .entry))) (now (counts .entry)) (now (gains .entry)) (now (index .entry)) (now (visited .entry))))
         (memory (now (output .exit)) (lent (lists (now (weights .exit)) (now (blocks .exit)) (now (aboves .exit)) (now (fixed .exit)) (now (loadedpins .exit)) (now (presentpins .exit)) (now (firsts .exit)) (now (loadedsizes .exit)) (now (presentsizes .exit))) (now (counts .exit)) (now (gains .exit)) (now (index .exit)) (now (visited .exit))))
         (returned (r .code) (r .written) (r .total) (two (r .stack .into) (r .stack .gone) (r .stack .len)) (two (r .journal .vertices) (r .journal .blocks) (r .journal .len))) ⌝ }
@@ -69,13 +70,14 @@ pub extern "C" fn kapokdrill_list(
     ) {
         return refused_list(8);
     }
-    let no = list_refusal(list);
+    let no = list_refusal(list, operands);
     if no != 0 {
         return refused_list(no);
     }
     work_list(
         file,
         list,
+        operands,
         1024,
         16,
         output,

@@ -13,10 +13,10 @@ use Rattle.model.specs.ListEntry.{listRefusal, listCalls, Returned, ListServed,
 written-in : (text old new : List ℕ) (bytes : ℕ) → Written text old new bytes → bytes ≤ length new
 written-in text old new bytes w = omega (arith, w .bytes, ap length (w .output), length-append text (drop bytes old))
 
-pub lines-in : (limits : Limits) (file list : List ℕ) (m m′ : Memory) (x : Returned) → ListServes limits file list m m′ x → x .bytes ≤ length (m′ .output)
-lines-in limits file list m m′ x = go (longMemory limits m) (listRefusal list) (parse limits file)
+pub lines-in : (limits : Limits) (file list operands : List ℕ) (m m′ : Memory) (x : Returned) → ListServes limits file list operands m m′ x → x .bytes ≤ length (m′ .output)
+lines-in limits file list operands m m′ x = go (longMemory limits m) (listRefusal list operands) (parse limits file)
   where
-    go : (b : Bool) (q : ℕ) (r : Reading) → ListServed b q limits r (listCalls list) m m′ x → x .bytes ≤ length (m′ .output)
+    go : (b : Bool) (q : ℕ) (r : Reading) → ListServed b q limits r (listCalls list operands) m m′ x → x .bytes ≤ length (m′ .output)
     go false q r u = omega (arith, u .0 .nothing)
     go true (suc q) r u = omega (arith, u .1)
     go true zero (reading k) u = written-in _ (m .output) (m′ .output) (x .bytes) (u .output)

@@ -1,4 +1,4 @@
--- What `core` and the records' entry promise. Rests on Lent, and on guarantees for how many lots an accepted file can have. Assumes nothing.
+-- What `core` and the records' entry promise. Rests on Lent, and on guarantees for how many lots there can be after the calls of a file. Assumes nothing.
 use Prim.Native.Nat.{ℕ, _≤_}
 use native.Mathlib.Omega.{arith}
 use mathlib.Core.Path.{_≡_, refl, sym, subst}
@@ -8,7 +8,7 @@ use lib.ListN.{length}
 use Rattle.model.specs.Catalogue.{Limits}
 use Rattle.model.specs.Grammar.{Reading, unread, reading, stopped, parse}
 use Rattle.model.specs.Memory.{Tables, Serves}
-use Rattle.guarantees.specs.Ranges.{accepted-ranges}
+use Rattle.guarantees.specs.Reached.{reached}
 use Rattle.columns.specs.Entry.{lotsWritten}
 use Rattle.records.specs.declared.Lot.{Lot}
 use Rattle.records.specs.declared.answering.Answer.{Answer}
@@ -16,12 +16,12 @@ use Rattle.records.specs.Over.{over}
 use Rattle.records.specs.Lent.{lentRecords}
 
 -- no more lots than the limit
-pub lots-few : (limits : Limits) (file : List ℕ) (long : Bool) → lotsWritten long (parse limits file) ≤ limits .vertexLimit
+pub lots-few : (limits : Limits) (file : List ℕ) (long : Bool) → lotsWritten limits long (parse limits file) ≤ limits .vertexLimit
 lots-few limits file false = omega arith
 lots-few limits file true = go (parse limits file) refl
   where
-    go : (r : Reading) → parse limits file ≡ r → lotsWritten true r ≤ limits .vertexLimit
-    go (reading k) q = accepted-ranges limits (k .graph) (record { file = file; book = k; loads = q; graph-is = refl }) .vertices-high
+    go : (r : Reading) → parse limits file ≡ r → lotsWritten limits true r ≤ limits .vertexLimit
+    go (reading k) q = reached limits (k .graph) (record { file = file; book = k; loads = q; graph-is = refl }) (k .calls) .ranges .vertices-high
     go (stopped c n) q = omega arith
     go unread q = omega arith
 

@@ -10,9 +10,9 @@ use borrow.Author.Tests.{leb-true, le-leb}
 use lib.Dec.{leb}
 use lib.ListN.{length, length-map}
 use Rattle.laws.specs.Choice.{and-left, and-right}
-use Rattle.model.specs.Catalogue.{Limits, Hypergraph, vertices, fixedEntry}
+use Rattle.model.specs.Catalogue.{Limits, vertices, fixedEntry}
 use Rattle.model.specs.Measure.{above}
-use Rattle.model.specs.Machine.{State, fresh}
+use Rattle.model.specs.Sale.{Sale, opened}
 use Rattle.model.specs.Grammar.{Reading, unread, reading, stopped, parse}
 use Rattle.model.specs.Engine.{after}
 use Rattle.model.specs.Memory.{Tables, Memory, longLists, longTables, longMemory, Column, weightEntry, blockEntry, Holds, Served, Serves, TablesLeft}
@@ -36,7 +36,7 @@ pub no-room : (limits : Limits) (file output : List ℕ) (lots : List Lot) (t : 
     → Serves limits file (lentRecords output lots t) (lentRecords output lots t) 8 0
 no-room limits file output lots t l = go (longMemory limits (lentRecords output lots t)) refl
   where
-    go : (long : Bool) → longMemory limits (lentRecords output lots t) ≡ long → Served long (parse limits file) (lentRecords output lots t) (lentRecords output lots t) 8 0
+    go : (long : Bool) → longMemory limits (lentRecords output lots t) ≡ long → Served limits long (parse limits file) (lentRecords output lots t) (lentRecords output lots t) 8 0
     go true q = absurd (lt-irrefl (length lots) (omega (arith, l, length-map lots (λ (x : Lot). x .bales), long-lots limits (lentRecords output lots t) q)))
     go false q = record { code-is = refl; nothing = refl; kept = refl }
 
@@ -82,8 +82,8 @@ module _ (limits : Limits) (file output output′ weights blocks aboves fixed we
       (over-column f n value before new old (omega (arith, few, l)) (omega (arith, few, old-long)))
       (subst (Column m value before) (sym same) c)
 
-  holds : (h : Hypergraph) (s : State) → n ≡ vertices h → Holds h s (own .tables) (own′ .tables) → Holds h s (lent .tables) (lent′ .tables)
-  holds h s e held = record {
+  holds : (a : Sale) → n ≡ vertices (a .graph) → Holds a (own .tables) (own′ .tables) → Holds a (lent .tables) (lent′ .tables)
+  holds a e held = let h = a .graph in let s = a .state in record {
     weights = column (λ (l : Lot). l .bales) weights weights′ (weightEntry h (s .stack) (s .block)) (vertices h) e weights-long (gathered .0) (held .weights);
     blocks = column (λ (l : Lot). l .session) blocks blocks′ (blockEntry h (s .stack) (s .block)) (vertices h) e blocks-long (gathered .1) (held .blocks);
     aboves = column (λ (l : Lot). l .above) aboves aboves′ (above (s .stack)) (vertices h) e aboves-long (gathered .2) (held .aboves);
@@ -99,12 +99,12 @@ module _ (limits : Limits) (file output output′ weights blocks aboves fixed we
     visited = held .visited;
   }
 
-  tables-left : (r : Reading) → n ≡ lotsWritten true r → TablesLeft r (own .tables) (own′ .tables) → TablesLeft r (lent .tables) (lent′ .tables)
-  tables-left (reading k) e held = holds (k .graph) (after (k .graph) (fresh (k .graph)) (k .calls)) e held
+  tables-left : (r : Reading) → n ≡ lotsWritten limits true r → TablesLeft limits r (own .tables) (own′ .tables) → TablesLeft limits r (lent .tables) (lent′ .tables)
+  tables-left (reading k) e held = holds (after limits (opened (k .graph)) (k .calls)) e held
   tables-left (stopped q l) e held = tt
   tables-left unread e held = tt
 
-  served : (long : Bool) (r : Reading) → n ≡ lotsWritten long r → Served long r own own′ code written → Served long r lent lent′ code written
+  served : (long : Bool) (r : Reading) → n ≡ lotsWritten limits long r → Served limits long r own own′ code written → Served limits long r lent lent′ code written
   served false r e s = record {
     code-is = s .code-is;
     nothing = s .nothing;
@@ -113,8 +113,8 @@ module _ (limits : Limits) (file output output′ weights blocks aboves fixed we
   served true r e s = record { code-is = s .code-is; output = s .output; tables = tables-left r e (s .tables) }
 
   -- the engine's promise, carried over to the lent records
-  pub serves-records : n ≡ lotsWritten (longMemory limits own) (parse limits file) → Serves limits file own own′ code written → Serves limits file lent lent′ code written
+  pub serves-records : n ≡ lotsWritten limits (longMemory limits own) (parse limits file) → Serves limits file own own′ code written → Serves limits file lent lent′ code written
   serves-records e s =
-      subst (λ (b : Bool). Served b (parse limits file) lent lent′ code written)
+      subst (λ (b : Bool). Served limits b (parse limits file) lent lent′ code written)
       (same-long limits output weights blocks aboves fixed _ _ _ _ t weights-long blocks-long aboves-long fixed-long (long (λ (l : Lot). l .bales)) (long (λ (l : Lot). l .session)) (long (λ (l : Lot). l .above)) (long (λ (l : Lot). l .kept)))
       (served (longMemory limits own) (parse limits file) e s)

@@ -2,11 +2,11 @@
 -- Memory. Assumes nothing.
 use Prim.Native.Nat.{ℕ}
 use native.Mathlib.Omega.{arith}
-use mathlib.Core.Path.{sym, ap, _∙_, subst}
+use mathlib.Core.Path.{_≡_, sym, ap, _∙_, subst}
 use mathlib.Core.List.{List, _++_}
 use lib.ListN.{length, drop}
-use Rattle.model.specs.Catalogue.{Limits, Hypergraph}
-use Rattle.model.specs.Machine.{Call, fresh}
+use Rattle.model.specs.Catalogue.{Limits, Hypergraph, vertices}
+use Rattle.model.specs.Sale.{Request, Sale, opened}
 use Rattle.model.specs.Report.{closing}
 use Rattle.model.specs.Engine.{after, run}
 use Rattle.model.specs.Memory.{Tables as Lent, Holds, Written}
@@ -15,6 +15,7 @@ use Rattle.text.specs.Output.{written}
 use Rattle.fields.specs.Wrote.{Wrote}
 use Rattle.report.specs.Closing.{ClosingFits}
 use Rattle.fields.proofs.Laws.{wrote-length, wrote-append}
+use Rattle.memory.specs.Close.{closingOf}
 use Rattle.sale.specs.Sale.{Sold}
 
 -- ---- the output
@@ -23,18 +24,28 @@ unfolding written
 written-all {out} {text = text} w = record { bytes = omega (arith, w .ends); output = w .is ∙ ap (λ (n : ℕ). text ++ drop n out) (sym (w .ends)) }
 
 -- ---- an accepted file
--- the report and the tables
-pub record Reported (h : Hypergraph) (calls : List Call) (old new : Lent) (out out′ : List ℕ) (bytes : ℕ) : Type 0 where
-  pub tables : Holds h (after h (fresh h) calls) old new
-  pub output : Written (run h calls) out out′ bytes
+-- the report and the tables; `n` lots are known at the end
+pub record Reported (limits : Limits) (h : Hypergraph) (calls : List Request) (old new : Lent) (out out′ : List ℕ) (bytes n : ℕ) : Type 0 where
+  pub tables : Holds (after limits (opened h) calls) old new
+  pub output : Written (run limits h calls) out out′ bytes
+  pub lots : n ≡ vertices (after limits (opened h) calls .graph)
 
-module _ {h : Hypergraph} {calls : List Call} {old new : Lent} {out out′ : List ℕ} {limits : Limits} {S J : Two} {n m draft total at : ℕ} (s : Sold limits h calls old new out out′ S J n m draft total at) where
+module _ {limits : Limits} {h : Hypergraph} {calls : List Request} {old new : Lent} {out out′ : List ℕ} {S J : Two} {n m draft total at : ℕ} (s : Sold limits h calls old new out out′ S J n m draft total at) where
+  abbrev end : Sale
+  end = after limits (opened h) calls
+
+  -- the line of the draft's total is as long as it was reckoned with
+  closing-is : closing draft (end .graph) (end .state) ≡ closingOf h end
+  closing-is = ap (λ (d : ℕ). closing d (end .graph) (end .state)) (s .draft-is)
+
   pub closes : ClosingFits (length out′) at (new .blocks) (new .aboves) (new .visited) (S .ys) n m (S .len) draft total
-  closes = record { h = h; s = after h (fresh h) calls; ended = s .ended; fits = omega (arith, s .fits, wrote-length (s .wrote) (omega (arith, s .fits, s .wrote .ends))) }
+  closes = record { h = end .graph; s = end .state; ended = s .ended; fits = omega (arith, s .fits, ap length closing-is, wrote-length (s .wrote) (omega (arith, s .fits, s .wrote .ends))) }
 
-  pub reported : {out″ : List ℕ} {r : ℕ} → Wrote out′ out″ at (closing h (after h (fresh h) calls)) r → Reported h calls old new out out″ r
+  pub reported : {out″ : List ℕ} {r : ℕ} → Wrote out′ out″ at (closing draft (end .graph) (end .state)) r → Reported limits h calls old new out out″ r n
   unfolding run
   reported {out″} {r} w = record {
     tables = s .demand .stands .tables;
-    output = written-all (subst (λ (x : List ℕ). Wrote out out″ 0 (x ++ closing h (after h (fresh h) calls)) r) (s .demand .answered) (wrote-append (omega (arith, s .fits, s .wrote .ends)) (s .wrote) w));
+    output = written-all (subst (λ (x : List ℕ). Wrote out out″ 0 (x ++ closingOf h end) r) (s .demand .answered)
+        (wrote-append (omega (arith, s .fits, s .wrote .ends)) (s .wrote) (subst (λ (x : List ℕ). Wrote out′ out″ at x r) closing-is w)));
+    lots = s .ended .sound .follows .says .all-vertices;
   }

@@ -7,7 +7,8 @@ ghost use Rattle.model.specs.Report.{digits, row};
 ghost use Rattle.model.specs.Lent.{callsOf, Lists, lists, lent};
 ghost use Rattle.fields.specs.Wrote.{Wrote};
 ghost use Rattle.loader.specs.Tables.{graph};
-ghost use Rattle.sale.specs.Sale.{Catalogued, Listed, CanSell};
+ghost use Rattle.call_list.specs.Course.{Listed};
+ghost use Rattle.sale.specs.Sale.{Catalogued, CanSell};
 ghost use Rattle.sale.specs.Reported.{Reported};
 use crate::sell;
 use loader::Sizes;
@@ -22,38 +23,46 @@ pub fn refuse(output: &mut [u8], q: u8, line: usize) -> usize
     put_refusal(output, 0, q as u32, line as u32)
 }
 
-// Runs the file's calls and writes their answers and the closing report; says where the text ends.
+// The end of a file: where its text ends, and how many vertices are known.
+pub struct Closed {
+    pub at: usize,
+    pub n: usize,
+}
+
+// Runs the file's calls and writes their answers and the closing report.
 pub fn report_sale(
     output: &mut [u8],
     weights: &mut [u32],
     blocks: &mut [u16],
     aboves: &mut [u16],
-    fixed: &[u16],
+    fixed: &mut [u16],
+    loadedpins: &mut [u16],
     presentpins: &mut [u16],
+    firsts: &mut [u16],
+    loadedsizes: &mut [u16],
     presentsizes: &mut [u16],
     counts: &mut [u16],
     gains: &mut [i32],
     index: &mut [u16],
     visited: &mut [u16],
-    firsts: &[u16],
-    loadedsizes: &[u16],
     netweights: &[u16],
     calls: &[u32],
+    operands: &[u32],
+    vmax: u32,
     z: Sizes,
-) -> usize
-    requires { ⌜ CanSell
-        (λ loadedpins. lists (now weights) (now blocks) (now aboves) (now fixed) loadedpins (now presentpins) (now firsts) (now loadedsizes) (now presentsizes))
-        z (now netweights) (now counts) (now gains) (now index) (now visited) (now calls) (z .calls) (now output) ⌝ }
-    ensures { λ r. ⌜ ((limits : Limits) (file loadedpins lows : List ℕ) (old : Lists) → Catalogued limits file z old
-        (lists (now (weights .entry)) (now (blocks .entry)) (now (aboves .entry)) (now (fixed .entry)) loadedpins (now (presentpins .entry)) (now (firsts .entry)) (now (loadedsizes .entry)) (now (presentsizes .entry)))
-        (now (netweights .entry)) lows (now (counts .entry)) (now (gains .entry)) (now (index .entry)) (now (visited .entry)) → Listed (now (calls .entry)) (z .calls) (now (output .entry))
-        → Reported (graph z
-        (lists (now (weights .entry)) (now (blocks .entry)) (now (aboves .entry)) (now (fixed .entry)) loadedpins (now (presentpins .entry)) (now (firsts .entry)) (now (loadedsizes .entry)) (now (presentsizes .entry)))
-        (now (netweights .entry)) lows) (callsOf (z .calls) (now (calls .entry))) (lent old (now (counts .entry)) (now (gains .entry)) (now (index .entry)) (now (visited .entry)))
-        (lent (lists (now (weights .exit)) (now (blocks .exit)) (now (aboves .exit)) (now (fixed .exit)) loadedpins (now (presentpins .exit)) (now (firsts .exit)) (now (loadedsizes .exit)) (now (presentsizes .exit))) (now (counts .exit)) (now (gains .exit)) (now (index .exit)) (now (visited .exit)))
-        (now (output .entry)) (now (output .exit)) r) ⌝ }
+) -> Closed
+    requires { ⌜ CanSell vmax z
+        (lists (now weights) (now blocks) (now aboves) (now fixed) (now loadedpins) (now presentpins) (now firsts) (now loadedsizes) (now presentsizes))
+        (now netweights) (now counts) (now gains) (now index) (now visited) (now calls) (now operands) (z .calls) (now output) ⌝ }
+    ensures { λ r. ⌜ ((limits : Limits) (file lows : List ℕ) (old : Lists) → Catalogued limits file vmax z old
+        (lists (now (weights .entry)) (now (blocks .entry)) (now (aboves .entry)) (now (fixed .entry)) (now (loadedpins .entry)) (now (presentpins .entry)) (now (firsts .entry)) (now (loadedsizes .entry)) (now (presentsizes .entry)))
+        (now (netweights .entry)) lows (now (counts .entry)) (now (gains .entry)) (now (index .entry)) (now (visited .entry)) → Listed (now (calls .entry)) (now (operands .entry)) (z .calls) → 60000 ≤ length (now (output .entry))
+        → Reported limits (graph z
+        (lists (now (weights .entry)) (now (blocks .entry)) (now (aboves .entry)) (now (fixed .entry)) (now (loadedpins .entry)) (now (presentpins .entry)) (now (firsts .entry)) (now (loadedsizes .entry)) (now (presentsizes .entry)))
+        (now (netweights .entry)) lows) (callsOf (now (operands .entry)) (z .calls) (now (calls .entry))) (lent old (now (counts .entry)) (now (gains .entry)) (now (index .entry)) (now (visited .entry)))
+        (lent (lists (now (weights .exit)) (now (blocks .exit)) (now (aboves .exit)) (now (fixed .exit)) (now (loadedpins .exit)) (now (presentpins .exit)) (now (firsts .exit)) (now (loadedsizes .exit)) (now (presentsizes .exit))) (now (counts .exit)) (now (gains .exit)) (now (index .exit)) (now (visited .exit)))
+        (now (output .entry)) (now (output .exit)) (r .at) (r .n)) ⌝ }
 {
-    let n = z.vertices as usize;
     let m = z.nets as usize;
     let count = z.calls;
     let s = sell(
@@ -62,23 +71,27 @@ pub fn report_sale(
         blocks,
         aboves,
         fixed,
+        loadedpins,
         presentpins,
+        firsts,
+        loadedsizes,
         presentsizes,
         counts,
         gains,
         index,
         visited,
-        firsts,
-        loadedsizes,
         netweights,
         calls,
+        operands,
         count,
+        vmax,
         z,
     );
     let stack = s.stack;
     let gone = stack.gone;
     let depth = stack.len;
-    put_closing(
+    let n = s.n;
+    let end = put_closing(
         output,
         s.at,
         blocks,
@@ -90,5 +103,6 @@ pub fn report_sale(
         depth,
         s.draft,
         s.total,
-    )
+    );
+    Closed { at: end, n: n }
 }

@@ -4,12 +4,12 @@ ghost use Rattle.model.specs.Grammar.{parse};
 ghost use Rattle.model.specs.Memory.{Worked};
 ghost use Rattle.model.specs.Lent.{lists, lent, memory};
 ghost use Rattle.lines.specs.Line.{limitsOf};
-ghost use Rattle.sale.specs.Files.{lotsIn, Long};
+ghost use Rattle.sale.specs.Files.{lotsKnown, Long};
 use loader::Loaded;
 use sale::closing::refuse;
 use sale::closing::report_sale;
 
-// 0 or the number of the refusal, 1 to 8 or 21, the bytes written, and how many lots the file has: 0 where none was accepted.
+// 0 or the number of the refusal, 1 to 8 or 21, the bytes written, and how many lots are known at the end: 0 where no file was accepted.
 pub struct Served {
     pub code: u32,
     pub written: usize,
@@ -39,14 +39,15 @@ pub fn work_file(
     requires { ⌜ Long (limitsOf vmax bmax) (now output)
         (lists (now weights) (now blocks) (now aboves) (now fixed) (now loadedpins) (now presentpins) (now firsts) (now loadedsizes) (now presentsizes))
         (now counts) (now gains) (now index) (now visited) ⌝ }
-    ensures { λ r. ⌜ Worked (parse (limitsOf vmax bmax) (now (file .entry)))
+    ensures { λ r. ⌜ Worked (limitsOf vmax bmax) (parse (limitsOf vmax bmax) (now (file .entry)))
         (memory (now (output .entry)) (lent (lists (now (weights .entry)) (now (blocks .entry)) (now (aboves .entry)) (now (fixed .entry)) (now (loadedpins .entry)) (now (presentpins .entry)) (now (firsts .entry)) (now (loadedsizes .entry)) (now (presentsizes .entry))) (now (counts .entry)) (now (gains .entry)) (now (index .entry)) (now (visited .entry))))
         (memory (now (output .exit)) (lent (lists (now (weights .exit)) (now (blocks .exit)) (now (aboves .exit)) (now (fixed .exit)) (now (loadedpins .exit)) (now (presentpins .exit)) (now (firsts .exit)) (now (loadedsizes .exit)) (now (presentsizes .exit))) (now (counts .exit)) (now (gains .exit)) (now (index .exit)) (now (visited .exit))))
-        (r .code) (r .written) × (r .lots ≡ lotsIn (parse (limitsOf vmax bmax) (now (file .entry)))) ⌝ }
+        (r .code) (r .written) × (r .lots ≡ lotsKnown (limitsOf vmax bmax) (parse (limitsOf vmax bmax) (now (file .entry)))) ⌝ }
 {
     let mut netweights = [0u16; 1024];
     let mut lows = [0u32; 1024];
     let mut calls = [0u32; 1536];
+    let mut operands = [0u32; 30000];
     match loader::load(
         file,
         vmax,
@@ -63,6 +64,7 @@ pub fn work_file(
         &mut netweights,
         &mut lows,
         &mut calls,
+        &mut operands,
     ) {
         Loaded::Refused(q, line) => {
             let end = refuse(output, q, line);
@@ -80,23 +82,25 @@ pub fn work_file(
                 blocks,
                 aboves,
                 fixed,
+                loadedpins,
                 presentpins,
+                firsts,
+                loadedsizes,
                 presentsizes,
                 counts,
                 gains,
                 index,
                 visited,
-                firsts,
-                loadedsizes,
                 &netweights,
                 &calls,
+                &operands,
+                vmax,
                 z,
             );
-            let lots = z.vertices as usize;
             Served {
                 code: 0,
-                written: end,
-                lots: lots,
+                written: end.at,
+                lots: end.n,
             }
         }
     }

@@ -1,11 +1,13 @@
-// A catalogue's bytes and a list of calls apart from each other, three numbers for each call: the letter's byte and two numbers. The list
-// need not fit into a file with the catalogue.
-ghost use Prim.Native.Nat.{_*_, _/_, _≤_};
+// A catalogue's bytes and a list of calls apart from each other, three numbers for each call: the letter's byte and two numbers, which for N are a stretch
+// of the operands. The list need not fit into a file with the catalogue.
+ghost use Prim.Native.Nat.{_+_, _*_, _/_, _≤_};
 ghost use mathlib.Core.Path.{_≡_};
+ghost use mathlib.Core.Bool.{_&&_, _||_};
+ghost use lib.Dec.{eqb, leb};
 ghost use lib.ListN.{length};
-ghost use Rattle.model.specs.Grammar.{parse};
+ghost use Rattle.model.specs.Grammar.{parse, letterA, letterX, letterN};
 ghost use Rattle.model.specs.Lent.{lists, lent, memory, two};
-ghost use Rattle.model.specs.ListEntry.{isLetter, lettersTo, listRefusal, listCalls, returned, ListWorked};
+ghost use Rattle.model.specs.ListEntry.{isLetter, isEntry, entriesTo, listRefusal, listCalls, returned, ListWorked};
 ghost use Rattle.lines.specs.Line.{limitsOf};
 ghost use Rattle.sale.specs.Files.{Long};
 use any_call::kinds::is_contracting;
@@ -26,6 +28,19 @@ pub struct ListRan {
     pub journal: LongJournal,
 }
 
+// Is this the letter A, X or N.
+fn is_other(letter: u32) -> bool
+    ensures { λ r. ⌜ r ≡ (eqb letter letterA || (eqb letter letterX || eqb letter letterN)) ⌝ }
+{
+    if letter == text::letters::A {
+        return true;
+    }
+    if letter == text::letters::X {
+        return true;
+    }
+    letter == text::letters::N
+}
+
 // Is this the letter of a call.
 fn is_letter(letter: u32) -> bool
     ensures { λ r. ⌜ r ≡ isLetter letter ⌝ }
@@ -36,17 +51,41 @@ fn is_letter(letter: u32) -> bool
     if is_moving(letter) {
         return true;
     }
-    letter == text::letters::A
+    is_other(letter)
 }
 
-// Has each of the first `count` calls the letter of a call.
-fn are_letters(list: &[u32], count: usize) -> bool
+// Are there two numbers at least, and do they lie within so many operands.
+fn is_stretch(operands: usize, x: u32, y: u32) -> bool
+    ensures { λ r. ⌜ r ≡ (leb 2 y && leb (x + y) operands) ⌝ }
+{
+    if y < 2 {
+        return false;
+    }
+    (x as u64) + (y as u64) <= operands as u64
+}
+
+// Has a call its form, with so many operands.
+fn is_entry(operands: usize, letter: u32, x: u32, y: u32) -> bool
+    ensures { λ r. ⌜ r ≡ isEntry operands letter x y ⌝ }
+{
+    if !is_letter(letter) {
+        return false;
+    }
+    if letter != text::letters::N {
+        return true;
+    }
+    is_stretch(operands, x, y)
+}
+
+// Has each of the first `count` calls its form.
+fn are_entries(list: &[u32], operands: usize, count: usize) -> bool
     requires { ⌜ (3 * count ≤ length (now list)) × (count ≤ 512) ⌝ }
-    ensures { λ r. ⌜ r ≡ lettersTo count (now (list .entry)) ⌝ }
+    ensures { λ r. ⌜ r ≡ entriesTo operands count (now (list .entry)) ⌝ }
 {
     let mut i = 0;
     while i < count {
-        if !is_letter(list[3 * i]) {
+        let at = 3 * i;
+        if !is_entry(operands, list[at], list[at + 1], list[at + 2]) {
             return false;
         }
         i += 1;
@@ -55,8 +94,8 @@ fn are_letters(list: &[u32], count: usize) -> bool
 }
 
 // The refusal of a list, or 0.
-pub fn list_refusal(list: &[u32]) -> u32
-    ensures { λ r. ⌜ r ≡ listRefusal (now (list .entry)) ⌝ }
+pub fn list_refusal(list: &[u32], operands: &[u32]) -> u32
+    ensures { λ r. ⌜ r ≡ listRefusal (now (list .entry)) (now (operands .entry)) ⌝ }
 {
     let len = list.len();
     if 1536 < len {
@@ -65,7 +104,7 @@ pub fn list_refusal(list: &[u32]) -> u32
     if len % 3 != 0 {
         return 2;
     }
-    if !are_letters(list, len / 3) {
+    if !are_entries(list, operands.len(), len / 3) {
         return 2;
     }
     0
@@ -75,6 +114,7 @@ pub fn list_refusal(list: &[u32]) -> u32
 pub fn work_list(
     file: &[u8],
     list: &[u32],
+    operands: &[u32],
     vmax: u32,
     bmax: u32,
     output: &mut [u8],
@@ -94,8 +134,8 @@ pub fn work_list(
 ) -> ListRan
     requires { ⌜ Long (limitsOf vmax bmax) (now output)
         (lists (now weights) (now blocks) (now aboves) (now fixed) (now loadedpins) (now presentpins) (now firsts) (now loadedsizes) (now presentsizes))
-        (now counts) (now gains) (now index) (now visited) × (listRefusal (now list) ≡ 0) ⌝ }
-    ensures { λ r. ⌜ ListWorked (limitsOf vmax bmax) (parse (limitsOf vmax bmax) (now (file .entry))) (listCalls (now (list .entry)))
+        (now counts) (now gains) (now index) (now visited) × (listRefusal (now list) (now operands) ≡ 0) ⌝ }
+    ensures { λ r. ⌜ ListWorked (limitsOf vmax bmax) (parse (limitsOf vmax bmax) (now (file .entry))) (listCalls (now (list .entry)) (now (operands .entry)))
         (memory (now (output .entry)) (lent (lists (now (weights .entry)) (now (blocks .entry)) (now (aboves .entry)) (now (fixed .entry)) (now (loadedpins .entry)) (now (presentpins .entry)) (now (firsts .entry)) (now (loadedsizes .entry)) (now (presentsizes .entry))) (now (counts .entry)) (now (gains .entry)) (now (index .entry)) (now (visited .entry))))
         (memory (now (output .exit)) (lent (lists (now (weights .exit)) (now (blocks .exit)) (now (aboves .exit)) (now (fixed .exit)) (now (loadedpins .exit)) (now (presentpins .exit)) (now (firsts .exit)) (now (loadedsizes .exit)) (now (presentsizes .exit))) (now (counts .exit)) (now (gains .exit)) (now (index .exit)) (now (visited .exit))))
         (returned (r .code) (r .written) (r .total) (two (r .stack .into) (r .stack .gone) (r .stack .len)) (two (r .journal .vertices) (r .journal .blocks) (r .journal .len))) ⌝ }
@@ -103,6 +143,7 @@ pub fn work_list(
     let mut netweights = [0u16; 1024];
     let mut lows = [0u32; 1024];
     let mut calls = [0u32; 1536];
+    let mut unused = [0u32; 30000];
     match loader::load(
         file,
         vmax,
@@ -119,6 +160,7 @@ pub fn work_list(
         &mut netweights,
         &mut lows,
         &mut calls,
+        &mut unused,
     ) {
         Loaded::Refused(q, line) => {
             let end = refuse(output, q, line);
@@ -141,17 +183,20 @@ pub fn work_list(
                 blocks,
                 aboves,
                 fixed,
+                loadedpins,
                 presentpins,
+                firsts,
+                loadedsizes,
                 presentsizes,
                 counts,
                 gains,
                 index,
                 visited,
-                firsts,
-                loadedsizes,
                 &netweights,
                 list,
+                operands,
                 count,
+                vmax,
                 z,
             );
             let joins = s.stack;

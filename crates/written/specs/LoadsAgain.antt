@@ -19,6 +19,7 @@ use Rattle.model.specs.Machine.{fresh}
 use Rattle.model.specs.Grammar.{bytes, Book, Reading, unread, reading, stopped, whole, overfull, grown, withLot, withNet, line, ending, lines, parts, parse}
 use Rattle.model.specs.Report.{row}
 use Rattle.model.specs.Demand.{Accepted}
+use Rattle.guarantees.specs.Loads.{Loaded}
 use Rattle.guarantees.specs.Ranges.{Ranges}
 use Rattle.guarantees.specs.Clumps.{Within}
 use Rattle.model.specs.CatalogueText.{numbers, lotText, buyText, catalogueText}
@@ -71,7 +72,7 @@ buyers : (n : ℕ) (es : List Net) → All es (Within n) → All es (λ e. Disti
 buyers n [] a b c d = tt
 buyers n (e ∷ es) a b c d = (record { weight-low = d .0 .0; weight-high = d .0 .1; some = c .0; in-range = a .0; distinct = b .0 }, buyers n es (a .1) (b .1) (c .1) (d .1))
 
-module _ (limits : Limits) (small : Short (limits .vertexLimit)) (narrow : Short (limits .blockLimit)) (h : Hypergraph) (r : Ranges limits h) (free : All (h .fixed) (λ x. x ≡ 0)) (alike : h .lows ≡ h .weights) where
+module _ (limits : Limits) (small : Short (limits .vertexLimit)) (narrow : Short (limits .blockLimit)) (h : Hypergraph) (r : Ranges limits h) (g : Loaded limits h) (free : All (h .fixed) (λ x. x ≡ 0)) (alike : h .lows ≡ h .weights) where
   not-overfull : overfull h ≡ false
   unfolding overfull fresh
   not-overfull = none-over (h .blocks) (λ s. ltb (capacity h) (blockWeight h [] (drafted h) s)) (λ s l u. le-ltb (capacity h) _ (r .draft-within s l u))
@@ -95,7 +96,6 @@ module _ (limits : Limits) (small : Short (limits .vertexLimit)) (narrow : Short
       → All us (λ w. (1 ≤ w) × (w ≤ 65535)) → All bs (λ b. (1 ≤ b) × (b ≤ h .blocks)) → All ys (λ x. x ≡ 0) → Leads limits (stage h t ws ws ds xs [] 0) (lotText us bs ++ buyText (h .nets)) (bookOf h)
   unfolding lotText withLot sumOver
   lots-lead t ws ds xs [] [] [] q e f i l o a b c =
-      let g = r .loaded in
       subst (λ (k : Book). Leads limits k (buyText (h .nets)) (bookOf h))
       (ap (λ (x : List ℕ). stage h (h .totalWeight) x (h .weights) (h .draft) (h .fixed) [] 0) alike
       ∙ ap₂ (λ (x y : List ℕ). stage h (h .totalWeight) x x y (h .fixed) [] 0) (sym e ∙ append-nil ws) (sym f ∙ append-nil ds)
@@ -118,7 +118,6 @@ module _ (limits : Limits) (small : Short (limits .vertexLimit)) (narrow : Short
   pub loads-again : length (catalogueText h) ≤ 60000 → parse limits (catalogueText h) ≡ reading (bookOf h)
   unfolding parse catalogueText
   loads-again fits =
-      let g = r .loaded in
       let first = vertices h ∷ length (h .nets) ∷ h .blocks ∷ h .imbalance ∷ [] in
       let rest = lotText (h .weights) (h .draft) ++ buyText (h .nets) in
       ap (λ (t : Bool). cond t (stopped 1 0) (lines limits 1 unread (parts 10 (row "SALE" (numbers first) ++ rest)))) (le-ltb 60000 _ fits)

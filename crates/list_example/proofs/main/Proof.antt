@@ -68,12 +68,12 @@ kapokdrill-list-requires c κs = search needs
 array-share-prefix-output : tie.Need-array-share-prefix-output
 array-share-prefix-output c =
     let at-kapokdrill-list = c .before .before .before .before .before .before .before .before .before .before .before .before .before .before in
-    lines-in _ _ _ _ _ _ (at-kapokdrill-list .kapokdrill-list .ensures)
+    lines-in _ _ _ _ _ _ _ (at-kapokdrill-list .kapokdrill-list .ensures)
 
 slice-aggregate-write-all : tie.Need-slice-aggregate-write-all
 slice-aggregate-write-all c =
     let at-kapokdrill-list = c .before .before .before .before .before .before .before .before .before .before .before .before .before .before .before in
-    sym (length-take-le _ _ (lines-in _ _ _ _ _ _ (at-kapokdrill-list .kapokdrill-list .ensures)))
+    sym (length-take-le _ _ (lines-in _ _ _ _ _ _ _ (at-kapokdrill-list .kapokdrill-list .ensures)))
 
 write-all-requires : tie.Need-write-all-requires
 write-all-requires c κs = search needs
