@@ -76,7 +76,9 @@ pub struct Buyer {
     pub marks: Vec<usize>,
 }
 
-/// All catalogue lines of a sale. `estimated` is for a file that starts with `EST`.
+/// All catalogue lines of a sale. `estimated` is for a file that starts with `EST`. A machine's own
+/// catalogue is that of loading less withdrawals plus additions: a withdrawn lot keeps its number and
+/// has no bales, as no lot in the sale does.
 #[derive(Clone, Debug, PartialEq, Eq)]
 pub struct Catalogue {
     pub estimated: bool,
@@ -97,9 +99,46 @@ impl Catalogue {
         &self.buyers[number - 1]
     }
 
-    /// The numbers of all lots, in order.
+    /// The numbers of all lots, withdrawn ones too, in order.
     pub fn lot_numbers(&self) -> std::ops::RangeInclusive<usize> {
         1..=self.lots.len()
+    }
+
+    /// Whether the lot of this number is in the sale, and not withdrawn.
+    pub fn in_sale(&self, number: usize) -> bool {
+        self.lot(number).bales > 0
+    }
+
+    /// The numbers of the lots in the sale, in order.
+    pub fn lots_in_sale(&self) -> impl Iterator<Item = usize> + '_ {
+        self.lot_numbers().filter(|&number| self.in_sale(number))
+    }
+
+    /// The marks of all buyers together.
+    pub fn mark_count(&self) -> usize {
+        self.buyers.iter().map(|buyer| buyer.marks.len()).sum()
+    }
+
+    /// Takes a lot and its marks out.
+    pub fn withdraw(&mut self, number: usize) {
+        self.lots[number - 1] = Lot::free(0, 0);
+        for buyer in &mut self.buyers {
+            buyer.marks.retain(|&mark| mark != number);
+        }
+    }
+
+    /// Puts a lot that is not kept under a number that is free or the next one; its mark stands
+    /// behind each buyer's other ones.
+    pub fn add(&mut self, number: usize, bales: u64, session: usize, buyers: &[usize]) {
+        let lot = Lot::free(bales, session);
+        if number > self.lots.len() {
+            self.lots.push(lot);
+        } else {
+            self.lots[number - 1] = lot;
+        }
+        for &buyer in buyers {
+            self.buyers[buyer - 1].marks.push(number);
+        }
     }
 
     /// The numbers of all buyers, in order.
@@ -114,15 +153,32 @@ impl Catalogue {
 }
 
 /// One call line. The numbers are as written, so they may name nothing.
-#[derive(Clone, Copy, Debug, PartialEq, Eq)]
+#[derive(Clone, Debug, PartialEq, Eq)]
 pub enum Call {
-    J { u: u64, v: u64 },
+    J {
+        u: u64,
+        v: u64,
+    },
     S,
-    M { u: u64, t: u64 },
+    M {
+        u: u64,
+        t: u64,
+    },
     B,
-    W { u: u64, v: u64 },
+    W {
+        u: u64,
+        v: u64,
+    },
     P,
     A,
+    X {
+        lot: u64,
+    },
+    N {
+        bales: u64,
+        session: u64,
+        buyers: Vec<u64>,
+    },
 }
 
 /// A whole file: the catalogue and the calls after it.

@@ -106,10 +106,14 @@ pub enum Kind {
     /// Many sessions, most of them full, and gains that are often equal, so that the best pairs of W
     /// and P are tied and the first of them have no space.
     Crowded,
+    /// Lots withdrawn and added between the other calls.
+    Withdrawn,
+    /// Lots and marks around the limits that an added lot may meet, 256 or 1,024 and 8,192.
+    Full,
 }
 
 /// All kinds with the names that the program takes.
-pub const KINDS: [(&str, Kind); 25] = [
+pub const KINDS: [(&str, Kind); 27] = [
     ("mixed", Kind::Mixed),
     ("one-lot", Kind::OneLot),
     ("no-buyers", Kind::NoBuyers),
@@ -135,6 +139,8 @@ pub const KINDS: [(&str, Kind); 25] = [
     ("kept", Kind::Kept),
     ("estimates", Kind::Estimates),
     ("crowded", Kind::Crowded),
+    ("withdrawn", Kind::Withdrawn),
+    ("full", Kind::Full),
 ];
 
 /// An accepted sale of a kind that the seed settles; mostly a small one.
@@ -149,6 +155,7 @@ pub fn sale(seed: u64) -> Vec<u8> {
     let stands = match kind {
         Kind::Large => random.in_hundred(1),
         Kind::Superfine => random.in_hundred(20),
+        Kind::Full => random.in_hundred(4),
         _ => true,
     };
     let kind = if stands { kind } else { Kind::Mixed };
@@ -159,7 +166,10 @@ pub fn sale(seed: u64) -> Vec<u8> {
     if random.in_hundred(25) {
         estimate(&mut random, &mut catalogue);
     }
-    let calls = calls_of_kind(&mut random, &catalogue, kind);
+    let mut calls = calls_of_kind(&mut random, &catalogue, kind);
+    if random.in_hundred(20) {
+        calls = with_late_lots(&mut random, &catalogue, calls);
+    }
     write_sale(&Sale { catalogue, calls })
 }
 
@@ -185,6 +195,12 @@ pub fn calls(seed: u64, catalogue: &Catalogue, count: usize) -> Vec<Call> {
         count,
         &[18, 12, 22, 12, 14, 6, 6, 10],
     )
+}
+
+/// The same with lots withdrawn and added between the other calls.
+pub fn late_calls(seed: u64, catalogue: &Catalogue, count: usize) -> Vec<Call> {
+    let mut random = Random::new(seed);
+    steered_calls(&mut random, catalogue, count, &LATE)
 }
 
 /// The bytes of a sale file.
@@ -222,6 +238,15 @@ pub fn write_sale(sale: &Sale) -> Vec<u8> {
             Call::W { u, v } => format!("W,{u},{v}\n"),
             Call::P => "P\n".to_string(),
             Call::A => "A\n".to_string(),
+            Call::X { lot } => format!("X,{lot}\n"),
+            Call::N {
+                bales,
+                session,
+                buyers,
+            } => {
+                let named: String = buyers.iter().map(|buyer| format!(",{buyer}")).collect();
+                format!("N,{bales},{session}{named}\n")
+            }
         });
     }
     text.into_bytes()
@@ -232,6 +257,7 @@ fn catalogue(random: &mut Random, kind: Kind) -> Catalogue {
         Kind::TwoSessions => 2,
         Kind::SixteenSessions => 16,
         Kind::Superfine => random.between(7, 9) as usize,
+        Kind::Full => random.between(2, 8) as usize,
         Kind::Walks | Kind::Lopsided => random.between(2, 3) as usize,
         Kind::Crowded => *random.pick(&[6, 8, 15, 16, 16]),
         _ if random.in_hundred(60) => random.between(2, 4) as usize,
@@ -241,6 +267,7 @@ fn catalogue(random: &mut Random, kind: Kind) -> Catalogue {
         Kind::OneLot => 1,
         Kind::Large => random.between(150, 400) as usize,
         Kind::Superfine => *random.pick(&[20, 255, 256, 256, 257, 258]),
+        Kind::Full => *random.pick(&[200, 253, 255, 256, 256, 1_020, 1_023, 1_024]),
         Kind::SixteenSessions | Kind::Rounds => random.between(8, 70) as usize,
         Kind::Walks | Kind::Lopsided => random.between(5, 50) as usize,
         Kind::Crowded => random.between(16, 50) as usize,
@@ -265,7 +292,7 @@ fn catalogue(random: &mut Random, kind: Kind) -> Catalogue {
         slack: match kind {
             Kind::Tight => 0,
             Kind::HalfCaps => 500,
-            Kind::Lopsided => 1_000,
+            Kind::Lopsided | Kind::Full => 1_000,
             Kind::Crowded => *random.pick(&[0, 0, 100, 300]),
             Kind::Walks | Kind::Rounds => random.between(100, 1_000),
             _ => *random.pick(&[0, 20, 100, 200, 500, 999, 1_000]),
@@ -410,7 +437,28 @@ pub(crate) fn settle_draft(made: &mut Catalogue) {
     }
 }
 
+/// Lists of all lots, or nearly all, up to 8,192 marks or some less; or few marks.
+fn full_lists(random: &mut Random, lots: usize) -> Vec<Buyer> {
+    let mut left = match random.between(0, 3) {
+        0 => random.between(0, 300) as usize,
+        _ => 8_192 - random.between(0, 6) as usize,
+    };
+    let mut buyers = Vec::new();
+    while left > 0 {
+        let count = lots.min(left);
+        buyers.push(Buyer {
+            weight: random.between(1, 9),
+            marks: random.some_lots(lots, count),
+        });
+        left -= count;
+    }
+    buyers
+}
+
 fn mark_lists(random: &mut Random, kind: Kind, lots: usize) -> Vec<Buyer> {
+    if kind == Kind::Full {
+        return full_lists(random, lots);
+    }
     let buyer_count = match kind {
         Kind::NoBuyers => 0,
         Kind::Lopsided => random.between(0, 5) as usize,
@@ -521,6 +569,15 @@ fn calls_of_kind(random: &mut Random, catalogue: &Catalogue, kind: Kind) -> Vec<
         Kind::Estimates => steered_calls(random, catalogue, 16, &[12, 10, 28, 6, 18, 8, 12, 6]),
         Kind::Lopsided => steered_calls(random, catalogue, 10, &[20, 10, 20, 10, 35, 0, 5, 0]),
         Kind::Crowded => steered_calls(random, catalogue, 12, &[18, 14, 22, 10, 26, 6, 4, 0]),
+        Kind::Withdrawn => {
+            let count = random.between(4, 40) as usize;
+            steered_calls(random, catalogue, count, &LATE)
+        }
+        Kind::Full => {
+            let chances = &[4, 6, 8, 4, 2, 0, 0, 0, 24, 44, 8];
+            let count = random.between(4, 30) as usize;
+            steered_calls(random, catalogue, count, chances)
+        }
         Kind::Rounds => {
             let mut calls = steered_calls(random, catalogue, 4, &[0, 0, 50, 10, 20, 20, 0, 0]);
             calls.push(Call::A);
@@ -546,7 +603,7 @@ fn calls_of_kind(random: &mut Random, catalogue: &Catalogue, kind: Kind) -> Vec<
         }
         Kind::Large => {
             let mut calls = steered_calls(random, catalogue, 8, &[30, 5, 30, 10, 20, 5, 0, 0]);
-            calls.extend([Call::S; 8]);
+            calls.extend(vec![Call::S; 8]);
             calls.push(Call::A);
             calls
         }
@@ -557,13 +614,17 @@ fn calls_of_kind(random: &mut Random, catalogue: &Catalogue, kind: Kind) -> Vec<
     }
 }
 
+/// Chances, as `steered_calls` takes them, of lists with lots withdrawn and added.
+const LATE: [u64; 11] = [10, 10, 16, 8, 10, 4, 5, 2, 14, 18, 3];
+
 /// Random calls with the given chances of J, S, M, B, W, P, A and of a call with any numbers
-/// at all. A machine runs along, so that most calls find what they need.
+/// at all, and then, where there are so many, of X, of N and of one of these with any numbers.
+/// A machine runs along, so that most calls find what they need.
 fn steered_calls(
     random: &mut Random,
     catalogue: &Catalogue,
     count: usize,
-    chances: &[u64; 8],
+    chances: &[u64],
 ) -> Vec<Call> {
     let mut machine = Machine::fresh(catalogue);
     let mut calls = Vec::new();
@@ -591,14 +652,19 @@ fn steered_calls(
             3 => Call::B,
             4 => {
                 let board = machine.standing().board();
-                let u = *random.pick(&board) as u64;
-                let v = *random.pick(&board) as u64;
+                let u = one_of(random, &board) as u64;
+                let v = one_of(random, &board) as u64;
                 let v = if random.in_hundred(30) { u } else { v };
                 Call::W { u, v }
             }
             5 => Call::P,
             6 => Call::A,
-            _ => any_call(random, catalogue),
+            7 => any_call(random, catalogue),
+            // No lot is withdrawn or added while a join stands.
+            8 | 9 if !machine.joins.is_empty() && random.in_hundred(85) => Call::S,
+            8 => steered_withdrawal(random, &machine),
+            9 => steered_addition(random, &machine),
+            _ => any_late_call(random, &machine),
         };
         // An answer or a refusal serves alike: only the state after the call is used.
         let _ = machine.call(&call);
@@ -607,17 +673,26 @@ fn steered_calls(
     calls
 }
 
+/// A board lot; lot 1 where all are withdrawn.
+fn one_of(random: &mut Random, board: &[usize]) -> usize {
+    if board.is_empty() {
+        1
+    } else {
+        *random.pick(board)
+    }
+}
+
 /// A join of two board lots, mostly of one session.
 fn steered_join(random: &mut Random, machine: &Machine) -> Call {
     let board = machine.standing().board();
-    let u = *random.pick(&board);
+    let u = one_of(random, &board);
     let mates: Vec<usize> = board
         .iter()
         .copied()
         .filter(|&v| v != u && machine.sessions[v] == machine.sessions[u])
         .collect();
     let v = if mates.is_empty() || random.in_hundred(5) {
-        *random.pick(&board)
+        one_of(random, &board)
     } else {
         *random.pick(&mates)
     };
@@ -631,7 +706,7 @@ fn steered_join(random: &mut Random, machine: &Machine) -> Call {
 fn steered_move(random: &mut Random, machine: &Machine) -> Call {
     let standing = machine.standing();
     let view = measure::View::of(&standing, &machine.sessions);
-    let u = *random.pick(&standing.board());
+    let u = one_of(random, &standing.board());
     let open: Vec<usize> = machine
         .catalogue
         .session_numbers()
@@ -643,6 +718,109 @@ fn steered_move(random: &mut Random, machine: &Machine) -> Call {
         *random.pick(&open) as u64
     };
     Call::M { u: u as u64, t }
+}
+
+/// A withdrawal, mostly of a lot on the board.
+fn steered_withdrawal(random: &mut Random, machine: &Machine) -> Call {
+    let lot = if random.in_hundred(6) {
+        random.between(1, machine.catalogue.lots.len() as u64)
+    } else {
+        one_of(random, &machine.standing().board()) as u64
+    };
+    Call::X { lot }
+}
+
+/// An addition to a session with space, mostly, with few buyers or many.
+fn steered_addition(random: &mut Random, machine: &Machine) -> Call {
+    let standing = machine.standing();
+    let view = measure::View::of(&standing, &machine.sessions);
+    let catalogue = &machine.catalogue;
+    let open: Vec<usize> = catalogue
+        .session_numbers()
+        .filter(|&t| view.space_for(1, t))
+        .collect();
+    let session = if open.is_empty() || random.in_hundred(4) {
+        random.between(1, catalogue.sessions as u64)
+    } else {
+        *random.pick(&open) as u64
+    };
+    let room = measure::cap(machine.loaded).saturating_sub(view.session_bales(session as usize));
+    let bales = match random.between(0, 19) {
+        0 => room + 1,
+        1..=3 => room,
+        _ => random.between(1, room.max(1)),
+    };
+    let count = catalogue.buyers.len();
+    let named = match random.between(0, 9) {
+        0 => 0,
+        1 => count.min(60),
+        _ => random.between(0, count.min(4) as u64) as usize,
+    };
+    let mut buyers = random.some_lots(count, named);
+    if named > 0 && random.in_hundred(4) {
+        let place = random.between(0, named as u64) as usize;
+        let twice = *random.pick(&buyers);
+        buyers.insert(place, twice);
+    }
+    Call::N {
+        bales: bales.clamp(1, 65_535),
+        session,
+        buyers: buyers.into_iter().map(|buyer| buyer as u64).collect(),
+    }
+}
+
+/// A withdrawal or an addition whose numbers may be unknown, off the board or named twice.
+fn any_late_call(random: &mut Random, machine: &Machine) -> Call {
+    let catalogue = &machine.catalogue;
+    let number = |random: &mut Random, highest: u64| match random.between(0, 9) {
+        0 => 0,
+        1 => highest + 1,
+        2 => *random.pick(&[999_999_999, 65_536, 65_535, 1_025, 257, 17]),
+        _ => random.between(1, highest.max(1)),
+    };
+    if random.in_hundred(40) {
+        return Call::X {
+            lot: number(random, catalogue.lots.len() as u64),
+        };
+    }
+    let bales = match random.between(0, 5) {
+        0 => *random.pick(&[0, 65_536, 65_535, 999_999_999]),
+        _ => random.between(1, 3),
+    };
+    let session = number(random, catalogue.sessions as u64);
+    let count = random.between(0, 4);
+    let buyers = (0..count)
+        .map(|_| number(random, catalogue.buyers.len() as u64))
+        .collect();
+    Call::N {
+        bales,
+        session,
+        buyers,
+    }
+}
+
+/// A list with some lots withdrawn and added in between, at most 40.
+fn with_late_lots(random: &mut Random, catalogue: &Catalogue, calls: Vec<Call>) -> Vec<Call> {
+    let often = *random.pick(&[10, 30, 60]);
+    let mut spare = (512 - calls.len()).min(40);
+    let mut machine = Machine::fresh(catalogue);
+    let mut mixed = Vec::new();
+    for call in calls {
+        while spare > 0 && machine.joins.is_empty() && random.in_hundred(often) {
+            let late = match random.between(0, 9) {
+                0..=4 => steered_addition(random, &machine),
+                5..=8 => steered_withdrawal(random, &machine),
+                _ => any_late_call(random, &machine),
+            };
+            // An answer or a refusal serves alike: only the state after the call is used.
+            let _ = machine.call(&late);
+            mixed.push(late);
+            spare -= 1;
+        }
+        let _ = machine.call(&call);
+        mixed.push(call);
+    }
+    mixed
 }
 
 /// A call whose numbers may be off the board, too high, 0 or of nine digits.
@@ -689,6 +867,8 @@ pub fn damaged(seed: u64) -> Vec<u8> {
             Kind::NoBuyers,
             Kind::Kept,
             Kind::Estimates,
+            Kind::Withdrawn,
+            Kind::Withdrawn,
         ])
     };
     let mut file = sale_of_kind(random.bits(), kind);
@@ -704,13 +884,13 @@ fn damage(random: &mut Random, mut file: Vec<u8>) -> Vec<u8> {
     }
     let length = file.len() as u64;
     let place = random.between(0, length - 1) as usize;
-    match random.between(0, 34) {
+    match random.between(0, 38) {
         0 => {
             file[place] = random.bits() as u8;
             file
         }
         1 => {
-            file[place] = *random.pick(b"0123456789,,\n\r JSMBWPALOTUYEK");
+            file[place] = *random.pick(b"0123456789,,\n\r JSMBWPAXNLOTUYEK");
             file
         }
         2 => {
@@ -799,11 +979,56 @@ fn damage(random: &mut Random, mut file: Vec<u8>) -> Vec<u8> {
             let place = random.between(0, lines.len() as u64 - 1) as usize;
             lines[place] = swap_numbers(&lines[place]);
         }),
+        28..=31 => change_lines(random, &file, |random, lines| {
+            // Mostly behind the catalogue, where a call may stand.
+            let last = lines.len() as u64;
+            let place = random.between(last - last.min(4), last) as usize;
+            lines.insert(place, late_line(random));
+        }),
         _ => change_lines(random, &file, |random, lines| {
             let place = random.between(0, lines.len() as u64 - 1) as usize;
             lines[place] = change_number(random, &lines[place]);
         }),
     }
+}
+
+/// A line near that of a withdrawal or an addition, of a bad form or with numbers that name nothing.
+fn late_line(random: &mut Random) -> Vec<u8> {
+    let lines: [&[u8]; 32] = [
+        b"X",
+        b"X,",
+        b"X,1,",
+        b"X,1,2",
+        b"X,01",
+        b"X,-1",
+        b"X,1000000000",
+        b"X,999999999",
+        b"X,0",
+        b"X,1",
+        b"X,1,K",
+        b"X 1",
+        b"x,1",
+        b"XX,1",
+        b"N",
+        b"N,",
+        b"N,1",
+        b"N,1,",
+        b"N,1,1,",
+        b"N,1,1,,1",
+        b"N,1,1,01",
+        b"N,1,1,K",
+        b"N,1,1,x",
+        b"N,1,1,1000000000",
+        b"N,1,1,999999999",
+        b"N,00,1",
+        b"N,0,1",
+        b"N,65536,1",
+        b"N,1,0",
+        b"N,1,1",
+        b"n,1,1",
+        b"NO,1,1",
+    ];
+    [*random.pick(&lines), b"\n"].concat()
 }
 
 /// Applies a change to the lines of a file and puts them together again.

@@ -38,7 +38,12 @@ pub struct Finish {
 
 /// Runs a list of calls, of any length, from a fresh machine over the catalogue.
 pub fn run_calls(catalogue: &Catalogue, calls: &[Call]) -> Finish {
-    let mut machine = Machine::fresh(catalogue);
+    run_calls_within(catalogue, calls, &Limits::default())
+}
+
+/// The same at an entry with the given limits, of which N's 23 asks.
+pub fn run_calls_within(catalogue: &Catalogue, calls: &[Call], limits: &Limits) -> Finish {
+    let mut machine = Machine::fresh_within(catalogue, limits);
     let mut text = String::new();
     for call in calls {
         text.push_str(&report::answer_line(&machine.call(call)));
@@ -68,7 +73,7 @@ pub fn run_within(file: &[u8], limits: &Limits) -> Outcome {
     match parse_within(file, limits) {
         Ok(sale) => Outcome {
             code: 0,
-            report: run_calls(&sale.catalogue, &sale.calls).report,
+            report: run_calls_within(&sale.catalogue, &sale.calls, limits).report,
         },
         Err(refusal) => Outcome {
             code: refusal.number,

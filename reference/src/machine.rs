@@ -1,13 +1,16 @@
-//! The plain machine: its state, the effect of each call and its refusals, 9 to 16 and 20.
+//! The plain machine: its state, the effect of each call and its refusals, 9 to 16, 20, 22 and 23.
 //! Rests on `measure` for every number it answers and on `search` for W, P and A.
 
-use crate::catalogue::{Call, Catalogue};
+use std::collections::BTreeSet;
+use std::rc::Rc;
+
+use crate::catalogue::{Call, Catalogue, Limits, MAX_BALES, MAX_MARKS};
 use crate::measure::{Halves, Standing, View};
 use crate::search;
 
-/// A call's lot or session is unknown.
+/// A call's lot, session or buyer is unknown, or N's bales are outside loading's range.
 pub const NO_SUCH_NUMBER: u32 = 9;
-/// The lot is joined into another.
+/// The lot is joined into another or withdrawn.
 pub const OFF_THE_BOARD: u32 = 10;
 /// J with u = v.
 pub const SAME_LOT: u32 = 11;
@@ -15,14 +18,18 @@ pub const SAME_LOT: u32 = 11;
 pub const ALREADY_THERE: u32 = 12;
 /// J across sessions.
 pub const TWO_SESSIONS: u32 = 13;
-/// M to a session whose bales and the lot's are together above the cap.
+/// M or N to a session whose bales and the lot's are together above the cap.
 pub const OVER_THE_CAP: u32 = 14;
 /// S without a join, B without a record.
 pub const NOTHING_TO_UNDO: u32 = 15;
-/// A while a join stands.
+/// A, X or N while a join stands.
 pub const JOINS_STANDING: u32 = 16;
 /// M on a kept lot.
 pub const KEPT_LOT: u32 = 20;
+/// N with a buyer named twice.
+pub const BUYER_TWICE: u32 = 22;
+/// N with the entry's limit of lots present, or its marks and those in use above 8,192.
+pub const FULL_TABLES: u32 = 23;
 
 /// What an accepted call answers.
 #[derive(Clone, Copy, Debug, PartialEq, Eq)]
@@ -60,13 +67,28 @@ pub enum Answer {
         moves: u64,
         total: u64,
     },
+    X {
+        total: u64,
+    },
+    N {
+        lot: usize,
+        total: u64,
+    },
 }
 
 /// The state: the catalogue, the stack of joins, a session for each board lot (0 off the
-/// board, place 0 unused) and the record of moves as lots with their old sessions.
+/// board, place 0 unused) and the record of moves as lots with their old sessions. The cap, the
+/// joining limit and the draft total go by `loaded`; `catalogue` is that of loading less withdrawals
+/// plus additions.
 #[derive(Clone, Debug, PartialEq, Eq)]
 pub struct Machine<'a> {
-    pub catalogue: &'a Catalogue,
+    pub loaded: &'a Catalogue,
+    pub limits: Limits,
+    pub catalogue: Rc<Catalogue>,
+    /// The numbers withdrawn and still free, the latest last.
+    pub free_numbers: Vec<usize>,
+    /// Whether an X or N was accepted, so that the tables of marks were gathered.
+    pub gathered: bool,
     pub joins: Vec<(usize, usize)>,
     pub sessions: Vec<usize>,
     pub record: Vec<(usize, usize)>,
@@ -74,11 +96,20 @@ pub struct Machine<'a> {
 
 impl<'a> Machine<'a> {
     /// The draft's sessions, no joins, an empty record.
-    pub fn fresh(catalogue: &'a Catalogue) -> Self {
+    pub fn fresh(loaded: &'a Catalogue) -> Self {
+        Machine::fresh_within(loaded, &Limits::default())
+    }
+
+    /// The same at an entry with the given limits, of which 23 asks.
+    pub fn fresh_within(loaded: &'a Catalogue, limits: &Limits) -> Self {
         let mut sessions = vec![0];
-        sessions.extend(catalogue.lots.iter().map(|lot| lot.session));
+        sessions.extend(loaded.lots.iter().map(|lot| lot.session));
         Machine {
-            catalogue,
+            loaded,
+            limits: *limits,
+            catalogue: Rc::new(loaded.clone()),
+            free_numbers: Vec::new(),
+            gathered: false,
             joins: Vec::new(),
             sessions,
             record: Vec::new(),
@@ -87,7 +118,7 @@ impl<'a> Machine<'a> {
 
     /// The standing lots of the present state.
     pub fn standing(&self) -> Standing<'a> {
-        Standing::of(self.catalogue, &self.joins)
+        Standing::of(self.loaded, &self.catalogue, &self.joins)
     }
 
     /// The total of the present state.
@@ -124,6 +155,12 @@ impl<'a> Machine<'a> {
                 }
             }
             Call::A => self.call_a()?,
+            Call::X { lot } => self.call_x(lot)?,
+            Call::N {
+                bales,
+                session,
+                ref buyers,
+            } => self.call_n(bales, session, buyers)?,
         };
         if !matches!(call, Call::M { .. } | Call::B) {
             self.record.clear();
@@ -136,10 +173,19 @@ impl<'a> Machine<'a> {
     }
 
     fn on_board(&self, lot: usize) -> Result<(), u32> {
-        if self.joins.iter().any(|&(_, v)| v == lot) {
+        let joined = self.joins.iter().any(|&(_, v)| v == lot);
+        if joined || !self.catalogue.in_sale(lot) {
             Err(OFF_THE_BOARD)
         } else {
             Ok(())
+        }
+    }
+
+    fn no_join_stands(&self) -> Result<(), u32> {
+        if self.joins.is_empty() {
+            Ok(())
+        } else {
+            Err(JOINS_STANDING)
         }
     }
 
@@ -212,9 +258,7 @@ impl<'a> Machine<'a> {
     }
 
     fn call_a(&mut self) -> Result<Answer, u32> {
-        if !self.joins.is_empty() {
-            return Err(JOINS_STANDING);
-        }
+        self.no_join_stands()?;
         let joins = search::join_down(self);
         let (mut tried, mut kept) = (0, 0);
         while let Some((u, v)) = self.split() {
@@ -228,6 +272,55 @@ impl<'a> Machine<'a> {
             tried,
             kept,
             moves,
+            total: self.total(),
+        })
+    }
+
+    fn call_x(&mut self, lot: u64) -> Result<Answer, u32> {
+        let lot = self.known_lot(lot)?;
+        self.no_join_stands()?;
+        self.on_board(lot)?;
+        Rc::make_mut(&mut self.catalogue).withdraw(lot);
+        self.sessions[lot] = 0;
+        self.free_numbers.push(lot);
+        self.gathered = true;
+        Ok(Answer::X {
+            total: self.total(),
+        })
+    }
+
+    fn call_n(&mut self, bales: u64, session: u64, buyers: &[u64]) -> Result<Answer, u32> {
+        known(bales, MAX_BALES as usize)?;
+        let session = known(session, self.catalogue.sessions)?;
+        let buyers = buyers
+            .iter()
+            .map(|&buyer| known(buyer, self.catalogue.buyers.len()))
+            .collect::<Result<Vec<usize>, u32>>()?;
+        self.no_join_stands()?;
+        let different: BTreeSet<&usize> = buyers.iter().collect();
+        if different.len() < buyers.len() {
+            return Err(BUYER_TWICE);
+        }
+        let lots = self.catalogue.lots_in_sale().count() as u64;
+        let marks = self.catalogue.mark_count() + buyers.len();
+        if lots == self.limits.lots || marks > MAX_MARKS {
+            return Err(FULL_TABLES);
+        }
+        let standing = self.standing();
+        if !View::of(&standing, &self.sessions).space_for(bales, session) {
+            return Err(OVER_THE_CAP);
+        }
+        // The number withdrawn last and still free, or the next that was never used.
+        let next = self.catalogue.lots.len() + 1;
+        let lot = self.free_numbers.pop().unwrap_or(next);
+        if lot == next {
+            self.sessions.push(0);
+        }
+        Rc::make_mut(&mut self.catalogue).add(lot, bales, session, &buyers);
+        self.sessions[lot] = session;
+        self.gathered = true;
+        Ok(Answer::N {
+            lot,
             total: self.total(),
         })
     }

@@ -1,7 +1,9 @@
 //! Cap, stand, kept lots, present mark sets, bales, counts, total and gain, each worked out afresh.
-//! Rests on the loaded catalogue, the stack of joins and the session of each board lot.
+//! Rests on the loaded catalogue, with what was withdrawn and added since, the stack of joins and the
+//! session of each board lot.
 
 use std::collections::BTreeSet;
+use std::rc::Rc;
 
 use crate::catalogue::Catalogue;
 
@@ -38,9 +40,11 @@ pub fn overfull_draft(catalogue: &Catalogue) -> bool {
 }
 
 /// What follows from the catalogue and the stack of joins, whatever the sessions are.
-/// Tables by lot or by buyer number leave place 0 unused.
+/// Tables by lot or by buyer number leave place 0 unused. The cap is that of `loaded`, the catalogue
+/// as its file has it; all else goes by `catalogue`, that of loading less withdrawals plus additions.
 pub struct Standing<'a> {
-    catalogue: &'a Catalogue,
+    loaded: &'a Catalogue,
+    catalogue: Rc<Catalogue>,
     joins: Vec<(usize, usize)>,
     above: Vec<usize>,
     stand: Vec<usize>,
@@ -51,8 +55,8 @@ pub struct Standing<'a> {
 }
 
 impl<'a> Standing<'a> {
-    /// Works everything out from the two things it rests on.
-    pub fn of(catalogue: &'a Catalogue, joins: &[(usize, usize)]) -> Self {
+    /// Works everything out from the two catalogues and the joins.
+    pub fn of(loaded: &'a Catalogue, catalogue: &Rc<Catalogue>, joins: &[(usize, usize)]) -> Self {
         let places = catalogue.lots.len() + 1;
 
         let mut above = vec![0; places];
@@ -63,15 +67,15 @@ impl<'a> Standing<'a> {
         let mut stand = vec![0; places];
         let mut bales = vec![0; places];
         let mut kept = vec![false; places];
-        for lot in catalogue.lot_numbers() {
-            let loaded = catalogue.lot(lot);
+        for lot in catalogue.lots_in_sale() {
+            let own = catalogue.lot(lot);
             let mut reached = lot;
-            bales[reached] += loaded.bales;
-            kept[reached] |= loaded.kept;
+            bales[reached] += own.bales;
+            kept[reached] |= own.kept;
             while above[reached] != 0 {
                 reached = above[reached];
-                bales[reached] += loaded.bales;
-                kept[reached] |= loaded.kept;
+                bales[reached] += own.bales;
+                kept[reached] |= own.kept;
             }
             stand[lot] = reached;
         }
@@ -90,7 +94,8 @@ impl<'a> Standing<'a> {
         }
 
         Standing {
-            catalogue,
+            loaded,
+            catalogue: Rc::clone(catalogue),
             joins: joins.to_vec(),
             above,
             stand,
@@ -106,7 +111,7 @@ impl<'a> Standing<'a> {
         self.above[lot]
     }
 
-    /// The board lot that stands for this one.
+    /// The board lot that stands for this one; 0 for a withdrawn lot, which has no stand.
     pub fn stand(&self, lot: usize) -> usize {
         self.stand[lot]
     }
@@ -147,9 +152,9 @@ impl<'a> Standing<'a> {
         taken_out
     }
 
-    /// Whether the lot is on the board.
+    /// Whether the lot is on the board: in the sale and not joined into another.
     pub fn on_board(&self, lot: usize) -> bool {
-        self.above[lot] == 0
+        self.catalogue.in_sale(lot) && self.above[lot] == 0
     }
 
     /// All board lots, in rising order.
@@ -189,7 +194,7 @@ pub struct View<'a> {
 impl<'a> View<'a> {
     /// Works everything out afresh. `sessions` has a place for each lot number.
     pub fn of(standing: &'a Standing<'a>, sessions: &[usize]) -> Self {
-        let catalogue = standing.catalogue;
+        let catalogue = &standing.catalogue;
         let width = catalogue.sessions + 1;
 
         let mut counts = vec![0; (catalogue.buyers.len() + 1) * width];
@@ -209,7 +214,7 @@ impl<'a> View<'a> {
             sessions: sessions.to_vec(),
             counts,
             session_bales,
-            cap: cap(catalogue),
+            cap: cap(standing.loaded),
         }
     }
 
@@ -251,9 +256,9 @@ impl<'a> View<'a> {
             .collect()
     }
 
-    /// Weight × (visited − 1), summed over all buyers.
+    /// Weight × (visited − 1), summed over all buyers; one left without marks adds 0.
     pub fn total(&self) -> u64 {
-        let catalogue = self.standing.catalogue;
+        let catalogue = &self.standing.catalogue;
         catalogue
             .buyer_numbers()
             .map(|buyer| {
@@ -261,7 +266,7 @@ impl<'a> View<'a> {
                     .session_numbers()
                     .filter(|&session| self.count(buyer, session) > 0)
                     .count() as u64;
-                catalogue.buyer(buyer).weight * (visited - 1)
+                catalogue.buyer(buyer).weight * visited.saturating_sub(1)
             })
             .sum()
     }
@@ -292,6 +297,11 @@ impl<'a> View<'a> {
 
     /// Whether session `t` has space for board lot `u` under the cap.
     pub fn space(&self, u: usize, t: usize) -> bool {
-        self.session_bales(t) + self.standing.bales(u) <= self.cap
+        self.space_for(self.standing.bales(u), t)
+    }
+
+    /// Whether session `t` has space for so many bales more under the cap.
+    pub fn space_for(&self, bales: u64, t: usize) -> bool {
+        self.session_bales(t) + bales <= self.cap
     }
 }

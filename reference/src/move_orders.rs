@@ -3,7 +3,7 @@
 //! Rests on `generator` for the catalogue and the list before, on `machine` to try each move.
 
 use crate::catalogue::{Call, Catalogue, Sale, MAX_CALLS};
-use crate::generator::{calls, catalogue_of_kind, write_sale, Kind, Random, KINDS};
+use crate::generator::{calls, catalogue_of_kind, late_calls, write_sale, Kind, Random, KINDS};
 use crate::machine::Machine;
 use crate::measure::View;
 
@@ -21,12 +21,16 @@ pub struct MoveOrders {
 pub fn move_orders(seed: u64) -> MoveOrders {
     let mut random = Random::new(seed ^ 0x4F_52_44_45_52);
     let (_, mut kind) = *random.pick(&KINDS);
-    if matches!(kind, Kind::Large | Kind::Superfine) {
+    if matches!(kind, Kind::Large | Kind::Superfine | Kind::Full) {
         kind = Kind::Mixed;
     }
     let catalogue = catalogue_of_kind(random.bits(), kind);
     let before_count = random.between(0, 20) as usize;
-    let before = calls(random.bits(), &catalogue, before_count);
+    let before = if random.in_hundred(40) {
+        late_calls(random.bits(), &catalogue, before_count)
+    } else {
+        calls(random.bits(), &catalogue, before_count)
+    };
     let start = after(&catalogue, &before);
 
     let most = MAX_CALLS - before.len();
@@ -104,7 +108,7 @@ fn random_moves(random: &mut Random, start: &Machine, count: usize) -> Vec<Call>
         if found.is_empty() {
             break;
         }
-        let call = *random.pick(&found);
+        let call = random.pick(&found).clone();
         machine.call(&call).expect("the move is accepted");
         moves.push(call);
     }
@@ -119,13 +123,14 @@ fn two_moves(random: &mut Random, start: &Machine) -> (Vec<Call>, Vec<Call>) {
         if found.is_empty() {
             break;
         }
-        let (one, other) = (*random.pick(&found), *random.pick(&found));
+        let (one, other) = (random.pick(&found), random.pick(&found));
         let both = |first: &Call, second: &Call| {
             let mut machine = start.clone();
             machine.call(first).is_ok() && machine.call(second).is_ok()
         };
-        if lot_of(&one) != lot_of(&other) && both(&one, &other) && both(&other, &one) {
-            return (vec![one, other], vec![other, one]);
+        if lot_of(one) != lot_of(other) && both(one, other) && both(other, one) {
+            let list = |first: &Call, second: &Call| vec![first.clone(), second.clone()];
+            return (list(one, other), list(other, one));
         }
     }
     (Vec::new(), Vec::new())
@@ -152,16 +157,16 @@ fn towards(random: &mut Random, start: &Machine, goal: &[usize], most: usize) ->
         let found = accepted_moves(&machine);
         let homeward: Vec<Call> = found
             .iter()
-            .copied()
             .filter(|call| leads_to(call, goal))
+            .cloned()
             .collect();
         let call = if homeward.is_empty() || random.in_hundred(detours) {
             if found.is_empty() {
                 return None;
             }
-            *random.pick(&found)
+            random.pick(&found).clone()
         } else {
-            *random.pick(&homeward)
+            random.pick(&homeward).clone()
         };
         machine.call(&call).expect("the move is accepted");
         moves.push(call);
@@ -182,7 +187,7 @@ fn with_returns(random: &mut Random, start: &Machine, list: &[Call], most: usize
     for call in list {
         let found = accepted_moves(&machine);
         if spare >= 2 && !found.is_empty() && random.in_hundred(60) {
-            let away = *random.pick(&found);
+            let away = random.pick(&found).clone();
             let u = lot_of(&away);
             // The session was within its cap with this lot in it, so it has space for it again.
             let back = Call::M {
@@ -193,7 +198,7 @@ fn with_returns(random: &mut Random, start: &Machine, list: &[Call], most: usize
             spare -= 2;
         }
         machine.call(call).expect("the move is accepted");
-        moves.push(*call);
+        moves.push(call.clone());
     }
     moves
 }

@@ -178,6 +178,18 @@ fn call(line: &Line) -> Option<Call> {
         b'W' => pair(b"W").map(|(u, v)| Call::W { u, v }),
         b'P' => alone(b"P").map(|_| Call::P),
         b'A' => alone(b"A").map(|_| Call::A),
+        b'X' => match numbers(b"X")?[..] {
+            [lot] => Some(Call::X { lot }),
+            _ => None,
+        },
+        b'N' => match numbers(b"N")?[..] {
+            [bales, session, ref buyers @ ..] => Some(Call::N {
+                bales,
+                session,
+                buyers: buyers.to_vec(),
+            }),
+            _ => None,
+        },
         _ => None,
     }
 }

@@ -33,18 +33,21 @@ pub fn answer_line(answer: &Result<Answer, u32>) -> String {
             moves,
             total,
         }) => format!("A,{joins},{tried},{kept},{moves},{total}\n"),
+        Ok(Answer::X { total }) => format!("X,{total}\n"),
+        Ok(Answer::N { lot, total }) => format!("N,{lot},{total}\n"),
     }
 }
 
-/// The lines after the calls: totals, the session of each lot's stand, visited per buyer.
+/// The lines after the calls: totals, the session of the stand of each lot in the sale, visited per
+/// buyer. The draft total is the one at loading.
 pub fn closing_lines(machine: &Machine) -> String {
-    let catalogue = machine.catalogue;
+    let catalogue = &machine.catalogue;
     let standing = machine.standing();
     let view = View::of(&standing, &machine.sessions);
-    let draft_total = Machine::fresh(catalogue).total();
+    let draft_total = Machine::fresh(machine.loaded).total();
 
     let mut lines = format!("TOTAL,{},{}\n", draft_total, view.total());
-    for lot in catalogue.lot_numbers() {
+    for lot in catalogue.lots_in_sale() {
         let session = view.session(standing.stand(lot));
         writeln!(lines, "LOT,{lot},{session}").expect("a string takes any text");
     }

@@ -113,11 +113,13 @@ pub fn improve(machine: &mut Machine) -> u64 {
 /// Answers their number.
 pub fn join_down(machine: &mut Machine) -> u64 {
     let mut joins = 0;
-    while machine.catalogue.lots.len() - machine.joins.len() > 2 * machine.catalogue.sessions {
+    let mut left = machine.standing().board().len();
+    while left > 2 * machine.catalogue.sessions {
         match best_join(machine) {
             Some((u, v)) => {
                 machine.join(u, v);
                 joins += 1;
+                left -= 1;
             }
             None => break,
         }
@@ -129,10 +131,10 @@ pub fn join_down(machine: &mut Machine) -> u64 {
 /// together at most ⌈W/k⌉: the one of highest rating, then lowest u, then lowest v.
 fn best_join(machine: &Machine) -> Option<(usize, usize)> {
     let standing = machine.standing();
-    let most_bales = fair_share(machine.catalogue);
+    let most_bales = fair_share(machine.loaded);
     let mut best: Option<(u64, usize, usize)> = None;
     for u in standing.board() {
-        for (v, rating) in ratings(machine.catalogue, &standing, u) {
+        for (v, rating) in ratings(&machine.catalogue, &standing, u) {
             let free = !standing.kept(u) && !standing.kept(v);
             let one_session = machine.sessions[u] == machine.sessions[v];
             let light = standing.bales(u) + standing.bales(v) <= most_bales;
@@ -173,7 +175,7 @@ fn ratings(catalogue: &Catalogue, standing: &Standing, u: usize) -> Vec<(usize, 
 /// The rating of two board lots; 0 if they share no mark set.
 pub fn rating(machine: &Machine, u: usize, v: usize) -> u64 {
     let (low, high) = (u.min(v), u.max(v));
-    ratings(machine.catalogue, &machine.standing(), low)
+    ratings(&machine.catalogue, &machine.standing(), low)
         .into_iter()
         .find(|&(lot, _)| lot == high)
         .map_or(0, |(_, rating)| rating)

@@ -7,7 +7,7 @@ use crate::machine::Machine;
 use crate::measure::View;
 
 /// A lot's record. Off the board the session is 0; on the board the lot above is 0; `kept` is 1 for
-/// a lot whose own line ends in `,K`, else 0, whatever is joined.
+/// a lot whose own line ends in `,K`, else 0, whatever is joined. A withdrawn lot's record is all 0.
 #[derive(Clone, Copy, Debug, PartialEq, Eq)]
 pub struct LotRecord {
     pub bales: u64,
@@ -28,7 +28,9 @@ pub struct BuyerRecord {
 /// vectors by session within them start with session 1, and a lot's row of the index has as many
 /// places as there are sessions. A buyer's present marks stand lowest first; behind them, to the end
 /// of its loaded stretch, those that joins took out, the last one first. Document 01 leaves this
-/// layout free; it is told, so that nothing in lent memory is left open.
+/// layout free; it is told, so that nothing in lent memory is left open. For the same reason it is
+/// told that both tables of marks hold 0 from the last mark to place 8,192 once an X or N was accepted
+/// (`gathered`); their stretches have no gaps between them.
 #[derive(Clone, Debug, PartialEq, Eq)]
 pub struct Tables {
     pub lots: Vec<LotRecord>,
@@ -40,6 +42,7 @@ pub struct Tables {
     pub gains: Vec<Vec<i64>>,
     pub index: Vec<Vec<usize>>,
     pub visited: Vec<u64>,
+    pub gathered: bool,
 }
 
 /// The place of an entry in the lent tables of counts and gains. A row of the index begins where
@@ -62,7 +65,7 @@ fn index_row(own_session: usize, gains: &[i64]) -> Vec<usize> {
 impl Tables {
     /// The tables of a machine's present state.
     pub fn of(machine: &Machine) -> Self {
-        let catalogue = machine.catalogue;
+        let catalogue = &machine.catalogue;
         let standing = machine.standing();
         let view = View::of(&standing, &machine.sessions);
 
@@ -161,6 +164,7 @@ impl Tables {
             gains,
             index,
             visited,
+            gathered: machine.gathered,
         }
     }
 }

@@ -1,6 +1,7 @@
 //! What a clump's gain means: the gain of a board lot is the fall of the unjoined catalogue's total
 //! when all lots of its clump go to the target. Everything but the gain is worked out here, from the
-//! catalogue, the stack of joins and the sessions alone.
+//! catalogue, the stack of joins and the sessions alone. The catalogue is the machine's own: that of
+//! loading less withdrawals plus additions.
 //! Rests on the library's generator, machine and table of gains.
 
 use std::collections::BTreeSet;
@@ -21,20 +22,21 @@ fn unjoined_total(catalogue: &Catalogue, place: impl Fn(usize) -> usize) -> i64 
     let mut total = 0;
     for buyer in &catalogue.buyers {
         let visited: BTreeSet<usize> = buyer.marks.iter().map(|&lot| place(lot)).collect();
-        total += buyer.weight as i64 * (visited.len() as i64 - 1);
+        // A buyer left without marks adds 0.
+        total += buyer.weight as i64 * (visited.len() as i64 - 1).max(0);
     }
     total
 }
 
 /// Every board lot's gain to every other session is what its clump's move does to the sale itself.
 fn check_clumps(machine: &Machine) {
-    let catalogue = machine.catalogue;
+    let catalogue = &machine.catalogue;
     let gains = Tables::of(machine).gains;
     let clumps: Vec<usize> = (0..=catalogue.lots.len())
         .map(|lot| clump_of(&machine.joins, lot))
         .collect();
     let now = unjoined_total(catalogue, |lot| machine.sessions[clumps[lot]]);
-    for u in catalogue.lot_numbers().filter(|&lot| clumps[lot] == lot) {
+    for u in catalogue.lots_in_sale().filter(|&lot| clumps[lot] == lot) {
         for t in catalogue
             .session_numbers()
             .filter(|&t| t != machine.sessions[u])
@@ -78,6 +80,7 @@ fn gains_of_clumps_in_sales_of_many_joins() {
         Kind::Tree,
         Kind::Nested,
         Kind::Broad,
+        Kind::Withdrawn,
     ] {
         for seed in 0..20 {
             check_file(&sale_of_kind(seed, kind));

@@ -1,7 +1,9 @@
 //! Bales not yet counted: each sentence of the request by itself, and its promise on many counts.
 //! Rests on the library's parser, measure and machine and on its generator.
 
-use reference::generator::{calls, sale, sale_of_kind, Kind, Random};
+use std::rc::Rc;
+
+use reference::generator::{calls, late_calls, sale, sale_of_kind, Kind, Random};
 use reference::measure::{cap, fair_share, Standing, View};
 use reference::{parse, run, tables_after, Catalogue, Machine};
 
@@ -155,7 +157,7 @@ fn counted(catalogue: &Catalogue, mut count: impl FnMut(u64, u64) -> u64) -> Cat
 /// The promise: with these joins and sessions no session has more of the count than the cap that
 /// the count itself gives. Answers whether some session is within one bale of that cap.
 fn within_own_cap(counted: &Catalogue, machine: &Machine) -> bool {
-    let standing = Standing::of(counted, &machine.joins);
+    let standing = Standing::of(counted, &Rc::new(counted.clone()), &machine.joins);
     let view = View::of(&standing, &machine.sessions);
     let heaviest = view.heaviest_session();
     assert!(heaviest <= cap(counted));
@@ -165,7 +167,7 @@ fn within_own_cap(counted: &Catalogue, machine: &Machine) -> bool {
 /// The promise in one state: on all lows, all highs, each lot alone at its high, each alone at its
 /// low, and some random counts. How many counts had a session within one bale of their cap.
 fn check_promise(random: &mut Random, machine: &Machine) -> usize {
-    let catalogue = machine.catalogue;
+    let catalogue = machine.loaded;
     let mut close = 0;
     let mut check = |count: &mut dyn FnMut(u64, u64) -> u64| {
         close += usize::from(within_own_cap(&counted(catalogue, count), machine));
@@ -214,6 +216,43 @@ fn no_session_passes_the_cap_of_any_count_within_the_ranges() {
         }
     }
     assert!(close > 1_000, "{close}");
+}
+
+#[test]
+fn the_promise_is_kept_for_lists_without_an_accepted_withdrawal_or_addition() {
+    let (mut kept, mut ended) = (0, 0);
+    for seed in 0..150 {
+        let sale = parse(&sale_of_kind(seed, Kind::Estimates)).expect("it is accepted");
+        let mut random = Random::new(seed);
+        let mut machine = Machine::fresh(&sale.catalogue);
+        for call in late_calls(seed, &sale.catalogue, 25) {
+            // A refused X or N changes nothing, so the promise holds behind it.
+            let _ = machine.call(&call);
+            if machine.gathered {
+                ended += 1;
+                break;
+            }
+            check_promise(&mut random, &machine);
+            kept += 1;
+        }
+    }
+    assert!(kept > 200 && ended > 100, "{kept} {ended}");
+}
+
+#[test]
+fn an_added_lot_is_low_and_high_alike_and_leaves_cap_and_joining_limit() {
+    // The lows are 4 + 4, so the even share is 4 and the cap 6; session 1 may have 4.
+    let file = b"EST,2,0,2,500\nLOT,4,4,1\nLOT,4,5,2\nN,2,1\nN,1,1\nN,1,2\nN,1,2\n";
+    let outcome = run(file);
+    assert!(outcome
+        .report
+        .starts_with(b"N,3,0\nNO,14\nN,4,0\nNO,14\nTOTAL,0,0\n"));
+    let sale = parse(file).expect("it is accepted");
+    let mut machine = Machine::fresh(&sale.catalogue);
+    machine.call(&sale.calls[0]).expect("there is space");
+    let added = machine.catalogue.lot(3);
+    assert_eq!((added.low, added.bales), (2, 2));
+    assert_eq!((fair_share(machine.loaded), cap(machine.loaded)), (4, 6));
 }
 
 #[test]

@@ -5,7 +5,7 @@
 use std::collections::BTreeSet;
 
 use reference::catalogue::Lot;
-use reference::generator::{calls, damaged, sale, sale_of_kind, Kind, KINDS};
+use reference::generator::{calls, damaged, late_calls, sale, sale_of_kind, Kind, KINDS};
 use reference::measure::{cap, fair_share, View};
 use reference::report::answer_line;
 use reference::{parse, parse_within, run, run_calls, run_fine, tables_after};
@@ -141,32 +141,47 @@ fn has_kept_lot(catalogue: &Catalogue) -> bool {
     catalogue.lots.iter().any(|lot| lot.kept)
 }
 
-/// No session above the cap, lots off the board as the rule has it, kept lots where the draft has
-/// them, sets and counts in step.
+/// No session above the cap of loading, lots off the board as the rule has it, withdrawn ones with
+/// nothing, kept lots where the draft has them, sets and counts in step.
 fn check_state(machine: &Machine) {
-    let catalogue = machine.catalogue;
+    let catalogue = &machine.catalogue;
     let standing = machine.standing();
     let view = View::of(&standing, &machine.sessions);
     let tables = Tables::of(machine);
     for session in catalogue.session_numbers() {
-        assert!(view.session_bales(session) <= cap(catalogue));
+        assert!(view.session_bales(session) <= cap(machine.loaded));
     }
     let off_board: BTreeSet<usize> = machine.joins.iter().map(|&(_, v)| v).collect();
     for lot in catalogue.lot_numbers() {
         let record = tables.lots[lot - 1];
         let joined = off_board.contains(&lot);
-        assert_eq!(record.session == 0, joined);
+        let withdrawn = machine.free_numbers.contains(&lot);
+        assert!(!joined || !withdrawn);
+        assert_eq!(record.session == 0, joined || withdrawn);
         assert_eq!(record.above != 0, joined);
-        let loaded = catalogue.lot(lot);
-        assert_eq!(record.kept == 1, loaded.kept);
-        if loaded.kept {
-            assert_eq!(view.session(standing.stand(lot)), loaded.session);
+        assert_eq!(record.bales == 0, withdrawn);
+        let own = catalogue.lot(lot);
+        assert_eq!(record.kept == 1, own.kept);
+        if own.kept {
+            assert_eq!(own, machine.loaded.lot(lot));
+            assert_eq!(view.session(standing.stand(lot)), own.session);
         }
-        if joined {
+        if joined || withdrawn {
             assert!(tables.gains[lot - 1].iter().all(|&gain| gain == 0));
+            assert!(tables.index[lot - 1].iter().all(|&session| session == 0));
         }
     }
+    let mut free = machine.free_numbers.clone();
+    free.sort_unstable();
+    free.dedup();
+    assert_eq!(free.len(), machine.free_numbers.len(), "a number twice");
+    let lots = catalogue.lots_in_sale().count();
+    assert_eq!(lots + free.len(), catalogue.lots.len());
+    assert!(lots <= 1_024 && tables.loaded_marks.len() <= 8_192);
+    let mut place = 0;
     for buyer in catalogue.buyer_numbers() {
+        assert_eq!(tables.buyers[buyer - 1].first_place, place, "a gap");
+        place += tables.buyers[buyer - 1].loaded_marks;
         let present = &tables.present_marks[buyer - 1];
         assert_eq!(present.len(), tables.buyers[buyer - 1].present_marks);
         assert_eq!(present.len() as u64, tables.counts[buyer - 1].iter().sum());
@@ -184,7 +199,7 @@ fn check_state(machine: &Machine) {
 /// The gain of every pair is the fall of the total when the move is made; what it frees are the
 /// weights of buyers that visit one session less, what it draws in those of buyers with one more.
 fn check_gains(machine: &Machine) {
-    let catalogue = machine.catalogue;
+    let catalogue = &machine.catalogue;
     let standing = machine.standing();
     let view = View::of(&standing, &machine.sessions);
     for lot in standing.board() {
@@ -242,7 +257,7 @@ fn check_calls(catalogue: &Catalogue, list: &[Call]) {
         let total = before.total();
         match machine.call(call) {
             Err(number) => {
-                assert!((9..=16).contains(&number) || number == 20);
+                assert!((9..=16).contains(&number) || [20, 22, 23].contains(&number));
                 assert_eq!(machine, before, "a refused call changes nothing");
             }
             Ok(answer) => {
@@ -303,6 +318,41 @@ fn check_answer(before: &Machine, old_total: u64, machine: &Machine, answer: Ans
             assert!(machine.joins.is_empty());
             check_no_move_left(machine);
         }
+        Answer::X { total } => {
+            assert_eq!(total, machine.total());
+            assert!(total <= old_total);
+            let (lot, earlier) = machine.free_numbers.split_last().expect("a number is free");
+            assert_eq!(earlier, before.free_numbers);
+            assert!(before.catalogue.in_sale(*lot) && !machine.catalogue.in_sale(*lot));
+        }
+        Answer::N { lot, total } => {
+            assert_eq!(total, machine.total());
+            assert!(total >= old_total);
+            let next = before.catalogue.lots.len() + 1;
+            assert_eq!(lot, *before.free_numbers.last().unwrap_or(&next));
+            let mut withdrawn = machine.clone();
+            assert_eq!(
+                withdrawn.call(&Call::X { lot: lot as u64 }),
+                Ok(Answer::X { total: old_total }),
+                "X takes back N's total"
+            );
+        }
+    }
+    if matches!(answer, Answer::X { .. } | Answer::N { .. }) {
+        assert!(before.joins.is_empty() && machine.joins.is_empty());
+        assert!(machine.gathered);
+        let others = |machine: &Machine| {
+            let mut lots = machine.sessions.clone();
+            lots.resize(before.sessions.len(), 0);
+            lots
+        };
+        let (old, new) = (others(before), others(machine));
+        let differ = (0..old.len()).filter(|&lot| old[lot] != new[lot]).count();
+        assert!(differ <= 1, "another lot moved");
+    } else {
+        assert_eq!(machine.catalogue, before.catalogue);
+        assert_eq!(machine.free_numbers, before.free_numbers);
+        assert_eq!(machine.gathered, before.gathered);
     }
 }
 
@@ -312,6 +362,71 @@ fn generated_sales_keep_the_invariants() {
         let sale = parse(&sale(seed)).expect("a generated sale is accepted");
         check_calls(&sale.catalogue, &sale.calls);
     }
+}
+
+#[test]
+fn withdrawn_and_added_lots_keep_the_invariants() {
+    let mut refusals = BTreeSet::new();
+    let (mut withdrawn, mut added, mut reused, mut past) = (0, 0, 0, 0);
+    let mut go = |catalogue: &Catalogue, list: &[Call]| {
+        check_calls(catalogue, list);
+        let mut machine = Machine::fresh(catalogue);
+        for call in list {
+            let late = matches!(call, Call::X { .. } | Call::N { .. });
+            match machine.call(call) {
+                Ok(Answer::X { .. }) => withdrawn += 1,
+                Ok(Answer::N { lot, .. }) => {
+                    added += 1;
+                    reused += usize::from(lot <= catalogue.lots.len());
+                    past += usize::from(lot > catalogue.lots.len());
+                }
+                Ok(_) => {}
+                Err(number) if late => {
+                    refusals.insert(number);
+                }
+                Err(_) => {}
+            }
+        }
+    };
+    for seed in 0..300 {
+        let sale = parse(&sale_of_kind(seed, Kind::Withdrawn)).expect("it is accepted");
+        go(&sale.catalogue, &sale.calls);
+    }
+    for seed in 0..300 {
+        let sale = parse(&sale(seed)).expect("it is accepted");
+        go(&sale.catalogue, &late_calls(seed, &sale.catalogue, 30));
+    }
+    for seed in 0..6 {
+        let sale = parse(&sale_of_kind(seed, Kind::Full)).expect("it is accepted");
+        // The gains of a thousand lots are looked at elsewhere.
+        let mut machine = Machine::fresh(&sale.catalogue);
+        for call in &sale.calls {
+            if let Err(number) = machine.call(call) {
+                refusals.insert(number);
+            }
+            check_state(&machine);
+        }
+    }
+    assert!(withdrawn > 1_000, "{withdrawn}");
+    assert!(added > 1_000, "{added}");
+    assert!(reused > 300 && past > 300, "{reused}, {past}");
+    for number in [9, 10, 14, 16, 22, 23] {
+        assert!(refusals.contains(&number), "no call gave {number}");
+    }
+}
+
+#[test]
+fn sales_of_full_tables_meet_23_at_both_entries() {
+    let (mut main, mut fine, mut differ) = (0, 0, 0);
+    for seed in 0..40 {
+        let file = sale_of_kind(seed, Kind::Full);
+        let (at_main, at_fine) = (run(&file), run_fine(&file));
+        let told = |report: &[u8]| report.windows(6).any(|text| text == b"NO,23\n");
+        main += usize::from(told(&at_main.report));
+        fine += usize::from(told(&at_fine.report));
+        differ += usize::from(at_fine.code == 0 && at_fine != at_main);
+    }
+    assert!(main > 8 && fine > 8 && differ > 4, "{main} {fine} {differ}");
 }
 
 #[test]
@@ -339,7 +454,8 @@ fn splits_bring_back_the_board_of_the_joins() {
         }
         while machine.call(&Call::S).is_ok() {}
         assert!(machine.joins.is_empty());
-        assert!(machine.sessions[1..].iter().all(|&session| session > 0));
+        let mut in_sale = machine.catalogue.lots_in_sale();
+        assert!(in_sale.all(|lot| machine.sessions[lot] > 0));
         check_state(&machine);
     }
 }
@@ -354,6 +470,8 @@ fn all_answers_have_their_lines() {
         total: 9,
     };
     assert_eq!(line(Ok(moved)), "M,3,10,9\n");
+    assert_eq!(line(Ok(Answer::X { total: 7 })), "X,7\n");
+    assert_eq!(line(Ok(Answer::N { lot: 4, total: 7 })), "N,4,7\n");
     assert_eq!(line(Err(14)), "NO,14\n");
 }
 

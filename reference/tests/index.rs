@@ -208,6 +208,14 @@ fn the_first_open_pair_is_the_full_searchs() {
 }
 
 #[test]
+fn the_first_open_pair_is_the_full_searchs_with_lots_withdrawn_and_added() {
+    let seen = check_sales(150, |seed| sale_of_kind(seed, Kind::Withdrawn));
+    assert!(seen.choices > 3_000, "{seen:?}");
+    assert!(seen.tied_lots > 500, "{seen:?}");
+    assert!(seen.closed > 500, "{seen:?}");
+}
+
+#[test]
 fn choices_of_crowded_sales_are_tied_and_far_down() {
     let seen = check_sales(60, |seed| sale_of_kind(seed, Kind::Crowded));
     assert!(2 * seen.tied_lots > seen.choices, "{seen:?}");

@@ -108,7 +108,7 @@ fn every_refusal_of_a_file_and_of_a_call_is_on_file() {
     }
     assert!((1..=7).chain([21]).all(|number| of_files.contains(&number)));
     assert!((9..=16)
-        .chain([20])
+        .chain([20, 22, 23])
         .all(|number: u32| of_calls.contains(&number)));
 }
 
