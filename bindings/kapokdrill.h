@@ -46,7 +46,7 @@ typedef struct {
     size_t written;
 } kapokdrill_result;
 
-/* A lot's record. */
+/* A lot's record; all 0 for a withdrawn lot, and a lot that was added under its number is not kept. */
 typedef struct {
     /* Its bales, with those of the lots joined into it; off the board, what it had when joined. */
     uint32_t bales;
@@ -62,13 +62,15 @@ typedef struct {
  *
  * Under 0 the tables hold the sale as the calls left it: a lot's record is at number - 1, a net's
  * entry likewise, and those of counts and gains at 16 * (number - 1) + block - 1. Entries that the
- * sale has no use for, and output past the report, keep what they held. Under 1 to 7 and 21 the tables
- * hold nothing of use; under 8 nothing is touched. */
+ * sale has no use for, and output past the report, keep what they held; but once an X or N was
+ * accepted, both tables of pins hold 0 from the last pin to place KAPOKDRILL_PINS. Under 1 to 7 and 21
+ * the tables hold nothing of use; under 8 nothing is touched. */
 typedef kapokdrill_result kapokdrill_entry(
     const uint8_t *file, size_t file_length,
     kapokdrill_lot *lots, size_t lots_length,
     uint8_t *output, size_t output_length,
-    /* All pins, net by net, in the file's order. */
+    /* All pins, net by net without gaps, in the file's order: those of withdrawn lots taken out, and
+     * an added lot's behind the net's others. */
     uint16_t *loadedpins, size_t loadedpins_length,
     /* The pins as they stand, each net's from the same place on, the lowest first; behind them, to
      * the end of the net's stretch, the pins that joins took out, the last one first: of each join
@@ -114,8 +116,9 @@ typedef struct {
 
 typedef struct {
     /* As in kapokdrill_result. The list is refused too, after 8 and before the file: 7 for more
-     * than 512 calls, 2 where it is not three numbers for each call with a call's letter first.
-     * Then nothing is touched. */
+     * than 512 calls, 2 where it is not three numbers for each call with a call's letter first, or
+     * has an N with fewer than two operands or with operands past `operands_length`. Then nothing is
+     * touched. */
     uint32_t code;
     /* The bytes of `output` that hold the lines of the answers, or the line of a refused file. */
     size_t written;
@@ -127,12 +130,14 @@ typedef struct {
 } kapokdrill_list_result;
 
 /* Reads a sale file and runs a list of calls on its catalogue: three numbers for each call, the
- * letter's byte and two numbers, which are not looked at where the call has none. Calls that the
- * file holds are read and do not run. The list need not fit into a file with the catalogue. The
- * fields of the lots' records are four tables here. */
+ * letter's byte and two numbers, which are not looked at where the call has none. X has the lot as
+ * the first of them. N has `first` and `count`: operands[first] to operands[first + count - 1] are
+ * its bales, its session and its buyers. Calls that the file holds are read and do not run. The list
+ * need not fit into a file with the catalogue. The fields of the lots' records are four tables here. */
 kapokdrill_list_result kapokdrill_list(
     const uint8_t *file, size_t file_length,
     const uint32_t *list, size_t list_length,
+    const uint32_t *operands, size_t operands_length,
     uint8_t *output, size_t output_length,
     /* bales, sessions, lots above and who is kept */
     uint32_t *weights, size_t weights_length,

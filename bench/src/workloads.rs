@@ -3,7 +3,7 @@
 
 use reference::catalogue::{Buyer, Lot};
 use reference::generator::{calls, write_sale, Random};
-use reference::{Call, Catalogue, Sale};
+use reference::{Call, Catalogue, Machine, Sale};
 
 pub struct Workload {
     pub name: &'static str,
@@ -48,12 +48,77 @@ fn joins_and_splits(catalogue: &Catalogue, pairs: usize) -> Vec<Call> {
     list
 }
 
+/// The buyers of a lot.
+fn buyers_of(catalogue: &Catalogue, lot: usize) -> Vec<u64> {
+    let numbers = catalogue.buyer_numbers();
+    let of_lot = numbers.filter(|&buyer| catalogue.buyer(buyer).marks.contains(&lot));
+    of_lot.map(|buyer| buyer as u64).collect()
+}
+
+/// A lot of few buyers withdrawn, so that the file is not too long, and the same added again, by
+/// turns: behind each addition all marks are in use.
+fn withdrawn_and_added(catalogue: &Catalogue, pairs: usize) -> Vec<Call> {
+    let mut random = Random::new(pairs as u64);
+    let mut list = Vec::new();
+    while list.len() < 2 * pairs {
+        let lot = random.between(1, catalogue.lots.len() as u64);
+        let buyers = buyers_of(catalogue, lot as usize);
+        if buyers.len() > 8 {
+            continue;
+        }
+        let same = catalogue.lot(lot as usize);
+        let added = Call::N {
+            bales: same.bales,
+            session: same.session as u64,
+            buyers,
+        };
+        list.extend([Call::X { lot }, added]);
+    }
+    list
+}
+
+/// Of X, N, M and W one each by turns, all of them accepted: a lot withdrawn, one of other buyers
+/// added, a lot moved, and a walk from two lots.
+fn late_and_moved(catalogue: &Catalogue, rounds: usize) -> Vec<Call> {
+    let mut random = Random::new(rounds as u64);
+    let (lots, sessions) = (catalogue.lots.len() as u64, catalogue.sessions as u64);
+    let mut machine = Machine::fresh(catalogue);
+    let mut list = Vec::new();
+    while list.len() < 4 * rounds {
+        let call = match list.len() % 4 {
+            0 => Call::X {
+                lot: random.between(1, lots),
+            },
+            1 => Call::N {
+                bales: random.between(1, 9),
+                session: random.between(1, sessions),
+                buyers: buyers_of(catalogue, random.between(1, lots) as usize),
+            },
+            2 => Call::M {
+                u: random.between(1, lots),
+                t: random.between(1, sessions),
+            },
+            _ => Call::W {
+                u: random.between(1, lots),
+                v: random.between(1, lots),
+            },
+        };
+        if machine.call(&call).is_ok() {
+            list.push(call);
+        }
+    }
+    list
+}
+
 pub fn workloads() -> Vec<Workload> {
     let mixed = catalogue(256, 256, 8, 4);
     let list = calls(1, &mixed, 512);
     let cycle = || vec![Call::A];
     let broad = catalogue(1024, 8, 1024, 4);
     let turns = joins_and_splits(&broad, 256);
+    let full = catalogue(1024, 1024, 8, 4);
+    let late = withdrawn_and_added(&full, 256);
+    let late_and_moved = late_and_moved(&full, 128);
     vec![
         workload("A, 1,024 lists of 8", catalogue(1024, 1024, 8, 4), cycle()),
         workload("A, 128 lists of 64", catalogue(1024, 128, 64, 4), cycle()),
@@ -87,6 +152,8 @@ pub fn workloads() -> Vec<Workload> {
             vec![],
         ),
         workload("J and S by turns on 8 lists of 1,024", broad, turns),
+        workload("512 X and N by turns, 8,192 marks", full.clone(), late),
+        workload("X, N, M, W mixed, 8,192 marks", full, late_and_moved),
     ]
 }
 

@@ -5,8 +5,8 @@ use std::path::Path;
 
 use bench::tuned::Splitter;
 use bench::workloads::workloads;
-use reference::generator::{damaged, sale};
-use reference::parse;
+use reference::generator::{damaged, sale, sale_of_kind, Kind};
+use reference::{parse, Outcome};
 
 #[test]
 fn sales_on_file_give_their_reports() {
@@ -49,15 +49,49 @@ fn workloads_are_accepted() {
 }
 
 #[test]
-fn joins_and_splits_by_turns_are_none_of_them_refused() {
-    let mut workloads = workloads();
-    workloads.retain(|workload| workload.name.starts_with("J and S"));
-    let [workload] = &workloads[..] else {
-        panic!("there is one such workload");
-    };
-    let wanted = reference::run(&workload.file);
-    let lines = wanted.report.split(|&byte| byte == b'\n');
-    assert_eq!(lines.filter(|line| line.starts_with(b"S,")).count(), 256);
+fn withdrawn_and_late_lots_give_the_references_reports() {
     let mut splitter = Splitter::default();
-    assert!(splitter.run(&workload.file) == (wanted.code, &wanted.report[..]));
+    let mut agree = |file: &[u8], name: &str| {
+        let same = |wanted: Outcome, found: (u32, &[u8])| found == (wanted.code, &wanted.report);
+        assert!(same(reference::run(file), splitter.run(file)), "{name}");
+        let fine = same(reference::run_fine(file), splitter.run_fine(file));
+        assert!(fine, "{name}, superfine");
+    };
+    for seed in 0..1_500 {
+        agree(
+            &sale_of_kind(seed, Kind::Withdrawn),
+            &format!("withdrawn {seed}"),
+        );
+    }
+    for seed in 0..24 {
+        agree(&sale_of_kind(seed, Kind::Full), &format!("full {seed}"));
+    }
+}
+
+#[test]
+fn workloads_of_calls_by_turns_have_none_refused() {
+    let mut splitter = Splitter::default();
+    let mut seen = 0;
+    for workload in workloads() {
+        let counts = match workload.name {
+            "J and S by turns on 8 lists of 1,024" => [256, 256, 0, 0, 0, 0],
+            "512 X and N by turns, 8,192 marks" => [0, 0, 256, 256, 0, 0],
+            "X, N, M, W mixed, 8,192 marks" => [0, 0, 128, 128, 128, 128],
+            _ => continue,
+        };
+        let wanted = reference::run(&workload.file);
+        for (letter, count) in b"JSXNMW".iter().zip(counts) {
+            let lines = wanted.report.split(|&byte| byte == b'\n');
+            let found = lines.filter(|line| line.starts_with(&[*letter, b',']));
+            assert_eq!(found.count(), count, "{}", workload.name);
+        }
+        let found = splitter.run(&workload.file);
+        assert!(
+            found == (wanted.code, &wanted.report[..]),
+            "{}",
+            workload.name
+        );
+        seen += 1;
+    }
+    assert_eq!(seen, 3);
 }

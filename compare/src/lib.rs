@@ -6,13 +6,16 @@ use kapokdrill::lent::{
     self, Columns, Lent, ListOutcome, Lot, NetTables, Outcome, Record, Stack, Stretch, NETS,
     OUTPUT, PINS, ROWS,
 };
-use reference::generator::{calls, Random};
+use reference::generator::Random;
 use reference::tables::{entry, Tables};
-use reference::{parse, parse_within, report, run_calls, Call, Limits};
+use reference::{parse, parse_within, report, run_calls, run_calls_within, Limits};
 use std::path::PathBuf;
 
+pub mod lists;
 pub mod orders;
 pub mod refused;
+
+use lists::List;
 
 /// Lent memory of lengths that the caller settles.
 #[derive(Clone, Debug, PartialEq, Eq)]
@@ -96,14 +99,14 @@ impl Memory {
     }
 
     /// Runs a list of calls on the catalogue of a file, on this memory.
-    pub fn run_list(&mut self, file: &[u8], list: &[u32]) -> ListOutcome {
+    pub fn run_list(&mut self, file: &[u8], list: &List) -> ListOutcome {
         let entries = [self.lots.len(); 4];
         self.run_list_with(file, list, entries)
     }
 
     /// The same, with so many entries in the tables of bales, sessions, lots above and who is kept:
     /// they begin as the records' fields, and what they hold at the end is put back.
-    pub fn run_list_with(&mut self, file: &[u8], list: &[u32], entries: [usize; 4]) -> ListOutcome {
+    pub fn run_list_with(&mut self, file: &[u8], list: &List, entries: [usize; 4]) -> ListOutcome {
         let of = |n: usize| self.lots.iter().take(n);
         let mut weights: Vec<u32> = of(entries[0]).map(|lot| lot.bales).collect();
         let mut blocks: Vec<u16> = of(entries[1]).map(|lot| lot.session).collect();
@@ -116,7 +119,7 @@ impl Memory {
             fixed: &mut fixed,
         };
         let (lots, lent) = self.lent();
-        let outcome = lent::run_list(file, list, columns, lent);
+        let outcome = lent::run_list(file, &list.calls, &list.operands, columns, lent);
         for (lot, &bales) in lots.iter_mut().zip(&weights) {
             lot.bales = bales;
         }
@@ -205,6 +208,11 @@ impl Memory {
                 self.presentpins[place] = mark as u16;
             }
         }
+        if tables.gathered {
+            let marks = tables.loaded_marks.len();
+            self.loadedpins[marks..PINS].fill(0);
+            self.presentpins[marks..PINS].fill(0);
+        }
     }
 
     /// After a refused file the tables are free, so they are taken from `found`; the output is not.
@@ -261,7 +269,7 @@ fn compare_through(
     let mut wanted = before;
     let (code, text) = match parse_within(file, limits) {
         Ok(sale) => {
-            let end = run_calls(&sale.catalogue, &sale.calls);
+            let end = run_calls_within(&sale.catalogue, &sale.calls, limits);
             wanted.finish(&end.tables);
             (0, end.report)
         }
@@ -283,44 +291,6 @@ fn compare_through(
     Ok(code)
 }
 
-/// The calls of a list, three numbers each; the refusal's number where they are none.
-fn calls_of(list: &[u32]) -> Result<Vec<Call>, u32> {
-    if list.len() > 3 * 512 {
-        return Err(7);
-    }
-    let call = |numbers: &[u32]| {
-        let &[letter, x, y] = numbers else {
-            return Err(2);
-        };
-        let (x, y) = (x.into(), y.into());
-        match u8::try_from(letter) {
-            Ok(b'J') => Ok(Call::J { u: x, v: y }),
-            Ok(b'S') => Ok(Call::S),
-            Ok(b'M') => Ok(Call::M { u: x, t: y }),
-            Ok(b'B') => Ok(Call::B),
-            Ok(b'W') => Ok(Call::W { u: x, v: y }),
-            Ok(b'P') => Ok(Call::P),
-            Ok(b'A') => Ok(Call::A),
-            _ => Err(2),
-        }
-    };
-    list.chunks(3).map(call).collect()
-}
-
-/// A call as three numbers, the letter's byte and two; those that the call does not have are `spare`.
-pub fn numbers_of(call: &Call, mut spare: impl FnMut() -> u64) -> [u32; 3] {
-    let (letter, x, y) = match *call {
-        Call::J { u, v } => (b'J', u, v),
-        Call::S => (b'S', spare(), spare()),
-        Call::M { u, t } => (b'M', u, t),
-        Call::B => (b'B', spare(), spare()),
-        Call::W { u, v } => (b'W', u, v),
-        Call::P => (b'P', spare(), spare()),
-        Call::A => (b'A', spare(), spare()),
-    };
-    [letter.into(), x as u32, y as u32]
-}
-
 /// What a list of calls should give: the code, the text, the total, the joins and the record.
 type Answered = (u32, Vec<u8>, u64, Vec<(u16, u16)>, Vec<(u16, u16)>);
 
@@ -331,13 +301,13 @@ fn short(pairs: &[(usize, usize)]) -> Vec<(u16, u16)> {
 
 /// Runs a list of calls on the catalogue of a file, on memory of random bytes, and compares all
 /// with the reference: the return, or what differs.
-pub fn compare_list(file: &[u8], list: &[u32], random: &mut Random) -> Result<u32, String> {
+pub fn compare_list(file: &[u8], list: &List, random: &mut Random) -> Result<u32, String> {
     let before = Memory::noise(random);
     let mut found = before.clone();
     let outcome = found.run_list(file, list);
 
     let mut wanted = before.clone();
-    let (code, text, total, joins, moves): Answered = match (calls_of(list), parse(file)) {
+    let (code, text, total, joins, moves): Answered = match (list.read(), parse(file)) {
         (Err(code), _) => (code, Vec::new(), 0, Vec::new(), Vec::new()),
         (Ok(calls), Ok(sale)) => {
             let end = run_calls(&sale.catalogue, &calls);
@@ -403,33 +373,8 @@ pub fn random_bytes(seed: u64) -> Vec<u8> {
             if any {
                 random.bits() as u8
             } else {
-                *random.pick(b"SALEOTBUYJMWPK,,,,0123456789\n\n\n")
+                *random.pick(b"SALEOTBUYJMWPXNK,,,,0123456789\n\n\n")
             }
         })
         .collect()
-}
-
-/// A list of calls for the catalogue of a file, now and then one that is refused.
-pub fn random_list(seed: u64, file: &[u8]) -> Vec<u32> {
-    let mut random = Random::new(seed);
-    let count = if random.in_hundred(2) {
-        512
-    } else {
-        random.between(0, 24) as usize
-    };
-    let calls = match parse(file) {
-        Ok(sale) => calls(seed, &sale.catalogue, count),
-        Err(_) => vec![Call::A; count],
-    };
-    let mut numbers = Vec::new();
-    for call in &calls {
-        numbers.extend(numbers_of(call, || random.bits()));
-    }
-    match random.between(0, 19) {
-        0 => numbers.push(b'A'.into()),
-        1 => numbers.extend([random.bits() as u32, 1, 2]),
-        2 => numbers.resize(3 * 513, b'A'.into()),
-        _ => {}
-    }
-    numbers
 }

@@ -1,7 +1,8 @@
 //! The order of moves: lists of accepted moves behind one list of calls that leave each lot in the
 //! same session, and what the engine leaves of them. Rests on the reference for what is accepted.
 
-use crate::{numbers_of, Memory};
+use crate::lists::List;
+use crate::Memory;
 use reference::generator::Random;
 use reference::{Call, Machine};
 
@@ -47,12 +48,8 @@ pub fn two_ways(machine: &Machine, random: &mut Random) -> Option<[Vec<Call>; 2]
 pub fn same_left(file: &[u8], lists: &[Vec<Call>; 2], random: &mut Random) -> Result<(), String> {
     let before = Memory::noise(random);
     let run = |calls: &Vec<Call>| {
-        let list: Vec<u32> = calls
-            .iter()
-            .flat_map(|call| numbers_of(call, || 0))
-            .collect();
         let mut memory = before.clone();
-        let outcome = memory.run_list(file, &list);
+        let outcome = memory.run_list(file, &List::of(calls));
         memory.output.clear();
         (outcome, memory)
     };

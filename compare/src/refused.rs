@@ -2,14 +2,15 @@
 //! that differ in refused call lines, and what the engine leaves of each. Rests on the reference for
 //! which calls are refused.
 
-use crate::{numbers_of, Memory};
+use crate::lists::List;
+use crate::Memory;
 use kapokdrill::lent::{ListOutcome, Outcome};
 use reference::generator::{write_sale, Random};
 use reference::{parse_within, Call, Catalogue, Limits, Machine, Sale};
 
-/// The calls that the machine accepts on the way, in order.
-pub fn accepted(catalogue: &Catalogue, calls: &[Call]) -> Vec<Call> {
-    let mut machine = Machine::fresh(catalogue);
+/// The calls that the machine accepts on the way, in order, at an entry with the given limits.
+pub fn accepted(catalogue: &Catalogue, calls: &[Call], limits: &Limits) -> Vec<Call> {
+    let mut machine = Machine::fresh_within(catalogue, limits);
     let mut taken = calls.to_vec();
     taken.retain(|call| machine.call(call).is_ok());
     taken
@@ -23,16 +24,13 @@ pub fn same_without_refused(
     calls: &[Call],
     random: &mut Random,
 ) -> Result<usize, String> {
-    let sale = parse_within(file, &Limits::default()).map_err(|_| "the file is turned down")?;
-    let taken = accepted(&sale.catalogue, calls);
+    let limits = Limits::default();
+    let sale = parse_within(file, &limits).map_err(|_| "the file is turned down")?;
+    let taken = accepted(&sale.catalogue, calls, &limits);
     let before = Memory::noise(random);
     let run = |calls: &[Call]| -> (ListOutcome, Memory) {
-        let list: Vec<u32> = calls
-            .iter()
-            .flat_map(|call| numbers_of(call, || 0))
-            .collect();
         let mut memory = before.clone();
-        let outcome = memory.run_list(file, &list);
+        let outcome = memory.run_list(file, &List::of(calls));
         memory.output.clear();
         (outcome, memory)
     };
@@ -53,25 +51,25 @@ pub fn same_without_refused(
     Ok(calls.len() - taken.len())
 }
 
-/// Runs a sale file, and the same without the call lines that the reference refuses, through both
-/// entries, on equal memory of random bytes: how many lines are refused, or what differs in the
-/// tables, compared in every entry, or in the closing report.
+/// Runs a sale file, and the same without the call lines that the reference refuses, through each
+/// entry that accepts it, on equal memory of random bytes: how many lines are refused, or what differs
+/// in the tables, compared in every entry, or in the closing report.
 pub fn same_file_without_refused(file: &[u8], random: &mut Random) -> Result<usize, String> {
-    let sale = parse_within(file, &Limits::default()).map_err(|_| "the file is turned down")?;
-    let taken = accepted(&sale.catalogue, &sale.calls);
-    let refused = sale.calls.len() - taken.len();
-    let shorter = write_sale(&Sale {
-        catalogue: sale.catalogue,
-        calls: taken,
-    });
     let entries: [(Limits, Entry); 2] = [
         (Limits::default(), Memory::run),
         (Limits::SUPERFINE, Memory::run_fine),
     ];
+    let mut refused = 0;
     for (limits, entry) in entries {
-        if parse_within(file, &limits).is_err() {
+        let Ok(sale) = parse_within(file, &limits) else {
             continue;
-        }
+        };
+        let taken = accepted(&sale.catalogue, &sale.calls, &limits);
+        refused += sale.calls.len() - taken.len();
+        let shorter = write_sale(&Sale {
+            catalogue: sale.catalogue,
+            calls: taken,
+        });
         let before = Memory::noise_within(&limits, random);
         let run = |file: &[u8]| -> Result<(Vec<u8>, Memory), String> {
             let mut memory = before.clone();

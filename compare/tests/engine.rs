@@ -3,14 +3,14 @@
 //! then on short memory. The program `splitter` on the sales on file. The environment's SEED, a
 //! number, gives other sales than the usual ones.
 
-use compare::{
-    compare, compare_fine, compare_list, numbers_of, random_bytes, random_list, sales_on_file,
-    Memory,
-};
+use compare::lists::{random_list, List};
+use compare::{compare, compare_fine, compare_list, random_bytes, sales_on_file, Memory};
 use kapokdrill::lent::{Outcome, Record, Stack, NETS, OUTPUT, PINS, ROWS, VERTICES};
 use reference::catalogue::{Buyer, Lot};
-use reference::generator::{calls, damaged, sale, sale_of_kind, write_sale, Kind, Random};
-use reference::{parse, Catalogue, Limits, Sale};
+use reference::generator::{
+    calls, damaged, late_calls, sale, sale_of_kind, write_sale, Kind, Random,
+};
+use reference::{parse, Call, Catalogue, Limits, Sale};
 use std::fs::File;
 use std::process::Command;
 
@@ -127,8 +127,32 @@ fn large_sales_agree() {
     assert_eq!(returns[0], 12);
 }
 
+#[test]
+fn withdrawn_and_late_lots_agree() {
+    let withdrawn = |seed| sale_of_kind(seed, Kind::Withdrawn);
+    let returns = all_agree("withdrawn", 2_000, withdrawn);
+    assert_eq!(returns[0], 2_000);
+    let returns = all_agree_by(compare_fine, "withdrawn, superfine", 1_000, withdrawn);
+    assert!(returns[0] > 500);
+    let full = |seed| sale_of_kind(seed, Kind::Full);
+    let returns = all_agree("full tables", 24, full);
+    assert_eq!(returns[0], 24);
+    let returns = all_agree_by(compare_fine, "full tables, superfine", 24, full);
+    assert!(returns[0] > 8 && returns[3] > 4);
+}
+
+/// How a list of calls for a catalogue is made from a seed.
+type Calls = fn(u64, &Catalogue, usize) -> Vec<Call>;
+
 /// A sale of `buyers` lists of `marks` marks with `count` calls of every sort.
-fn long_list(seed: u64, lots: usize, buyers: usize, marks: usize, count: usize) -> Vec<u8> {
+fn long_list(
+    seed: u64,
+    lots: usize,
+    buyers: usize,
+    marks: usize,
+    count: usize,
+    calls: Calls,
+) -> Vec<u8> {
     let mut random = Random::new(seed);
     let sessions = random.between(2, 16) as usize;
     let mut catalogue = Catalogue {
@@ -153,16 +177,23 @@ fn long_list(seed: u64, lots: usize, buyers: usize, marks: usize, count: usize) 
 
 #[test]
 fn long_lists_of_calls_agree() {
-    let returns = all_agree("512 calls", 6, |seed| long_list(seed, 80, 60, 6, 512));
+    let returns = all_agree("512 calls", 6, |seed| {
+        long_list(seed, 80, 60, 6, 512, calls)
+    });
+    assert_eq!(returns[0], 6);
+    let late = |seed| long_list(seed, 80, 60, 6, 512, late_calls);
+    let returns = all_agree("512 calls with X and N", 6, late);
     assert_eq!(returns[0], 6);
 }
 
 #[test]
 fn full_tables_agree() {
-    let returns = all_agree("full", 2, |seed| long_list(seed, 1_024, 1_024, 8, 6));
-    assert_eq!(returns[0], 2);
-    let returns = all_agree("broad", 2, |seed| long_list(seed, 1_024, 8, 1_024, 6));
-    assert_eq!(returns[0], 2);
+    for calls in [calls, late_calls] {
+        let full = |seed| long_list(seed, 1_024, 1_024, 8, 6, calls);
+        assert_eq!(all_agree("full", 2, full)[0], 2);
+        let broad = |seed| long_list(seed, 1_024, 8, 1_024, 6, calls);
+        assert_eq!(all_agree("broad", 2, broad)[0], 2);
+    }
 }
 
 #[test]
@@ -195,15 +226,51 @@ fn tables_after_each_call_of_a_list_agree() {
             _ => sale_of_kind(seed, Kind::Crowded),
         };
         let catalogue = parse(&file).expect("a generated sale").catalogue;
-        let list: Vec<u32> = calls(seed, &catalogue, 12)
-            .iter()
-            .flat_map(|call| numbers_of(call, || 0))
-            .collect();
+        let calls = if seed % 2 == 0 { calls } else { late_calls };
+        let list = List::of(&calls(seed, &catalogue, 12));
         for count in 0..=12 {
-            let found = compare_list(&file, &list[..3 * count], &mut Random::new(seed));
+            let found = compare_list(&file, &list.first(count), &mut Random::new(seed));
             assert_eq!(found, Ok(0), "seed {seed}, {count} calls");
         }
     }
+}
+
+#[test]
+fn operands_of_a_list_agree() {
+    let file = b"SALE,2,3,2,1000\nLOT,5,1\nLOT,5,2\nBUY,1,1,2\nBUY,2,2\nBUY,3,1\n";
+    let operands = [3, 1, 1, 2, 3, 3, 2, 9];
+    let random = &mut Random::new(seed());
+    let mut codes = [0; 3];
+    for first in (0..=9).chain([u32::MAX - 1, u32::MAX]) {
+        for count in (0..=9).chain([1 << 31, u32::MAX - 1, u32::MAX]) {
+            // the second N's stretch overlaps the first's
+            for more in [0, 1] {
+                let mut list = List {
+                    calls: vec![b'N'.into(), first, count],
+                    operands: operands.to_vec(),
+                };
+                list.calls.extend([b'N'.into(), 1, 2].repeat(more));
+                match compare_list(file, &list, random) {
+                    Ok(code) => codes[code as usize] += 1,
+                    Err(what) => panic!("{first}, {count}: {what}"),
+                }
+            }
+        }
+    }
+    assert!(codes[0] > 40 && codes[2] > 100, "{codes:?}");
+    // as many buyers as no catalogue has, all of them there or not
+    for buyer in [1, 4] {
+        let list = List {
+            calls: vec![b'N'.into(), 0, 5_000],
+            operands: [vec![1, 1], vec![buyer; 4_998]].concat(),
+        };
+        assert_eq!(compare_list(file, &list, random), Ok(0));
+    }
+    let list = List {
+        calls: [b'N'.into(), 0, 1].repeat(513),
+        operands: Vec::new(),
+    };
+    assert_eq!(compare_list(file, &list, random), Ok(7));
 }
 
 #[test]
@@ -269,7 +336,11 @@ fn short_memory_is_told_first_and_nothing_is_touched() {
                 let before = memory.clone();
                 assert_eq!(memory.run(file), told);
                 assert!(memory == before, "8 touched something");
-                let list = memory.run_list(file, &[b'X'.into()]);
+                let refused = List {
+                    calls: vec![b'N'.into(), 0, 1],
+                    operands: Vec::new(),
+                };
+                let list = memory.run_list(file, &refused);
                 assert_eq!((list.code, list.written, list.total), (8, 0, 0));
                 assert!(list.stack == Stack::of(&[]) && list.record == Record::of(&[]));
                 assert!(memory == before, "8 touched something");
@@ -298,7 +369,7 @@ fn short_memory_is_told_first_and_nothing_is_touched() {
             let before = memory.clone();
             let mut entries = [VERTICES; 4];
             entries[column] = short;
-            let list = memory.run_list_with(accepted, &[], entries);
+            let list = memory.run_list_with(accepted, &List::default(), entries);
             assert_eq!((list.code, list.written, list.total), (8, 0, 0));
             assert!(memory == before, "8 touched something");
         }

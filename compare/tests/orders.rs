@@ -2,7 +2,7 @@
 //! through the list's entry. The environment's SEED, a number, gives other sales than the usual ones.
 
 use compare::orders::{same_left, two_ways};
-use reference::generator::{calls, sale, Random};
+use reference::generator::{calls, late_calls, sale, Random};
 use reference::{parse, Machine};
 
 #[test]
@@ -13,7 +13,9 @@ fn the_order_of_moves_is_immaterial() {
         let file = sale(seed);
         let Ok(sale) = parse(&file) else { continue };
         let mut random = Random::new(seed);
-        let before = calls(seed, &sale.catalogue, random.between(0, 12) as usize);
+        // every second pair behind lots that were withdrawn and added
+        let list = if seed % 2 == 0 { calls } else { late_calls };
+        let before = list(seed, &sale.catalogue, random.between(0, 12) as usize);
         let mut machine = Machine::fresh(&sale.catalogue);
         for call in &before {
             // a refused call changes nothing

@@ -3,7 +3,7 @@
 //! others. The environment's SEED, a number, gives other sales than the usual ones.
 
 use compare::refused::{same_file_without_refused, same_without_refused};
-use reference::generator::{calls, sale, sale_of_kind, Kind, Random};
+use reference::generator::{late_calls, sale, sale_of_kind, Kind, Random};
 use reference::parse;
 
 fn seeds(count: u64) -> std::ops::Range<u64> {
@@ -11,10 +11,12 @@ fn seeds(count: u64) -> std::ops::Range<u64> {
     seed * 1_000_000..seed * 1_000_000 + count
 }
 
-/// A generated sale, every second with calls that are mostly refused.
+/// A generated sale, of every three one with calls that are mostly refused and one with lots
+/// withdrawn and added.
 fn file_of(seed: u64) -> Vec<u8> {
-    match seed % 2 {
+    match seed % 3 {
         0 => sale_of_kind(seed, Kind::BadCalls),
+        1 => sale_of_kind(seed, Kind::Withdrawn),
         _ => sale(seed),
     }
 }
@@ -28,7 +30,7 @@ fn a_list_without_its_refused_calls_leaves_the_same() {
         let mut random = Random::new(seed);
         let mut list = sale.calls;
         let more = random.between(0, 20) as usize;
-        list.extend(calls(seed, &sale.catalogue, more));
+        list.extend(late_calls(seed, &sale.catalogue, more));
         list.truncate(512);
         match same_without_refused(&file, &list, &mut random) {
             Ok(refused) => with_refused += u64::from(refused > 0),
@@ -48,4 +50,17 @@ fn a_file_without_its_refused_call_lines_leaves_the_same() {
         }
     }
     assert!(with_refused > 1_500, "{with_refused} files");
+}
+
+#[test]
+fn a_file_that_meets_23_without_it_leaves_the_same() {
+    let mut with_refused = 0;
+    for seed in seeds(12) {
+        let file = sale_of_kind(seed, Kind::Full);
+        match same_file_without_refused(&file, &mut Random::new(seed)) {
+            Ok(refused) => with_refused += u64::from(refused > 0),
+            Err(what) => panic!("full, seed {seed}: {what}"),
+        }
+    }
+    assert!(with_refused > 3, "{with_refused} files");
 }

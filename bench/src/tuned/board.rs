@@ -13,7 +13,13 @@ pub const OFF_BOARD: u8 = u8::MAX;
 pub const CLOSED: i32 = 1 << 29;
 
 pub struct Board<const B: usize> {
+    /// How many vertices were ever there: their numbers are in use or free.
     pub vertices: usize,
+    /// How many of them are there now, contracted ones too.
+    pub present: usize,
+    pub withdrawn: Bits,
+    /// The vertices withdrawn and not there again, the latest last.
+    pub free: Vec<u16>,
     pub nets: usize,
     pub blocks: usize,
     pub average: u32,
@@ -49,6 +55,9 @@ impl<const B: usize> Default for Board<B> {
     fn default() -> Self {
         Board {
             vertices: 0,
+            present: 0,
+            withdrawn: [0; WORDS],
+            free: Vec::with_capacity(1024),
             nets: 0,
             blocks: 0,
             average: 0,
@@ -81,6 +90,9 @@ impl<const B: usize> Board<B> {
         let (n, m) = (catalogue.vertices, catalogue.nets);
         let filled = catalogue.firsts[m] as usize;
         self.vertices = n;
+        self.present = n;
+        self.withdrawn = [0; WORDS];
+        self.free.clear();
         self.nets = m;
         self.blocks = catalogue.blocks;
         self.average = catalogue.average;
@@ -296,6 +308,134 @@ impl<const B: usize> Board<B> {
             }
         }
         Some((u, v))
+    }
+
+    /// Takes a vertex and its pins out; no contraction stands. As in a move, others' halves change
+    /// only where a count leaves 1 or reaches it.
+    pub fn withdraw(&mut self, x: usize) {
+        let b = self.block[x] as usize;
+        for e in ones(&self.incidence[x]) {
+            let cost = self.net_weights[e];
+            let before = self.counts[e][b];
+            self.counts[e][b] = before - 1;
+            self.sums[e][b] = self.sums[e][b].wrapping_sub(x as u16);
+            if before == 2 {
+                self.freed[self.sums[e][b] as usize] += cost;
+            }
+            // A net left without pins added nothing before, either.
+            if before == 1 && self.sizes[e] > 1 {
+                self.total -= cost;
+                let first = self.firsts[e] as usize;
+                for &pin in &self.pins[first..first + self.sizes[e] as usize] {
+                    self.drawn[pin as usize][b] += cost;
+                }
+            }
+        }
+        self.take_pins_out(x);
+        self.loads[b] -= self.weights[x];
+        self.weights[x] = 0;
+        self.block[x] = OFF_BOARD;
+        self.fixed_counts[x] = 0;
+        remove(&mut self.fixed, x);
+        insert(&mut self.withdrawn, x);
+        self.free.push(x as u16);
+        self.present -= 1;
+    }
+
+    /// Closes the gaps that a vertex's pins leave, in one pass over the pins behind the first.
+    fn take_pins_out(&mut self, x: usize) {
+        let end = self.firsts[self.nets] as usize;
+        let (mut write, mut read) = (end, end);
+        for e in ones(&self.incidence[x]) {
+            let first = self.firsts[e] as usize;
+            let at = first + place(&self.pins[first..first + self.sizes[e] as usize], x as u16);
+            if write == end {
+                write = at;
+            } else {
+                self.pins.copy_within(read..at, write);
+                write += at - read;
+            }
+            read = at + 1;
+            self.sizes[e] -= 1;
+        }
+        self.pins.copy_within(read..end, write);
+        let mut gone = 0;
+        for e in 0..self.nets {
+            self.firsts[e] -= gone;
+            gone += u16::from(contains(&self.incidence[x], e));
+        }
+        self.firsts[self.nets] -= gone;
+        self.incidence[x] = [0; WORDS];
+    }
+
+    /// Adds a vertex with a pin in each of these nets, under the number withdrawn last or the next
+    /// unused one, which is returned; no contraction stands.
+    pub fn add(&mut self, weight: u32, b: usize, nets: &Bits) -> usize {
+        let x = match self.free.pop() {
+            Some(x) => x as usize,
+            None => {
+                self.vertices += 1;
+                self.vertices - 1
+            }
+        };
+        self.present += 1;
+        remove(&mut self.withdrawn, x);
+        remove(&mut self.fixed, x);
+        self.fixed_counts[x] = 0;
+        self.above[x] = 0;
+        self.weights[x] = weight;
+        self.block[x] = b as u8;
+        self.loads[b] += weight;
+        self.incidence[x] = *nets;
+        self.shut(x);
+        for e in ones(nets) {
+            let cost = self.net_weights[e];
+            let there = self.counts[e][b];
+            if there == 1 {
+                self.freed[self.sums[e][b] as usize] -= cost;
+            }
+            if there == 0 {
+                self.freed[x] += cost;
+                let first = self.firsts[e] as usize;
+                let size = self.sizes[e] as usize;
+                if size > 0 {
+                    self.total += cost;
+                }
+                for &pin in &self.pins[first..first + size] {
+                    self.drawn[pin as usize][b] -= cost;
+                }
+            }
+            self.counts[e][b] = there + 1;
+            self.sums[e][b] = self.sums[e][b].wrapping_add(x as u16);
+            let drawn = draws(&self.counts[e], cost);
+            add(&mut self.drawn[x], &drawn);
+        }
+        self.put_pins_in(x);
+        x
+    }
+
+    /// Makes room for a vertex's pin behind each of its nets' others, in one pass from the end.
+    fn put_pins_in(&mut self, x: usize) {
+        let mut places = [0u16; 1024];
+        let mut count = 0;
+        for e in ones(&self.incidence[x]) {
+            places[count] = self.firsts[e + 1];
+            self.sizes[e] += 1;
+            count += 1;
+        }
+        let mut stop = self.firsts[self.nets] as usize;
+        for i in (0..count).rev() {
+            let at = places[i] as usize;
+            self.pins.copy_within(at..stop, at + i + 1);
+            self.pins[at + i] = x as u16;
+            stop = at;
+        }
+        let mut come = 0;
+        for e in 0..self.nets {
+            self.firsts[e] += come;
+            come += u16::from(contains(&self.incidence[x], e));
+        }
+        self.firsts[self.nets] += come;
     }
 }
 

@@ -1,6 +1,6 @@
 //! The calls with their refusals and answers, and the closing report.
 
-use super::bits::contains;
+use super::bits::{contains, insert, Bits, WORDS};
 use super::board::Board;
 use super::contracting::Ratings;
 use super::reading::{Call, Catalogue};
@@ -16,7 +16,7 @@ pub fn run<const B: usize>(
     board.open(catalogue);
     let draft_total = board.total as u32;
     for &call in &catalogue.calls {
-        match answer(board, ratings, report, call) {
+        match answer(board, catalogue, ratings, report, call) {
             Err(number) => report.line(b"NO", [number]),
             Ok(()) if matches!(call, Call::Move { .. } | Call::Reverse) => {}
             Ok(()) => board.journal.clear(),
@@ -24,6 +24,9 @@ pub fn run<const B: usize>(
     }
     report.line(b"TOTAL", [draft_total, board.total as u32]);
     for x in 0..board.vertices {
+        if contains(&board.withdrawn, x) {
+            continue;
+        }
         let mut representative = x;
         while !board.on_board(representative) {
             representative = board.above[representative] as usize;
@@ -56,6 +59,7 @@ fn unless(refused: bool, number: u32) -> Result<(), u32> {
 /// Runs one call and writes its answer; a refused one gives its number and changes nothing.
 fn answer<const B: usize>(
     board: &mut Board<B>,
+    catalogue: &Catalogue,
     ratings: &mut Ratings,
     report: &mut Report,
     call: Call,
@@ -112,6 +116,32 @@ fn answer<const B: usize>(
             }
             let moves = board.polish();
             report.line(b"A", [joins, tried, kept, moves, board.total as u32]);
+        }
+        Call::Withdraw { x } => {
+            let x = known(x, n)?;
+            unless(!board.contractions.is_empty(), 16)?;
+            unless(!board.on_board(x), 10)?;
+            board.withdraw(x);
+            report.line(b"X", [board.total as u32]);
+        }
+        Call::Add { first, count } => {
+            let operands = &catalogue.operands[first..first + count];
+            let (weight, named) = (operands[0], &operands[2..]);
+            known(weight, 65_535)?;
+            let b = known(operands[1], board.blocks)?;
+            let (mut nets, mut twice): (Bits, bool) = ([0; WORDS], false);
+            for &net in named {
+                let e = known(net, board.nets)?;
+                twice |= contains(&nets, e);
+                insert(&mut nets, e);
+            }
+            unless(!board.contractions.is_empty(), 16)?;
+            unless(twice, 22)?;
+            let marks = board.firsts[board.nets] as usize + named.len();
+            unless(board.present == catalogue.limit || marks > 8_192, 23)?;
+            unless(board.loads[b] + weight > board.capacity, 14)?;
+            let x = board.add(weight, b, &nets);
+            report.line(b"N", [x as u32 + 1, board.total as u32]);
         }
     }
     Ok(())

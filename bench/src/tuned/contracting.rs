@@ -151,7 +151,7 @@ impl<const B: usize> Board<B> {
 
     /// Contracts the best pair while more than 2 × k vertices are on the board; how many.
     pub fn coarsen(&mut self, ratings: &mut Ratings) -> u32 {
-        let mut left = self.vertices;
+        let mut left = self.present;
         if left > 2 * self.blocks {
             ratings.start(self);
         }
@@ -167,6 +167,6 @@ impl<const B: usize> Board<B> {
             ratings.contracted(self, &shared, u, v);
             left -= 1;
         }
-        (self.vertices - left) as u32
+        (self.present - left) as u32
     }
 }

@@ -12,17 +12,36 @@ pub struct Refusal {
 /// A call line; numbers as written, so they may name nothing.
 #[derive(Clone, Copy)]
 pub enum Call {
-    Contract { u: u32, v: u32 },
+    Contract {
+        u: u32,
+        v: u32,
+    },
     Uncontract,
-    Move { u: u32, t: u32 },
+    Move {
+        u: u32,
+        t: u32,
+    },
     Reverse,
-    Walk { u: u32, v: u32 },
+    Walk {
+        u: u32,
+        v: u32,
+    },
     Polish,
     Cycle,
+    Withdraw {
+        x: u32,
+    },
+    /// The vertex's weight, its block and its nets are so many of the catalogue's `operands`.
+    Add {
+        first: usize,
+        count: usize,
+    },
 }
 
 /// The catalogue and the calls of the file read last.
 pub struct Catalogue {
+    /// The most vertices that the entry takes.
+    pub limit: usize,
     pub vertices: usize,
     pub nets: usize,
     pub blocks: usize,
@@ -39,6 +58,7 @@ pub struct Catalogue {
     pub firsts: Box<[u16; 1025]>,
     pub pins: Box<[u16; 8192]>,
     pub calls: Vec<Call>,
+    pub operands: Vec<u32>,
     /// The numbers of the line in hand.
     fields: Vec<u32>,
     /// The last net, from 1, that each vertex was a pin of: tells a pin named twice.
@@ -48,6 +68,7 @@ pub struct Catalogue {
 impl Default for Catalogue {
     fn default() -> Self {
         Catalogue {
+            limit: 0,
             vertices: 0,
             nets: 0,
             blocks: 0,
@@ -60,6 +81,7 @@ impl Default for Catalogue {
             firsts: Box::new([0; 1025]),
             pins: Box::new([0; 8192]),
             calls: Vec::with_capacity(512),
+            operands: Vec::with_capacity(30_000),
             fields: Vec::with_capacity(30_000),
             marked: Box::new([0; 1024]),
         }
@@ -174,6 +196,7 @@ impl Catalogue {
             rest: file,
             line: 0,
         };
+        self.limit = vertices as usize;
         let estimated = file.starts_with(b"EST");
         let slack = self.read_head(&mut lines, estimated, vertices, blocks)?;
         let all = if estimated {
@@ -263,16 +286,21 @@ impl Catalogue {
 
     fn read_calls(&mut self, lines: &mut Lines) -> Result<(), Refusal> {
         self.calls.clear();
+        self.operands.clear();
         while let Some(&letter) = lines.rest.first() {
             if self.calls.len() == 512 {
                 lines.line += 1;
                 return Err(lines.refused(7));
             }
-            let wanted = match letter {
-                b'J' | b'M' | b'W' => 2,
-                _ => 0,
+            let (least, most) = match letter {
+                b'J' | b'M' | b'W' => (2, 2),
+                b'X' => (1, 1),
+                b'N' => (2, usize::MAX),
+                _ => (0, 0),
             };
-            lines.next(&[letter], &mut self.fields, |count| count == wanted)?;
+            lines.next(&[letter], &mut self.fields, |count| {
+                least <= count && count <= most
+            })?;
             let pair = || (self.fields[0], self.fields[1]);
             self.calls.push(match letter {
                 b'J' => {
@@ -291,6 +319,13 @@ impl Catalogue {
                 }
                 b'P' => Call::Polish,
                 b'A' => Call::Cycle,
+                b'X' => Call::Withdraw { x: self.fields[0] },
+                b'N' => {
+                    let first = self.operands.len();
+                    self.operands.extend_from_slice(&self.fields);
+                    let count = self.fields.len();
+                    Call::Add { first, count }
+                }
                 _ => return Err(lines.refused(2)),
             });
         }

@@ -19,7 +19,8 @@ pub const FINE_VERTICES: usize = 256;
 pub const FINE_ROWS: usize = 4_096;
 
 /// A lot's record: its bales, its session (0 off the board), the lot that it was joined into (0 on
-/// the board) and whether its own line ends in `,K` (1, else 0).
+/// the board) and whether its own line ends in `,K` (1, else 0). All 0 for a withdrawn lot; a lot that
+/// was added under its number is not kept.
 #[repr(C)]
 #[derive(Clone, Copy, Debug, PartialEq, Eq)]
 pub struct Lot {
@@ -157,6 +158,8 @@ extern "C" {
         file_length: usize,
         list: *const u32,
         list_length: usize,
+        operands: *const u32,
+        operands_length: usize,
         output: *mut u8,
         output_length: usize,
         weights: *mut u32,
@@ -291,9 +294,18 @@ over_records! {
 }
 
 /// Runs a list of calls on the catalogue of a sale file, whose own calls are read and do not run:
-/// three numbers for each call, the letter's byte and two numbers. A list of more than 512 calls is
-/// refused as 7, one that is not made of such threes as 2.
-pub fn run_list(file: &[u8], list: &[u32], lots: Columns<'_>, lent: Lent<'_>) -> ListOutcome {
+/// three numbers for each call, the letter's byte and two numbers, which are not looked at where the
+/// call has none. X has the lot as the first of them. N's two say where its own numbers stand: from
+/// the first on (counted from 0), and so many, of `operands` are its bales, its session and its
+/// buyers. A list of more than 512 calls is refused as 7; one that is not made of such threes, or has
+/// an N with fewer than two operands or with a stretch past the end of `operands`, as 2.
+pub fn run_list(
+    file: &[u8],
+    list: &[u32],
+    operands: &[u32],
+    lots: Columns<'_>,
+    lent: Lent<'_>,
+) -> ListOutcome {
     // SAFETY: as in `run`; `ListOutcome` has the fields and the layout of the engine's own.
     unsafe {
         kapokdrill_list(
@@ -301,6 +313,8 @@ pub fn run_list(file: &[u8], list: &[u32], lots: Columns<'_>, lent: Lent<'_>) ->
             file.len(),
             list.as_ptr(),
             list.len(),
+            operands.as_ptr(),
+            operands.len(),
             lent.output.as_mut_ptr(),
             lent.output.len(),
             lots.weights.as_mut_ptr(),

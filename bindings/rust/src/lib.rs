@@ -18,7 +18,8 @@ pub enum Desk {
 
 /// The lent output and tables of document 01, used again by every run and never cleared. Lots,
 /// buyers (the nets) and sessions (the blocks) count from 1. After a run with code 0 the entries of
-/// the sale's own lots and buyers hold what document 01 says; others keep what they held.
+/// the sale's own lots and buyers hold what document 01 says; others keep what they held. Once an X or
+/// N was accepted, both tables of marks hold 0 from the last mark to place 8,192.
 pub struct Memory {
     desk: Desk,
     lots: Box<[Lot]>,
@@ -81,10 +82,15 @@ impl Memory {
         (outcome.code, &self.output[..outcome.written])
     }
 
-    /// Runs a list of calls, as `lent::run_list` takes it, on the catalogue of a sale file, and
-    /// writes the lines of their answers. The list's entry has the main one's limits: the superfine
-    /// desk's memory is too short for it (8).
-    pub fn run_list(&mut self, file: &[u8], list: &[u32]) -> (ListOutcome, &[u8]) {
+    /// Runs a list of calls and its operands, as `lent::run_list` takes them, on the catalogue of a
+    /// sale file, and writes the lines of their answers. The list's entry has the main one's limits:
+    /// the superfine desk's memory is too short for it (8).
+    pub fn run_list(
+        &mut self,
+        file: &[u8],
+        list: &[u32],
+        operands: &[u32],
+    ) -> (ListOutcome, &[u8]) {
         let mut weights: Vec<u32> = self.lots.iter().map(|lot| lot.bales).collect();
         let mut blocks: Vec<u16> = self.lots.iter().map(|lot| lot.session).collect();
         let mut aboves: Vec<u16> = self.lots.iter().map(|lot| lot.above).collect();
@@ -96,7 +102,7 @@ impl Memory {
             fixed: &mut fixed,
         };
         let (lots, lent) = self.lent();
-        let outcome = lent::run_list(file, list, columns, lent);
+        let outcome = lent::run_list(file, list, operands, columns, lent);
         for (i, lot) in lots.iter_mut().enumerate() {
             lot.bales = weights[i];
             lot.session = blocks[i];
@@ -123,7 +129,7 @@ impl Memory {
         (&mut self.lots, lent)
     }
 
-    /// The record of each lot.
+    /// The record of each lot; a withdrawn one's is all 0.
     pub fn lots(&self) -> &[Lot] {
         &self.lots
     }
@@ -133,7 +139,7 @@ impl Memory {
         &self.firsts
     }
 
-    /// How many marks each buyer was loaded with.
+    /// How many marks each buyer was loaded with, less those of withdrawn lots, plus those of added ones.
     pub fn loadedsizes(&self) -> &[u16] {
         &self.loadedsizes
     }
@@ -165,7 +171,8 @@ impl Memory {
         &self.visited
     }
 
-    /// A buyer's marks in the file's order; none for a number that names no buyer.
+    /// A buyer's marks in the file's order, without those of withdrawn lots and those of added lots
+    /// behind them; none for a number that names no buyer.
     pub fn loadedpins(&self, net: u32) -> &[u16] {
         self.pins(&self.loadedpins, false, net)
     }

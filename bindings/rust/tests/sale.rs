@@ -13,10 +13,26 @@ fn on_file(name: &str) -> Vec<u8> {
 }
 
 /// The example as cargo builds it before the tests run: beside the folder of the test programs.
-fn example() -> Command {
+fn example(name: &str) -> Command {
     let test = std::env::current_exe().expect("the test is a program");
     let folder = test.parent().and_then(Path::parent).expect("a folder");
-    Command::new(folder.join("examples/sale"))
+    Command::new(folder.join("examples").join(name))
+}
+
+/// The example in C, compiled and linked.
+fn example_in_c(name: &str) -> Command {
+    let top = Path::new(env!("CARGO_MANIFEST_DIR")).join("../..");
+    let program = Path::new(env!("CARGO_TARGET_TMPDIR")).join(format!("{name}-in-c"));
+    let compiled = Command::new("cc")
+        .current_dir(top)
+        .args(["-std=c99", "-Wall", "-Wextra", "-pedantic", "-Werror"])
+        .args(["-I", "bindings", &format!("bindings/c/{name}.c")])
+        .args(["target/staticlib/libengine.a", "-o"])
+        .arg(&program)
+        .status()
+        .expect("the C compiler starts");
+    assert!(compiled.success());
+    Command::new(&program)
 }
 
 /// What a program ends with, and prints, for the worked sale on its standard input.
@@ -48,23 +64,21 @@ fn prints_the_worked_sale(program: impl Fn() -> Command) {
 
 #[test]
 fn the_example_prints_the_worked_sale() {
-    prints_the_worked_sale(example);
+    prints_the_worked_sale(|| example("sale"));
+}
+
+#[test]
+fn the_examples_of_a_list_print_its_answers() {
+    for program in [example("list"), example_in_c("list")] {
+        let end = run_worked_sale(program);
+        assert_eq!(end.status.code(), Some(0));
+        assert_eq!(end.stdout, b"X,0\nN,1,3\nJ,20\ntotal 3, joins 1\n");
+    }
 }
 
 #[test]
 fn the_example_in_c_prints_the_worked_sale() {
-    let top = Path::new(env!("CARGO_MANIFEST_DIR")).join("../..");
-    let program = Path::new(env!("CARGO_TARGET_TMPDIR")).join("sale-in-c");
-    let compiled = Command::new("cc")
-        .current_dir(top)
-        .args(["-std=c99", "-Wall", "-Wextra", "-pedantic", "-Werror"])
-        .args(["-I", "bindings", "bindings/c/sale.c"])
-        .args(["target/staticlib/libengine.a", "-o"])
-        .arg(&program)
-        .status()
-        .expect("the C compiler starts");
-    assert!(compiled.success());
-    prints_the_worked_sale(|| Command::new(&program));
+    prints_the_worked_sale(|| example_in_c("sale"));
 }
 
 #[test]
@@ -146,25 +160,89 @@ fn the_worked_sale_with_its_calls_apart() {
         .iter()
         .flat_map(|&(c, x, y)| [c.into(), x, y])
         .collect();
-    let (outcome, answers) = memory.run_list(&sale, &list);
+    let (outcome, answers) = memory.run_list(&sale, &list, &[]);
     assert_eq!(outcome.code, 0);
     assert_eq!(outcome.stack.joins().count(), 0);
     assert!(report.starts_with(answers));
     let rest = &report[answers.len()..];
     assert!(rest.starts_with(b"TOTAL,"));
 
-    let (outcome, answers) = memory.run_list(&sale, &list[..3]);
+    let (outcome, answers) = memory.run_list(&sale, &list[..3], &[]);
     assert_eq!(outcome.stack.joins().collect::<Vec<_>>(), [(2, 5)]);
     assert_eq!(answers, b"J,20\n");
     assert_eq!(outcome.total, 3);
     assert_eq!(outcome.record.moves().count(), 0);
 
-    let (outcome, answers) = memory.run_list(&sale, &[b'M'.into(), 1, 2]);
+    let (outcome, answers) = memory.run_list(&sale, &[b'M'.into(), 1, 2], &[]);
     assert_eq!(answers, b"M,3,0,0\n");
     assert_eq!(outcome.record.moves().collect::<Vec<_>>(), [(1, 1)]);
 
-    let (outcome, answers) = memory.run_list(&sale, &[b'X'.into(), 0, 0]);
+    let (outcome, answers) = memory.run_list(&sale, &[b'Q'.into(), 0, 0], &[]);
     assert_eq!((outcome.code, answers), (2, &b""[..]));
+}
+
+/// Withdraws lot 1 of the worked sale and adds one of 10 bales to session 1 for buyers 1 and 2.
+const LATE: [u32; 6] = [b'X' as u32, 1, 0, b'N' as u32, 1, 4];
+const LATE_OPERANDS: [u32; 6] = [7, 10, 1, 1, 2, 7];
+
+#[test]
+fn a_withdrawn_and_a_late_lot_in_a_list() {
+    let sale = on_file("worked-sale.sale");
+    let mut memory = Memory::default();
+    let (outcome, answers) = memory.run_list(&sale, &LATE, &LATE_OPERANDS);
+    assert_eq!((outcome.code, outcome.total), (0, 3));
+    assert_eq!(answers, b"X,0\nN,1,3\n");
+    assert_eq!(memory.lots()[0], lot(10, 1, 0));
+    assert_eq!(memory.firsts()[..3], [0, 2, 5]);
+    assert_eq!(memory.loadedpins(1), [3, 1]);
+    assert_eq!(memory.loadedpins(2), [2, 5, 1]);
+    assert_eq!(memory.presentpins(1), [1, 3]);
+    assert_eq!(memory.presentpins(2), [1, 2, 5]);
+
+    let (outcome, answers) = memory.run_list(&sale, &LATE[..3], &[]);
+    assert_eq!((outcome.code, outcome.total), (0, 0));
+    assert_eq!(answers, b"X,0\n");
+    assert_eq!(memory.lots()[0], lot(0, 0, 0));
+    assert_eq!(memory.loadedpins(1), [3]);
+}
+
+#[test]
+fn operands_that_are_too_few_or_not_there_refuse_the_list() {
+    let sale = on_file("worked-sale.sale");
+    let mut memory = Memory::default();
+    for (first, count) in [
+        (0, 0),
+        (0, 1),
+        (3, 4),
+        (6, 2),
+        (7, 0),
+        (u32::MAX, 2),
+        (2, u32::MAX),
+    ] {
+        let list = [b'N'.into(), first, count];
+        let (outcome, answers) = memory.run_list(&sale, &list, &LATE_OPERANDS);
+        assert_eq!((outcome.code, answers), (2, &b""[..]), "{first}, {count}");
+    }
+    // more than 512 calls are told before
+    let list = [b'N'.into(), 0, 1].repeat(513);
+    assert_eq!(memory.run_list(&sale, &list, &[]).0.code, 7);
+}
+
+#[test]
+fn a_withdrawn_and_a_late_lot_in_a_file() {
+    let mut memory = Memory::default();
+    for name in [
+        "withdrawn-numbers-reused-last-first",
+        "superfine-late-n-23-at-256",
+    ] {
+        let sale = on_file(&format!("{name}.sale"));
+        let report = on_file(&format!("{name}.report"));
+        assert_eq!(memory.run(&sale), (0, &report[..]));
+    }
+    let mut memory = Memory::new(kapokdrill::Desk::Superfine);
+    let sale = on_file("superfine-late-n-23-at-256.sale");
+    let report = on_file("superfine-late-n-23-at-256.fine");
+    assert_eq!(memory.run(&sale), (0, &report[..]));
 }
 
 #[test]
@@ -180,7 +258,7 @@ fn a_row_of_the_index_has_the_order_of_choice() {
     assert_eq!(memory.run(file).0, 0);
     assert_eq!(rows(&memory), [[3, 2, 4, 0], [2, 3, 4, 0]]);
     let join = [b'J'.into(), 1, 2];
-    assert_eq!(memory.run_list(file, &join).0.code, 0);
+    assert_eq!(memory.run_list(file, &join, &[]).0.code, 0);
     assert_eq!(rows(&memory), [[2, 3, 4, 0], [0, 0, 0, 0]]);
 }
 

@@ -169,6 +169,6 @@ fn a_sale_of_256_lots_and_8_sessions_through_both_entries() {
 #[test]
 fn the_list_is_the_main_entrys() {
     let mut fine = Memory::new(Desk::Superfine);
-    let (outcome, lines) = fine.run_list(sale(9, 2).as_bytes(), &[]);
+    let (outcome, lines) = fine.run_list(sale(9, 2).as_bytes(), &[], &[]);
     assert_eq!((outcome.code, lines), (8, &b""[..]));
 }

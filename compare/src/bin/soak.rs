@@ -3,13 +3,14 @@
 //! superfine desk's entry, and lists of calls apart from their catalogue. Shows its progress, stops at
 //! the first difference and writes that file.
 
-use compare::{compare, compare_fine, compare_list, random_bytes, random_list};
+use compare::lists::{random_list, List};
+use compare::{compare, compare_fine, compare_list, random_bytes};
 use reference::generator::{damaged, sale, Random};
 use std::collections::BTreeMap;
 use std::process::ExitCode;
 
 /// The file of a seed, and the list of calls that goes with every fourth.
-fn case(seed: u64) -> (Vec<u8>, Option<Vec<u32>>) {
+fn case(seed: u64) -> (Vec<u8>, Option<List>) {
     let file = match seed % 10 {
         0..=2 => damaged(seed),
         3 => random_bytes(seed),
