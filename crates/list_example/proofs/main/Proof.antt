@@ -62,6 +62,9 @@ slice-aggregate-kapokdrill-list-15 c = search needs
 slice-aggregate-kapokdrill-list-16 : tie.Need-slice-aggregate-kapokdrill-list-16
 slice-aggregate-kapokdrill-list-16 c = search needs
 
+slice-aggregate-kapokdrill-list-17 : tie.Need-slice-aggregate-kapokdrill-list-17
+slice-aggregate-kapokdrill-list-17 c = search needs
+
 kapokdrill-list-requires : tie.Need-kapokdrill-list-requires
 kapokdrill-list-requires c κs = search needs
 
@@ -104,6 +107,7 @@ main-spec =
     slice-aggregate-kapokdrill-list-14
     slice-aggregate-kapokdrill-list-15
     slice-aggregate-kapokdrill-list-16
+    slice-aggregate-kapokdrill-list-17
     kapokdrill-list-requires
     array-share-prefix-output
     slice-aggregate-write-all
