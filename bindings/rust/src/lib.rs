@@ -1,7 +1,10 @@
 //! The proved splitter for Rust: `Memory` owns all that the engine is lent and runs sales on it.
 //! Rests on the static libraries of the crates `engine` and `hgr`; `lent` has the calls across.
+//! `picture` draws a sale as SVG, and `command` has what the package's programs share.
 
+pub mod command;
 pub mod lent;
+pub mod picture;
 
 use lent::{
     Columns, Lent, ListOutcome, Lot, NetTables, FINE_ROWS, FINE_VERTICES, NETS, OUTPUT, PINS, ROWS,
