@@ -11,6 +11,7 @@ use reference::tables::{entry, Tables};
 use reference::{parse, parse_within, report, run_calls, run_calls_within, Limits};
 use std::path::PathBuf;
 
+pub mod folder;
 pub mod lists;
 pub mod orders;
 pub mod refused;

@@ -2,11 +2,15 @@
 //! from SEED on: generated sales, damaged ones, random bytes, every fifth of them through the
 //! superfine desk's entry, and lists of calls apart from their catalogue. Shows its progress, stops at
 //! the first difference and writes that file.
+//! `soak --folder DIR`: every file of a folder instead, through both desks' entries; it names the file
+//! that differs.
 
+use compare::folder::{compare_files, files, DESKS};
 use compare::lists::{random_list, List};
 use compare::{compare, compare_fine, compare_list, random_bytes};
 use reference::generator::{damaged, sale, Random};
 use std::collections::BTreeMap;
+use std::path::Path;
 use std::process::ExitCode;
 
 /// The file of a seed, and the list of calls that goes with every fourth.
@@ -20,11 +24,50 @@ fn case(seed: u64) -> (Vec<u8>, Option<List>) {
     (file, list)
 }
 
+/// Every file of a folder. An empty folder fails, since nothing was compared.
+fn soak_folder(folder: &Path) -> ExitCode {
+    let files = match files(folder) {
+        Ok(files) if !files.is_empty() => files,
+        Ok(_) => {
+            println!("{}: no file", folder.display());
+            return ExitCode::FAILURE;
+        }
+        Err(error) => {
+            println!("{}: {error}", folder.display());
+            return ExitCode::FAILURE;
+        }
+    };
+    let count = files.len();
+    let compared = compare_files(&files, &DESKS, |done| {
+        if done % 100 == 0 {
+            println!("{done} of {count} agree");
+        }
+    });
+    match compared {
+        Ok(returns) => {
+            println!("{count} agree; by return: {returns:?}");
+            ExitCode::SUCCESS
+        }
+        Err(what) => {
+            println!("{what}");
+            ExitCode::FAILURE
+        }
+    }
+}
+
 fn main() -> ExitCode {
-    let mut numbers = std::env::args().skip(1).map(|word| word.parse::<u64>());
+    let words: Vec<_> = std::env::args_os().skip(1).collect();
+    if let [word, folder] = words.as_slice() {
+        if word == "--folder" {
+            return soak_folder(Path::new(folder));
+        }
+    }
+    let mut numbers = words
+        .iter()
+        .map(|word| word.to_string_lossy().parse::<u64>());
     let (Some(Ok(first)), Some(Ok(count)), None) = (numbers.next(), numbers.next(), numbers.next())
     else {
-        eprintln!("usage: soak SEED COUNT");
+        eprintln!("usage: soak SEED COUNT | soak --folder DIR");
         return ExitCode::from(2);
     };
     let mut returns: BTreeMap<u32, u64> = BTreeMap::new();
