@@ -25,6 +25,8 @@ pub enum Desk {
 /// N was accepted, both tables of marks hold 0 from the last mark to place 8,192.
 pub struct Memory {
     desk: Desk,
+    /// How many buyers the catalogue has that the tables hold: entries past it keep what they held.
+    nets: u32,
     lots: Box<[Lot]>,
     output: Box<[u8]>,
     loadedpins: Box<[u16]>,
@@ -59,6 +61,7 @@ impl Memory {
         };
         Memory {
             desk,
+            nets: 0,
             lots: vec![lot; vertices].into(),
             output: vec![0; OUTPUT].into(),
             loadedpins: vec![0; PINS].into(),
@@ -82,6 +85,7 @@ impl Memory {
             Desk::Main => lent::run(file, lots, lent),
             Desk::Superfine => lent::run_fine(file, lots, lent),
         };
+        self.holds(outcome.code, file);
         (outcome.code, &self.output[..outcome.written])
     }
 
@@ -112,8 +116,19 @@ impl Memory {
             lot.above = aboves[i];
             lot.kept = fixed[i];
         }
+        self.holds(outcome.code, file);
         let written = outcome.written;
         (outcome, &self.output[..written])
+    }
+
+    /// Notes how many buyers the tables hold after a run: those of an accepted file, as many as before
+    /// where memory was too short (8), none after any other refusal.
+    fn holds(&mut self, code: u32, file: &[u8]) {
+        self.nets = match code {
+            0 => buyers(file),
+            8 => self.nets,
+            _ => 0,
+        };
     }
 
     fn lent(&mut self) -> (&mut [Lot], Lent<'_>) {
@@ -197,9 +212,21 @@ impl Memory {
             loadedsizes: &self.loadedsizes,
             presentsizes: &self.presentsizes,
         };
+        if net > self.nets {
+            return &[];
+        }
         let stretch = lent::pins(tables, present, net);
         &table[stretch.first..][..stretch.size]
     }
+}
+
+/// How many buyers an accepted file has: the third field of its first line.
+fn buyers(file: &[u8]) -> u32 {
+    let mut fields = file.split(|byte| matches!(byte, b',' | b'\n'));
+    fields
+        .nth(2)
+        .and_then(|field| std::str::from_utf8(field).ok()?.parse().ok())
+        .unwrap_or(0)
 }
 
 /// The place of a lot's or a buyer's entry for a session in the tables of gains and counts.

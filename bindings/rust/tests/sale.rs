@@ -312,6 +312,20 @@ fn numbers_that_name_no_buyer_have_no_marks() {
 }
 
 #[test]
+fn buyers_of_an_earlier_sale_have_no_marks() {
+    let mut memory = Memory::default();
+    assert_eq!(memory.run(&on_file("worked-sale.sale")).0, 0);
+    assert!(!memory.loadedpins(3).is_empty());
+    assert_eq!(memory.run(b"SALE,2,1,2,1000\nLOT,1,1\nLOT,1,2\nBUY,1,2,1\n").0, 0);
+    assert_eq!(memory.loadedpins(1), [2, 1]);
+    assert_eq!(memory.presentpins(1), [1, 2]);
+    assert!(memory.loadedpins(2).is_empty());
+    assert!(memory.presentpins(3).is_empty());
+    assert_eq!(memory.run(b"SALE\n").0, 2);
+    assert!(memory.loadedpins(1).is_empty());
+}
+
+#[test]
 fn the_worked_sale_as_an_hmetis_file() {
     let folder = Path::new(env!("CARGO_MANIFEST_DIR")).join("../../hgr");
     let input = std::fs::read(folder.join("worked-sale.hgr")).expect("the input is on file");
