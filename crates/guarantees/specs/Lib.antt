@@ -15,7 +15,7 @@
 --    No definition stops for want of fuel: Fuel (walk-rests, polish-rests, coarsen-rests, climb-rests, digits-fuel).
 -- 5. When an accepted A ends, under any ceiling, no single move with room lowers the metric: Optimum (A-best; P-best for P).
 -- 6. An accepted file is within every range of document 01: Ranges (accepted-ranges, accepted-book).
---    What an entry accepts, one with wider limits reads alike, to the same report: Wider (wider-reads, wider-report).
+--    What an entry accepts, one with wider limits reads alike: Wider (wider-reads).
 -- 7. The cap is between ⌈W/k⌉ and twice that, and does not fall where W grows: Capacity (average-capacity, capacity-twice, capacity-grows).
 --    So for every count of bales within the ranges of an estimate no block passes the cap of that count: Counts (every-count).
 --    Bounds for the code: ReachedBounds (reached-bounds), SearchBounds (walk-counts, refine-counts, polish-count), AnswerBounds (bounded-call),
