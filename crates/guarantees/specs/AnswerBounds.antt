@@ -47,7 +47,7 @@ module _ (limits : Limits) (small : limits .vertexLimit ≤ 1024) (narrow : limi
   pub blocks-in : h .blocks ≤ 16
   blocks-in = omega (arith, r .loaded .blocks-high)
 
-  settled : (q : ℕ) (s : State) (done : Step) → q ≤ 25 → (q ≡ 0 → Bounded (done .answer)) → Bounded (settle q s done .answer)
+  pub settled : (q : ℕ) (s : State) (done : Step) → q ≤ 25 → (q ≡ 0 → Bounded (done .answer)) → Bounded (settle q s done .answer)
   unfolding settle
   settled zero s done l f = f refl
   settled (suc q) s done l f = l
@@ -61,7 +61,7 @@ module _ (limits : Limits) (small : limits .vertexLimit ≤ 1024) (narrow : limi
         (either-le (not (onBoard h (s .stack) u && onBoard h (s .stack) v)) 10 _ 25 (omega arith)
         (either-le (not (eqb (s .block u) (s .block v))) 13 0 25 (omega arith) (omega arith))))
 
-    refusals-M : (v t : ℕ) → refusesM h ceiling s v t ≤ 25
+    pub refusals-M : (v t : ℕ) → refusesM h ceiling s v t ≤ 25
     unfolding refusesM
     refusals-M v t =
         either-le (not (isVertex h v && isBlock h t)) 9 _ 25 (omega arith)
@@ -90,7 +90,7 @@ module _ (limits : Limits) (small : limits .vertexLimit ≤ 1024) (narrow : limi
     bounded-S [] a = omega arith
     bounded-S (c ∷ cs) a = (omega (arith, a .0 .1, vertices-in), omega (arith, a .0 .3, vertices-in))
 
-    bounded-M : (v t : ℕ) → Bounded (doesM h s v t .answer)
+    pub bounded-M : (v t : ℕ) → Bounded (doesM h s v t .answer)
     unfolding doesM
     bounded-M v t = (
       freed-le limits narrow h (r .loaded) (r .nets-high) (s .stack) (s .block) v,
@@ -98,7 +98,7 @@ module _ (limits : Limits) (small : limits .vertexLimit ≤ 1024) (narrow : limi
       metric-in _ _,
     )
 
-    bounded-B : (ms : List Move) → Recorded h (s .stack) ms → Listed h ms → Bounded (doesB h s ms .answer)
+    pub bounded-B : (ms : List Move) → Recorded h (s .stack) ms → Listed h ms → Bounded (doesB h s ms .answer)
     unfolding doesB
     bounded-B [] k l = omega arith
     bounded-B (m ∷ ms) k l = (omega (arith, l .0 .1, vertices-in), omega (arith, k .0 .2, blocks-in), metric-in _ _)

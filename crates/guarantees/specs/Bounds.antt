@@ -16,9 +16,9 @@ use Rattle.laws.specs.Sum.{countTo-le}
 use Rattle.model.specs.Catalogue.{Limits, Net, Hypergraph}
 use Rattle.model.specs.Measure.{Contraction, pin, size, pinCount, connectivity, metric, freed, drawn, gain}
 use Rattle.model.specs.Search.{rating}
-use Rattle.guarantees.specs.Loads.{Fair}
+use Rattle.guarantees.specs.Loads.{WellFormed}
 
-module _ (limits : Limits) (narrow : limits .blockLimit ≤ 16) (h : Hypergraph) (g : Fair limits h) (few : length (h .nets) ≤ 1024) (cs : List Contraction) (p : ℕ → ℕ) where
+module _ (limits : Limits) (narrow : limits .blockLimit ≤ 16) (h : Hypergraph) (g : WellFormed limits h) (few : length (h .nets) ≤ 1024) (cs : List Contraction) (p : ℕ → ℕ) where
   pub freed-le : (v : ℕ) → freed h cs p v ≤ 1024000
   unfolding freed
   freed-le v = omega (arith, sumOver-le (h .nets) _ (λ e. cond (pin cs e v && eqb (pinCount h cs p e (p v)) 1) (e .weight) 0) 1000 (g .net-weights) (λ e r. cond-le (pin cs e v && eqb (pinCount h cs p e (p v)) 1) (e .weight) 1000 (r .1)))
@@ -48,7 +48,7 @@ module _ (limits : Limits) (narrow : limits .blockLimit ≤ 16) (h : Hypergraph)
           let c : connectivity h cs p e - 1 ≤ 15 = omega (arith, connectivity-le e, g .blocks-high) in
           omega (arith, mul-le-mul-left (e .weight) c)
 
-pub rating-le : (limits : Limits) (h : Hypergraph) → Fair limits h → length (h .nets) ≤ 1024 → (cs : List Contraction) (u v : ℕ) → rating h cs u v ≤ 5160960000
+pub rating-le : (limits : Limits) (h : Hypergraph) → WellFormed limits h → length (h .nets) ≤ 1024 → (cs : List Contraction) (u v : ℕ) → rating h cs u v ≤ 5160960000
 unfolding rating
 rating-le limits h g few cs u v = omega (arith, sumOver-le (h .nets) _ (λ e. cond (pin cs e u && pin cs e v) (5040 * e .weight / (size h cs e - 1)) 0) 5040000 (g .net-weights) (λ e r. each e (r .1)))
   where

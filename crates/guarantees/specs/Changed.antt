@@ -17,13 +17,13 @@ use Rattle.laws.specs.Occurrence.{Distinct, distinct-more}
 use Rattle.model.specs.Catalogue.{Limits, Net, Hypergraph, vertices, loaded, drafted, fixedEntry, inSale, averageWeight, capacity, capacities}
 use Rattle.model.specs.Measure.{above, onBoard, blockWeight}
 use Rattle.model.specs.Machine.{fresh}
-use Rattle.model.specs.Sale.{lotsIn, put, sessions, changedAt, withdrawn, added, netsWithout, netsWith}
+use Rattle.model.specs.Sale.{lotsIn, marksIn, put, sessions, changedAt, withdrawn, added, netsWithout, netsWith}
 use Rattle.guarantees.specs.Board.{board-is, board-sale}
 use Rattle.guarantees.specs.Ends.{Placed, At}
 use Rattle.guarantees.specs.Splits.{above-none, blockWeight-none}
 use Rattle.guarantees.specs.Clumps.{Within}
 use Rattle.guarantees.specs.Caps.{Capped}
-use Rattle.guarantees.specs.Loads.{Fair}
+use Rattle.guarantees.specs.Loads.{WellFormed}
 use Rattle.guarantees.specs.Ranges.{Ranges}
 use Rattle.guarantees.specs.Changes.{put-length, put-longer, put-even, put-at, put-other, put-all, sessions-length, sessions-at, unmarked-all, unmarked-distinct, without-length, without-all, without-marks, with-length, with-all, with-marks, named-le}
 
@@ -199,14 +199,21 @@ module _ (limits : Limits) (h : Hypergraph) (r : Ranges limits h) (p : ℕ → �
     unfolding withdrawn
     withdrawn-lots q = omega (arith, lots-same h p v 0 0 (netsWithout v (h .nets)) vl later vk, ap one q)
 
+    pub withdrawn-lighter : (b : ℕ) → blockWeight out [] (drafted out) b ≤ blockWeight h [] p b
+    unfolding withdrawn
+    withdrawn-lighter b = omega (arith, weight-same h p v 0 0 (netsWithout v (h .nets)) vl later vk b, cond-le (eqb 0 b) 0 0 (omega arith))
+
+    pub withdrawn-marks : marksIn out ≤ marksIn h
+    unfolding withdrawn changedAt marksIn
+    withdrawn-marks = without-marks v (h .nets)
+
     withdrawn-capped : Capped out (capacities out) [] (drafted out)
     unfolding withdrawn changedAt
-    withdrawn-capped b l u =
-        omega (arith, weight-same h p v 0 0 (netsWithout v (h .nets)) vl later vk b, cond-le (eqb 0 b) 0 0 (omega arith), capped b l u, capacity-same h p v 0 0 (netsWithout v (h .nets)) vl later)
+    withdrawn-capped b l u = omega (arith, withdrawn-lighter b, capped b l u, capacity-same h p v 0 0 (netsWithout v (h .nets)) vl later)
 
-    withdrawn-fair : Fair limits out
+    withdrawn-formed : WellFormed limits out
     unfolding withdrawn changedAt
-    withdrawn-fair =
+    withdrawn-formed =
         let g = r .loaded in
         let longs : length (put (h .weights) (v - 1) 0) ≡ length (h .weights) = put-length (h .weights) (v - 1) 0 (omega arith) in
         record {
@@ -237,7 +244,7 @@ module _ (limits : Limits) (h : Hypergraph) (r : Ranges limits h) (p : ℕ → �
       nets-high = omega (arith, without-length v (h .nets), r .nets-high);
       marks-high = omega (arith, without-marks v (h .nets), r .marks-high);
       total-high = r .total-high;
-      loaded = withdrawn-fair;
+      loaded = withdrawn-formed;
       placed = placed-changed h p v 0 0 (netsWithout v (h .nets)) vl later placed (λ l. absurd (omega arith)) (λ e. refl);
       draft-within = withdrawn-capped;
     }
@@ -282,15 +289,23 @@ module _ (limits : Limits) (h : Hypergraph) (r : Ranges limits h) (p : ℕ → �
         (λ k. omega (arith, lots-more h p v bales session (netsWith v buyers 1 (h .nets)) vl within-next k, one-more))
         which
 
+    pub added-heavier : (b : ℕ) → blockWeight more [] (drafted more) b ≤ blockWeight h [] p b + cond (eqb session b) bales 0
+    unfolding added
+    added-heavier b = ⊎-elim
+        (λ k. omega (arith, weight-same h p v bales session (netsWith v buyers 1 (h .nets)) vl within-next k b))
+        (λ k. omega (arith, weight-more h p v bales session (netsWith v buyers 1 (h .nets)) vl within-next k b))
+        which
+
+    pub added-marks : marksIn more ≤ marksIn h + length buyers
+    unfolding added changedAt marksIn
+    added-marks = omega (arith, with-marks v buyers 1 (h .nets), named-le buyers 1 (h .nets))
+
     added-capped : blockWeight h [] p session + bales ≤ capacity h → Capped more (capacities more) [] (drafted more)
     unfolding added changedAt
     added-capped room b l u = go (ℕ-discrete session b)
       where
         heavier : blockWeight more [] (drafted more) b ≤ blockWeight h [] p b + cond (eqb session b) bales 0
-        heavier = ⊎-elim
-            (λ k. omega (arith, weight-same h p v bales session (netsWith v buyers 1 (h .nets)) vl within-next k b))
-            (λ k. omega (arith, weight-more h p v bales session (netsWith v buyers 1 (h .nets)) vl within-next k b))
-            which
+        heavier = added-heavier b
 
         same : capacity more ≡ capacity h
         same = capacity-same h p v bales session (netsWith v buyers 1 (h .nets)) vl within-next
@@ -311,9 +326,9 @@ module _ (limits : Limits) (h : Hypergraph) (r : Ranges limits h) (p : ℕ → �
     old-in : (x : ℕ) → (1 ≤ x) × (x ≤ vertices h) → (1 ≤ x) × (x ≤ vertices more)
     old-in x i = (i .0, omega (arith, i .1, no-less))
 
-    added-fair : Fair limits more
+    added-formed : WellFormed limits more
     unfolding added changedAt
-    added-fair =
+    added-formed =
         let g = r .loaded in
         record {
           blocks-low = g .blocks-low;
@@ -348,7 +363,7 @@ module _ (limits : Limits) (h : Hypergraph) (r : Ranges limits h) (p : ℕ → �
       nets-high = omega (arith, with-length v buyers 1 (h .nets), r .nets-high);
       marks-high = omega (arith, with-marks v buyers 1 (h .nets), named-le buyers 1 (h .nets));
       total-high = r .total-high;
-      loaded = added-fair;
+      loaded = added-formed;
       placed = placed-changed h p v bales session (netsWith v buyers 1 (h .nets)) vl within-next placed (λ l. (bl, bu)) (λ e. absurd (omega arith));
       draft-within = added-capped room;
     }

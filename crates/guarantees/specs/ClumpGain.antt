@@ -18,12 +18,12 @@ use Rattle.model.specs.Sale.{Sale}
 use Rattle.model.specs.Memory.{Tables, Holds, gainEntry}
 use Rattle.model.specs.Clump.{unjoinedTotal, inClumps, clumpTo, ClumpGains}
 use Rattle.guarantees.specs.Clumps.{gain-out}
-use Rattle.guarantees.specs.Reached.{Healthy}
+use Rattle.guarantees.specs.Reached.{Valid}
 
 less : (a b : ℕ) (g : ℤ) → pos b ≡ pos a -ℤ g → g ≡ pos a -ℤ pos b
 less a b g q = eq-by _ _ (omega (arith, ap up q, ap dn q, sub-is (pos a) g, sub-is (pos a) (pos b), pos-is a, pos-is b))
 
-module _ (limits : Limits) (a : Sale) (healthy : Healthy limits a) where
+module _ (limits : Limits) (a : Sale) (valid : Valid limits a) where
   abbrev h : Hypergraph
   h = a .graph
 
@@ -34,16 +34,16 @@ module _ (limits : Limits) (a : Sale) (healthy : Healthy limits a) where
       → gain h (s .stack) (s .block) v t ≡ pos (unjoinedTotal h (inClumps (s .stack) (s .block))) -ℤ pos (unjoinedTotal h (clumpTo (s .stack) (s .block) v t))
   unfolding place
   clump-gain v t vl vu on tl tu away =
-      let k = healthy .held .legal in
+      let k = valid .held .legal in
       let r = k .placed v vl vu .board on in
-      less _ _ _ (gain-out h (s .stack) (k .sound) (k .inside) (s .block) (healthy .ranges .loaded .nets-in) v t vl vu (r .0) (r .1) tl tu away)
+      less _ _ _ (gain-out h (s .stack) (k .sound) (k .inside) (s .block) (valid .ranges .loaded .nets-in) v t vl vu (r .0) (r .1) tl tu away)
 
   -- the gain table's entries in use say so
   pub clump-gains : limits .blockLimit ≤ 16 → (old t : Tables) → 16 * limits .vertexLimit ≤ length (old .gains) → Holds a old t → ClumpGains h s t
   unfolding gainEntry
   clump-gains narrow old t long q v b vl vu on bl bu away =
       let i : ℕ = 16 * (v - 1) + (b - 1) in
-      let r = healthy .ranges in
+      let r = valid .ranges in
       let few : b ≤ 16 = omega (arith, r .loaded .blocks-high) in
       let row : i / 16 ≡ v - 1 = omega arith in
       let place : i % 16 ≡ b - 1 = omega arith in

@@ -17,7 +17,7 @@ use Rattle.model.specs.Demand.{Accepted, WithinCapacity, reachedBy}
 use Rattle.model.specs.Estimate.{InRanges, counted, EveryCount}
 use Rattle.guarantees.specs.Capacity.{capacity-grows}
 use Rattle.guarantees.specs.Loads.{Loaded, sum-below}
-use Rattle.guarantees.specs.Ranges.{accepted-loaded}
+use Rattle.guarantees.specs.Ranges.{Few, accepted-loaded}
 use Rattle.guarantees.specs.Reached.{within-capacity, unchanged}
 
 module _ (h : Hypergraph) (count : List ℕ) (r : InRanges h count) where
@@ -56,14 +56,17 @@ module _ (h : Hypergraph) (count : List ℕ) (r : InRanges h count) where
     sum-below (h .lows) count (g .lows-long ∙ sym (r .each-lot)) (λ i l. below (λ v. getD (h .lows) v 0 ≤ getD count v 0) i (r .from-low (suc i) (omega arith) (omega (arith, r .each-lot)))),
   ))
 
--- for every count of bales within the ranges no block passes the cap that this count itself gives, as long as no X or N is accepted
-pub every-count : (limits : Limits) (h : Hypergraph) → Accepted limits h → (calls : List Request) → reachedBy limits h calls .changed ≡ false → EveryCount h (reachedBy limits h calls .state)
-every-count limits h a calls same count r b l u =
+-- for every count of bales within the ranges no block passes the cap that this count itself gives, where none passes that of the catalogue
+pub count-within : (limits : Limits) (h : Hypergraph) → Loaded limits h → (s : State) → WithinCapacity h s → EveryCount h s
+count-within limits h g s now count r b l u = omega (
+  arith,
+  block-below h count r (s .stack) (s .block) b,
+  now b l u,
+  cap-below h count r g,
+)
+
+-- so it is as long as no X or N is accepted
+pub every-count : (limits : Limits) → Few limits → (h : Hypergraph) → Accepted limits h → (calls : List Request) → reachedBy limits h calls .changed ≡ false → EveryCount h (reachedBy limits h calls .state)
+every-count limits few h a calls same =
     let s : State = reachedBy limits h calls .state in
-    let now : WithinCapacity h s = subst (λ (g : Hypergraph). WithinCapacity g s) (unchanged limits h calls same) (within-capacity limits h a calls) in
-    omega (
-      arith,
-      block-below h count r (s .stack) (s .block) b,
-      now b l u,
-      cap-below h count r (accepted-loaded limits h a),
-    )
+    count-within limits h (accepted-loaded limits h a) s (subst (λ (g : Hypergraph). WithinCapacity g s) (unchanged limits h calls same) (within-capacity limits few h a calls))

@@ -1,7 +1,7 @@
 -- The machine's own theorems, over `model` alone: no code, nothing assumed.
 -- 1. A move changes the metric by minus its gain, and the move back has the negated gain: Moves (metric-gain, gain-back).
 --    Moves of different vertices commute in blocks, pin counts, weights, gains and metric: Commutes (moves-commute, calls-commute). Lists
---    of accepted moves that end in the same blocks leave the same lent tables and metric: Order (order-of-moves, either-order).
+--    of accepted moves that end in the same blocks leave the same lent tables and metric: Order (order-of-moves, order-in-files, order-of-tables, either-order).
 -- 2. Contraction and uncontraction of two vertices of one block leave the metric and every block's weight: Joins (metric-join),
 --    Weights (blockWeight-join), Splits (metric-split, blockWeight-split), so J and S do: Contractions (J-leaves, S-leaves). With no
 --    contraction pins and weights are the loaded ones: Splits (pin-none, weight-none). A clump's gain is the effect on the
@@ -15,13 +15,14 @@
 --    No definition stops for want of fuel: Fuel (walk-rests, polish-rests, coarsen-rests, climb-rests, digits-fuel).
 -- 5. When an accepted A ends, under any ceiling, no single move with room lowers the metric: Optimum (A-best; P-best for P).
 -- 6. An accepted file is within every range of document 01: Ranges (accepted-ranges, accepted-book).
---    What an entry accepts, one with wider limits reads alike: Wider (wider-reads).
+--    What an entry accepts, one with wider limits reads alike, and answers alike but for 23: Wider (wider-reads, wider-after, wider-report).
 -- 7. The cap is between ⌈W/k⌉ and twice that, and does not fall where W grows: Capacity (average-capacity, capacity-twice, capacity-grows).
 --    So for every count of bales within the ranges of an estimate no block passes the cap of that count: Counts (every-count).
 --    Bounds for the code: ReachedBounds (reached-bounds), SearchBounds (walk-counts, refine-counts, polish-count), AnswerBounds (bounded-call),
 --    Stretches (size-le, size-fresh, stretch-le, marks-le). The report fits into the lent output: ReportFits (report-fits), whatever the file:
 --    Refusals (engine-fits).
--- 8. Demand 3's machine half, one theorem about the whole list: MachineHalf (machine-half).
+-- 8. Demand 3's machine half, one theorem about the whole list: MachineHalf (machine-half). What is promised at every entry, of lists and of files:
+--    Promises (promised, file-serves).
 -- 9. The index holds each pair of a board lot and another session once and no other: Ready (each-pair-once); its first open pair in the order of
 --    choice is the full search's: Ready (first-is-best). Beneath it Ranked, Inserts, Ranks.
 -- 10. What lent memory held before loading, the catalogue and the machine's state tell its every entry: Determined (holds-same). So a refused call
@@ -72,7 +73,9 @@ pub mod MachineHalf
 pub mod Ranked
 pub mod Inserts
 pub mod Ranks
+pub mod Through
 pub mod Ready
 pub mod Determined
 pub mod Order
 pub mod Refused
+pub mod Promises

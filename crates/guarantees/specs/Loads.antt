@@ -18,8 +18,9 @@ use Rattle.model.specs.Catalogue.{Limits, Hypergraph, vertices, loaded, drafted
 use Rattle.model.specs.Measure.{blockWeight}
 use Rattle.model.specs.Machine.{fresh}
 use Rattle.model.specs.Sale.{Request}
-use Rattle.model.specs.Grammar.{Book, reading, whole, full, overfull, withLot, withNet, parse}
-use Rattle.guarantees.specs.Reading.{Marks, Even, blank, lotted, netted, called, accepted-keeps}
+use Rattle.model.specs.Grammar.{unread, Book, reading, whole, full, overfull, withLot, withNet, parse}
+use Rattle.model.specs.Through.{Stage, ended, refused, through}
+use Rattle.guarantees.specs.Reading.{Kept, part-keeps, Marks, Even, blank, lotted, netted, called, accepted-keeps}
 use Rattle.guarantees.specs.Board.{board-is}
 use Rattle.guarantees.specs.Ends.{Placed}
 use Rattle.guarantees.specs.Splits.{above-none}
@@ -45,7 +46,7 @@ pub record Loaded (limits : Limits) (h : Hypergraph) : Type 0 where
   pub imbalance-high : h .imbalance ≤ 1000
 
 -- what a catalogue keeps while lots are withdrawn and added
-pub record Fair (limits : Limits) (h : Hypergraph) : Type 0 where
+pub record WellFormed (limits : Limits) (h : Hypergraph) : Type 0 where
   pub blocks-low : 2 ≤ h .blocks
   pub blocks-high : h .blocks ≤ limits .blockLimit
   pub as-long : length (h .draft) ≡ length (h .weights)
@@ -64,8 +65,8 @@ pub record Fair (limits : Limits) (h : Hypergraph) : Type 0 where
 pub loaded-sale : {limits : Limits} {h : Hypergraph} → Loaded limits h → (x : ℕ) → 1 ≤ x → x ≤ vertices h → inSale h x ≡ true
 loaded-sale {h = h} g x l u = lt-ltb 0 (loaded h x) (omega (arith, all-get (h .weights) _ 0 (g .weights-in) (x - 1) (omega arith) .0))
 
-pub loaded-fair : {limits : Limits} {h : Hypergraph} → Loaded limits h → Fair limits h
-loaded-fair {h = h} g = record {
+pub loaded-formed : {limits : Limits} {h : Hypergraph} → Loaded limits h → WellFormed limits h
+loaded-formed {h = h} g = record {
   blocks-low = g .blocks-low;
   blocks-high = g .blocks-high;
   as-long = g .as-long;
@@ -81,15 +82,19 @@ loaded-fair {h = h} g = record {
   imbalance-high = g .imbalance-high;
 }
 
+-- limits that are no narrower
+pub loaded-wide : (limits wide : Limits) → limits .blockLimit ≤ wide .blockLimit → (h : Hypergraph) → Loaded limits h → Loaded wide h
+loaded-wide limits wide blocks h g = record { blocks-low = g .blocks-low; blocks-high = omega (arith, blocks, g .blocks-high); draft-in = g .draft-in; as-long = g .as-long; fixed-long = g .fixed-long; fixed-in = g .fixed-in; lows-long = g .lows-long; lows-in = g .lows-in; total-is = g .total-is; nets-in = g .nets-in; nets-distinct = g .nets-distinct; nets-some = g .nets-some; weights-in = g .weights-in; net-weights = g .net-weights; imbalance-high = g .imbalance-high }
+
 -- how much has been read, of what the first line announces
 pub record Sized (limits : Limits) (k : Book) : Type 0 where
   pub lots-low : 1 ≤ k .lots
   pub lots-high : k .lots ≤ limits .vertexLimit
-  pub buyers-high : k .buyers ≤ 1024
+  pub buyers-high : k .buyers ≤ limits .netLimit
   pub lots-le : vertices (k .graph) ≤ k .lots
   pub nets-le : length (k .graph .nets) ≤ k .buyers
   pub marks-are : sumOver (k .graph .nets) (λ e. length (e .pins)) ≡ k .marks
-  pub marks-high : k .marks ≤ 8192
+  pub marks-high : k .marks ≤ limits .pinLimit
   pub calls-high : length (k .calls) ≤ 512
 
 -- one lot more keeps every low at most its high
@@ -120,7 +125,7 @@ module _ (limits : Limits) where
     pub even : Even k
     pub sized : Sized limits k
 
-  read-first : (estimated : Bool) (n m k s : ℕ) → 1 ≤ n → n ≤ limits .vertexLimit → m ≤ 1024 → 2 ≤ k → k ≤ limits .blockLimit → s ≤ 1000 → Read (blank estimated n m k s)
+  read-first : (estimated : Bool) (n m k s : ℕ) → 1 ≤ n → n ≤ limits .vertexLimit → m ≤ limits .netLimit → 2 ≤ k → k ≤ limits .blockLimit → s ≤ 1000 → Read (blank estimated n m k s)
   unfolding sumOver
   read-first estimated n m k s nl nu mu kl ku su = record {
     loads = record { blocks-low = kl; blocks-high = ku; draft-in = tt; as-long = refl; fixed-long = refl; fixed-in = tt; lows-long = refl; lows-in = λ i l. absurd (omega arith); total-is = refl; nets-in = tt; nets-distinct = tt; nets-some = tt; weights-in = tt; net-weights = tt; imbalance-high = su };
@@ -158,7 +163,7 @@ module _ (limits : Limits) where
         sized = record { lots-low = z .lots-low; lots-high = z .lots-high; buyers-high = z .buyers-high; lots-le = omega (arith, longer); nets-le = z .nets-le; marks-are = z .marks-are; marks-high = z .marks-high; calls-high = omega arith };
       }
 
-  read-net : (k : Book) (w : ℕ) (vs : List ℕ) (m : ℕ) → Read k → length (k .graph .nets) < k .buyers → 1 ≤ w → w ≤ 1000 → 1 ≤ length vs → Marks (k .graph) (k .marks) vs m → Even (netted k w vs m) → Read (netted k w vs m)
+  read-net : (k : Book) (w : ℕ) (vs : List ℕ) (m : ℕ) → Read k → length (k .graph .nets) < k .buyers → 1 ≤ w → w ≤ 1000 → 1 ≤ length vs → Marks limits (k .graph) (k .marks) vs m → Even (netted k w vs m) → Read (netted k w vs m)
   unfolding withNet
   read-net k w vs m r l wl wu vl a e =
       let g = r .loads in
@@ -216,8 +221,12 @@ module _ (limits : Limits) where
         };
       }
 
-  read-all : (file : List ℕ) (k : Book) → parse limits file ≡ reading k → Read k × (whole k ≡ true)
-  read-all file k q = accepted-keeps limits Read (record { first = read-first; vertex = read-vertex; net = read-net; asking = read-call }) file k q
+  -- every line keeps it
+  pub read-keeps : Kept limits Read
+  read-keeps = record { first = read-first; vertex = read-vertex; net = read-net; asking = read-call }
+
+  pub read-all : (file : List ℕ) (k : Book) → parse limits file ≡ reading k → Read k × (whole k ≡ true)
+  read-all file k q = accepted-keeps limits Read read-keeps file k q
 
   pub parsed : (file : List ℕ) (k : Book) → parse limits file ≡ reading k → Loaded limits (k .graph)
   parsed file k q = read-all file k q .0 .loads
@@ -241,7 +250,7 @@ module _ (limits : Limits) where
   legal-start h g = legal-fresh h (placed-start h g)
 
   -- ---- no block of the draft is above its capacity
-  none-over : (n : ℕ) (f : ℕ → Bool) → foldTo n (λ b s. b || f s) false ≡ false → (i : ℕ) → 1 ≤ i → i ≤ n → f i ≡ false
+  pub none-over : (n : ℕ) (f : ℕ → Bool) → foldTo n (λ b s. b || f s) false ≡ false → (i : ℕ) → 1 ≤ i → i ≤ n → f i ≡ false
   unfolding foldTo
   none-over zero f q i l u = absurd (omega arith)
   none-over (suc n) f q i l u = go (or-none (foldTo n (λ b s. b || f s) false) (f (suc n)) q) (λ r k. none-over n f r i l k) (ℕ-discrete i (suc n))
@@ -253,6 +262,16 @@ module _ (limits : Limits) where
   pub capped-draft : (h : Hypergraph) → overfull h ≡ false → Capped h (capacities h) [] (drafted h)
   unfolding overfull
   capped-draft h q b l u = ltb-false (capacity h) (blockWeight h [] (drafted h) b) (none-over (h .blocks) (λ s. ltb (capacity h) (blockWeight h [] (drafted h) s)) q b l u)
+
+  -- the same of a catalogue whose lines begin anywhere in a file
+  pub part-read : (n : ℕ) (ls : List (List ℕ)) (k : Book) (n′ : ℕ) (rest : List (List ℕ)) → through limits n unread ls ≡ ended k n′ rest → Read k × (whole k ≡ true)
+  part-read n ls k n′ rest q = part-keeps limits Read read-keeps n ls k n′ rest q
+
+  pub held-part : (n : ℕ) (ls : List (List ℕ)) (k : Book) (n′ : ℕ) (rest : List (List ℕ)) → through limits n unread ls ≡ ended k n′ rest → Held (k .graph) (capacities (k .graph)) (fresh (k .graph))
+  unfolding fresh
+  held-part n ls k n′ rest q =
+      let r = part-read n ls k n′ rest q in
+      record { legal = legal-start (k .graph) (r .0 .loads); capped = capped-draft (k .graph) (r .0 .even (r .1)); back = tt }
 
   pub held-start : (file : List ℕ) (k : Book) → parse limits file ≡ reading k → Held (k .graph) (capacities (k .graph)) (fresh (k .graph))
   unfolding fresh

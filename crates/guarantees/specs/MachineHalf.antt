@@ -6,18 +6,19 @@ use Rattle.model.specs.Catalogue.{Limits, Hypergraph, capacities}
 use Rattle.model.specs.Machine.{callA}
 use Rattle.model.specs.Sale.{Request, runs, Sale, ran, turnUnder}
 use Rattle.model.specs.Demand.{Accepted, MachineHalf, reachedBy}
+use Rattle.guarantees.specs.Ranges.{Few}
 use Rattle.guarantees.specs.Reached.{reached, within-capacity}
 use Rattle.guarantees.specs.NeverHigher.{never-higher}
 use Rattle.guarantees.specs.Optimum.{A-best}
 
-pub machine-half : (limits : Limits) (h : Hypergraph) → Accepted limits h → (calls : List Request) → MachineHalf limits h calls
+pub machine-half : (limits : Limits) → Few limits → (h : Hypergraph) → Accepted limits h → (calls : List Request) → MachineHalf limits h calls
 unfolding turnUnder ran
-machine-half limits h a calls = record {
-  within-capacity = within-capacity limits h a calls;
+machine-half limits few h a calls = record {
+  within-capacity = within-capacity limits few h a calls;
   never-higher = λ before later c q searching accepted.
       let b : Sale = reachedBy limits h before in
-      never-higher (b .graph) (capacities (b .graph)) (b .state) c (reached limits h a before .held .legal) searching;
+      never-higher (b .graph) (capacities (b .graph)) (b .state) c (reached limits few h a before .held .legal) searching;
   locally-best = λ before later q accepted.
       let b : Sale = reachedBy limits h before in
-      A-best (b .graph) (capacities (b .graph)) (b .state) (reached limits h a before .held .legal) accepted;
+      A-best (b .graph) (capacities (b .graph)) (b .state) (reached limits few h a before .held .legal) accepted;
 }

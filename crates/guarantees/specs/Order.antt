@@ -22,15 +22,17 @@ use Rattle.model.specs.Sale.{Request, runs, callX, callN, Sale, opened, ran, tu
 use Rattle.model.specs.Grammar.{Reading, Book, reading, parse}
 use Rattle.model.specs.Report.{refusal}
 use Rattle.model.specs.Engine.{after}
-use Rattle.model.specs.Memory.{Tables, Memory, longMemory, HoldsFor, Holds}
+use Rattle.model.specs.Memory.{Tables, Memory, longMemory, HoldsFor, Holds, Served, Serves}
 use Rattle.model.specs.Lent.{stackOf}
-use Rattle.model.specs.Demand.{Accepted, reachedBy, Demand3}
+use Rattle.model.specs.Demand.{Accepted, reachedBy}
+use Rattle.model.specs.Promises.{Demand3}
 use Rattle.model.specs.ListEntry.{listRefusal, listCalls, Returned, Listed, ListServed, ListServes}
-use Rattle.model.specs.Order.{isMove, asksMove, AcceptedMoves, sessionOf, SameSessions, SameLeft, OrderOfMoves, EitherOrder}
+use Rattle.model.specs.Order.{isMove, asksMove, AcceptedMoves, sessionOf, SameSessions, SameLeft, OrderOfMoves, OrderInFiles, OrderOfTables, EitherOrder}
 use Rattle.guarantees.specs.Climbs.{representative-self}
 use Rattle.guarantees.specs.Reading.{vertex-range}
 use Rattle.guarantees.specs.Ends.{Placed}
 use Rattle.guarantees.specs.Reached.{reached}
+use Rattle.guarantees.specs.Ranges.{Few}
 use Rattle.guarantees.specs.Board.{board-under}
 use Rattle.guarantees.specs.Determined.{holds-same}
 
@@ -101,7 +103,7 @@ kept-behind : (limits : Limits) (h : Hypergraph) (before ms : List Request) → 
 kept-behind limits h before ms a = subst (Kept (reachedBy limits h before)) (sym (after-append limits (opened h) before ms)) (moved limits (reachedBy limits h before) ms a)
 
 -- ---- the same stack and the same partition
-module _ (limits : Limits) (h : Hypergraph) (ok : Accepted limits h) (before moves moves′ : List Request) (s : SameSessions limits h before moves moves′) where
+module _ (limits : Limits) (few : Few limits) (h : Hypergraph) (ok : Accepted limits h) (before moves moves′ : List Request) (s : SameSessions limits h before moves moves′) where
   -- the catalogue there
   abbrev g : Hypergraph
   g = reachedBy limits h before .graph
@@ -122,10 +124,10 @@ module _ (limits : Limits) (h : Hypergraph) (ok : Accepted limits h) (before mov
   same-stack = other-kept .stack-same ∙ sym (one-kept .stack-same)
 
   one-placed : Placed g (one-end .stack) (one-end .block)
-  one-placed = subst (λ (z : Hypergraph). Placed z (one-end .stack) (one-end .block)) (one-kept .graph-same) (reached limits h ok (before ++ moves) .held .legal .placed)
+  one-placed = subst (λ (z : Hypergraph). Placed z (one-end .stack) (one-end .block)) (one-kept .graph-same) (reached limits few h ok (before ++ moves) .held .legal .placed)
 
   other-placed : Placed g (other-end .stack) (other-end .block)
-  other-placed = subst (λ (z : Hypergraph). Placed z (other-end .stack) (other-end .block)) (other-kept .graph-same) (reached limits h ok (before ++ moves′) .held .legal .placed)
+  other-placed = subst (λ (z : Hypergraph). Placed z (other-end .stack) (other-end .block)) (other-kept .graph-same) (reached limits few h ok (before ++ moves′) .held .legal .placed)
 
   -- a vertex under no other stands for itself, and one under another has block 0
   same-at : (x : ℕ) → 1 ≤ x → x ≤ vertices g → other-end .block x ≡ one-end .block x
@@ -198,17 +200,35 @@ listed-in limits file list operands k old new r calls p l z q s =
     (subst (λ (n : ℕ). ListServed true n limits (parse limits file) (listCalls list operands) old new r) z
     (subst (λ (b : Bool). ListServed b (listRefusal list operands) limits (parse limits file) (listCalls list operands) old new r) l s)))
 
-pub order-of-moves : (limits : Limits) → OrderOfMoves limits
-order-of-moves limits file list list′ operands operands′ k old new new′ r r′ before moves moves′ p l z q z′ q′ s a b =
+pub order-of-tables : (limits : Limits) → Few limits → OrderOfTables limits
+order-of-tables limits few h before moves moves′ old t t′ ok s x y =
+    holds-same (holds-as (same-stack limits few h ok before moves moves′ s) (same-block limits few h ok before moves moves′ s) (other-holds limits few h ok before moves moves′ s y)) (one-holds limits few h ok before moves moves′ s x)
+
+-- what an entry for files leaves of an accepted file, in memory that is long enough
+held-in : (limits : Limits) (file : List ℕ) (k : Book) (h : Hypergraph) (calls : List Request) (old new : Memory) (code written : ℕ) → parse limits file ≡ reading k → longMemory limits old ≡ true → k .graph ≡ h → k .calls ≡ calls
+    → Serves limits file old new code written → Holds (reachedBy limits h calls) (old .tables) (new .tables)
+held-in limits file k h calls old new code written p l g q s =
+    subst (λ (cs : List Request). Holds (reachedBy limits h cs) (old .tables) (new .tables)) q
+    (subst (λ (x : Hypergraph). Holds (reachedBy limits x (k .calls)) (old .tables) (new .tables)) g
+    (subst (λ (x : Reading). Served limits true x old new code written) p
+    (subst (λ (b : Bool). Served limits b (parse limits file) old new code written) l s) .tables))
+
+pub order-in-files : (limits : Limits) → Few limits → OrderInFiles limits
+order-in-files limits few file file′ k k′ old new new′ code written code′ written′ before moves moves′ p p′ g l q q′ s a b =
+    order-of-tables limits few (k .graph) before moves moves′ (old .tables) (new .tables) (new′ .tables) (record { file = file; book = k; loads = p; graph-is = refl }) s
+    (held-in limits file k (k .graph) (before ++ moves) old new code written p l refl q a)
+    (held-in limits file′ k′ (k .graph) (before ++ moves′) old new′ code′ written′ p′ l g q′ b)
+
+pub order-of-moves : (limits : Limits) → Few limits → OrderOfMoves limits
+order-of-moves limits few file list list′ operands operands′ k old new new′ r r′ before moves moves′ p l z q z′ q′ s a b =
     let x = listed-in limits file list operands k old new r (before ++ moves) p l z q a in
     let y = listed-in limits file list′ operands′ k old new′ r′ (before ++ moves′) p l z′ q′ b in
     let ok = x .demand .accepted in
     let h = k .graph in
     record {
-      tables = holds-same (holds-as (same-stack limits h ok before moves moves′ s) (same-block limits h ok before moves moves′ s) (other-holds limits h ok before moves moves′ s (y .demand .stands .tables)))
-          (one-holds limits h ok before moves moves′ s (x .demand .stands .tables));
-      joins = y .demand .stands .joins ∙ same-stack limits h ok before moves moves′ s ∙ sym (x .demand .stands .joins);
-      totals = y .demand .total-is ∙ same-total limits h ok before moves moves′ s ∙ sym (x .demand .total-is);
+      tables = order-of-tables limits few h before moves moves′ (old .tables) (new .tables) (new′ .tables) ok s (x .demand .stands .tables) (y .demand .stands .tables);
+      joins = y .demand .stands .joins ∙ same-stack limits few h ok before moves moves′ s ∙ sym (x .demand .stands .joins);
+      totals = y .demand .total-is ∙ same-total limits few h ok before moves moves′ s ∙ sym (x .demand .total-is);
     }
 
 -- ---- two moves

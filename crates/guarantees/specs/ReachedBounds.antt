@@ -16,7 +16,7 @@ use Rattle.guarantees.specs.Bounds.{gain-le, rating-le}
 use Rattle.guarantees.specs.WeightBounds.{weight-le, blockWeight-le, loaded-le, average-le, product-le, capacity-le}
 use Rattle.guarantees.specs.StateBounds.{stack-le, Listed}
 use Rattle.guarantees.specs.AnswerBounds.{Bounded, bounded-call, metric-in}
-use Rattle.guarantees.specs.Ranges.{Ranges}
+use Rattle.guarantees.specs.Ranges.{Few, Ranges}
 use Rattle.guarantees.specs.Reached.{reached, journal-le}
 
 pub record Small (h : Hypergraph) (n : ℕ) (s : State) : Type 0 where
@@ -33,17 +33,17 @@ pub record Small (h : Hypergraph) (n : ℕ) (s : State) : Type 0 where
   pub ratings : (u v : ℕ) → rating h (s .stack) u v < 2 ^ 64
   pub answers : (ceiling : ℕ → ℕ) (c : Call) → Bounded (callUnder h ceiling s c .answer)
 
-pub reached-bounds : (limits : Limits) → limits .vertexLimit ≤ 1024 → limits .blockLimit ≤ 16 → (h : Hypergraph) → Accepted limits h → (calls : List Request)
+pub reached-bounds : (limits : Limits) → limits .vertexLimit ≤ 1024 → limits .blockLimit ≤ 16 → Few limits → (h : Hypergraph) → Accepted limits h → (calls : List Request)
     → Small (reachedBy limits h calls .graph) (length calls) (reachedBy limits h calls .state)
-reached-bounds limits small narrow h₀ a calls =
+reached-bounds limits small narrow few h₀ a calls =
     let h : Hypergraph = reachedBy limits h₀ calls .graph in
     let s : State = reachedBy limits h₀ calls .state in
-    let t = reached limits h₀ a calls in
+    let t = reached limits few h₀ a calls in
     let r : Ranges limits h = t .ranges in
     let k = t .held .legal in
     record {
       stack-short = stack-le h (s .stack) (k .sound) (k .inside);
-      journal-short = journal-le limits h₀ a calls;
+      journal-short = journal-le limits h₀ calls;
       journal-real = t .listed;
       gains = λ v t. omega (arith, gain-le limits narrow h (r .loaded) (r .nets-high) (s .stack) (s .block) v t);
       metrics = λ p. omega (arith, metric-in limits small narrow h r (s .stack) p);

@@ -13,6 +13,7 @@ use Rattle.laws.specs.Occurrence.{Distinct, distinct-more}
 use Rattle.laws.specs.Choice.{and-left, and-right}
 use Rattle.model.specs.Catalogue.{Limits, Hypergraph, vertices, isVertex, isBlock}
 use Rattle.model.specs.Sale.{Request}
+use Rattle.model.specs.Through.{Stage, ended, refused, stageOf, through}
 use Rattle.model.specs.Grammar.{Fields, at, fields, isLineOf, isLine, within, Book, Reading, unread, reading, stopped, whole, full, overfull, saleLine, grown, withLot, endsInK, beforeK, lotLine, Marking, marked, wrong, mark, marking, withNet, netRead, buyLine, Asked, asks, nothing, asked, withCall, callLine, line, ending, lines, parse, onto, parts, value}
 
 -- ---- ranges
@@ -26,32 +27,32 @@ pub within-range : (l u x : ℕ) → within l u x ≡ true → (l ≤ x) × (x �
 within-range l u x q = (leb-true l x (and-left _ _ q), leb-true x u (and-right (leb l x) _ q))
 
 -- ---- the marks of one net: `before` marks stood in the file, m with these
-pub record Marks (h : Hypergraph) (before : ℕ) (vs : List ℕ) (m : ℕ) : Type 0 where
+pub record Marks (limits : Limits) (h : Hypergraph) (before : ℕ) (vs : List ℕ) (m : ℕ) : Type 0 where
   pub in-range : All vs (λ x. (1 ≤ x) × (x ≤ vertices h))
   pub distinct : Distinct vs 0 (length vs)
   pub counted : m ≡ before + length vs
-  pub few : before ≤ 8192 → m ≤ 8192
+  pub few : before ≤ limits .pinLimit → m ≤ limits .pinLimit
 
-module _ (h : Hypergraph) (before : ℕ) where
+module _ (limits : Limits) (h : Hypergraph) (before : ℕ) where
   -- as many marks as fields were read, where none was refused
   abbrev Marked : ℕ → Marking → Type 0
   Marked n (wrong q) = Unit {0}
-  Marked n (marked vs m) = Marks h before vs m × (length vs ≡ n)
+  Marked n (marked vs m) = Marks limits h before vs m × (length vs ≡ n)
 
   marked-or : (n : ℕ) (b : Bool) (x y : Marking) → Marked n x → (b ≡ false → Marked n y) → Marked n (cond b x y)
   marked-or n true x y a f = a
   marked-or n false x y a f = f refl
 
-  marked-more : (n : ℕ) (m : Marking) (v : ℕ) → Marked n m → Marked (suc n) (mark h m v)
+  marked-more : (n : ℕ) (m : Marking) (v : ℕ) → Marked n m → Marked (suc n) (mark limits h m v)
   unfolding mark
   marked-more n (wrong q) v a = tt
   marked-more n (marked vs m) v a =
       marked-or (suc n) (not (isVertex h v)) (wrong 3) _ tt
       (λ real. marked-or (suc n) (any vs (λ x. eqb x v)) (wrong 4) _ tt
-      (λ new. marked-or (suc n) (leb 8192 m) (wrong 5) _ tt
+      (λ new. marked-or (suc n) (leb (limits .pinLimit) m) (wrong 5) _ tt
       (λ room.
       let longer : length (vs ++ (v ∷ [])) ≡ length vs + 1 = length-append vs (v ∷ []) in
-      let below : m < 8192 = leb-false 8192 m room in (
+      let below : m < limits .pinLimit = leb-false (limits .pinLimit) m room in (
         record {
           in-range = all-more vs _ v (a .0 .in-range) (vertex-range h v (not-false _ real));
           distinct = distinct-more vs v (a .0 .distinct) new;
@@ -61,13 +62,13 @@ module _ (h : Hypergraph) (before : ℕ) where
         omega (arith, a .1),
       ))))
 
-  marked-all : (n : ℕ) (m : Marking) (fs : Fields) → Marked n m → Marked (n + length fs) (marking h m fs)
+  marked-all : (n : ℕ) (m : Marking) (fs : Fields) → Marked n m → Marked (n + length fs) (marking limits h m fs)
   unfolding marking
   marked-all n m [] a = subst (λ (k : ℕ). Marked k m) (zero-more n) a
     where
       zero-more : (n : ℕ) → n ≡ n + 0
       zero-more n = omega arith
-  marked-all n m (f ∷ fs) a = subst (λ (k : ℕ). Marked k (marking h (mark h m (value f)) fs)) (one-more n (length fs)) (marked-all (suc n) (mark h m (value f)) fs (marked-more n m (value f) a))
+  marked-all n m (f ∷ fs) a = subst (λ (k : ℕ). Marked k (marking limits h (mark limits h m (value f)) fs)) (one-more n (length fs)) (marked-all (suc n) (mark limits h m (value f)) fs (marked-more n m (value f) a))
     where
       one-more : (n k : ℕ) → suc n + k ≡ n + suc k
       one-more n k = omega arith
@@ -91,28 +92,28 @@ Even k = whole k ≡ true → overfull (k .graph) ≡ false
 
 -- what a fact about books must be kept by
 pub record Kept (limits : Limits) (P : Book → Type 0) : Type 0 where
-  pub first : (estimated : Bool) (n m k s : ℕ) → 1 ≤ n → n ≤ limits .vertexLimit → m ≤ 1024 → 2 ≤ k → k ≤ limits .blockLimit → s ≤ 1000 → P (blank estimated n m k s)
+  pub first : (estimated : Bool) (n m k s : ℕ) → 1 ≤ n → n ≤ limits .vertexLimit → m ≤ limits .netLimit → 2 ≤ k → k ≤ limits .blockLimit → s ≤ 1000 → P (blank estimated n m k s)
   pub vertex : (k : Book) (low high b : ℕ) (fixed : Bool) → P k → vertices (k .graph) < k .lots → 1 ≤ low → low ≤ high → high ≤ 65535 → 1 ≤ b → b ≤ k .graph .blocks
       → Even (lotted k low high b fixed) → P (lotted k low high b fixed)
-  pub net : (k : Book) (w : ℕ) (vs : List ℕ) (m : ℕ) → P k → length (k .graph .nets) < k .buyers → 1 ≤ w → w ≤ 1000 → 1 ≤ length vs → Marks (k .graph) (k .marks) vs m → Even (netted k w vs m) → P (netted k w vs m)
+  pub net : (k : Book) (w : ℕ) (vs : List ℕ) (m : ℕ) → P k → length (k .graph .nets) < k .buyers → 1 ≤ w → w ≤ 1000 → 1 ≤ length vs → Marks limits (k .graph) (k .marks) vs m → Even (netted k w vs m) → P (netted k w vs m)
   pub asking : (k : Book) (c : Request) → P k → k .lots ≤ vertices (k .graph) → k .buyers ≤ length (k .graph .nets) → full k ≡ false → P (called k c)
 
 module _ (limits : Limits) (P : Book → Type 0) (keeps : Kept limits P) where
   -- (no abbreviation: what `Good r` is of is then read off from its type)
-  Good : Reading → Type 0
+  pub Good : Reading → Type 0
   Good unread = Unit {0}
   Good (stopped q n) = Unit {0}
   Good (reading k) = P k
 
-  good-stopped : (q n : ℕ) → Good (stopped q n)
+  pub good-stopped : (q n : ℕ) → Good (stopped q n)
   unfolding Good
   good-stopped q n = tt
 
-  good-reading : (k : Book) → P k → Good (reading k)
+  pub good-reading : (k : Book) → P k → Good (reading k)
   unfolding Good
   good-reading k g = g
 
-  read-good : (k : Book) → Good (reading k) → P k
+  pub read-good : (k : Book) → Good (reading k) → P k
   unfolding Good
   read-good k g = g
 
@@ -133,16 +134,16 @@ module _ (limits : Limits) (P : Book → Type 0) (keeps : Kept limits P) where
   good-sale n fs = good-or (not (isLineOf "SALE" 4 fs || isLineOf "EST" 4 fs)) 2 n _ (λ _. good-or (not ranges) 3 n _ (λ q. inside (not-false _ q)))
     where
       ranges : Bool
-      ranges = within 1 (limits .vertexLimit) (at fs 1) && within 0 1024 (at fs 2) && within 2 (limits .blockLimit) (at fs 3) && within 0 1000 (at fs 4)
+      ranges = within 1 (limits .vertexLimit) (at fs 1) && within 0 (limits .netLimit) (at fs 2) && within 2 (limits .blockLimit) (at fs 3) && within 0 1000 (at fs 4)
 
       inside : ranges ≡ true → Good (reading (blank (isLineOf "EST" 4 fs) (at fs 1) (at fs 2) (at fs 3) (at fs 4)))
       inside q4 =
           let q3 = and-left _ _ q4 in
           let q2 = and-left _ _ q3 in
           let n = within-range 1 (limits .vertexLimit) (at fs 1) (and-left _ _ q2) in
-          let m = within-range 0 1024 (at fs 2) (and-right (within 1 (limits .vertexLimit) (at fs 1)) _ q2) in
-          let k = within-range 2 (limits .blockLimit) (at fs 3) (and-right (within 1 (limits .vertexLimit) (at fs 1) && within 0 1024 (at fs 2)) _ q3) in
-          let s = within-range 0 1000 (at fs 4) (and-right (within 1 (limits .vertexLimit) (at fs 1) && within 0 1024 (at fs 2) && within 2 (limits .blockLimit) (at fs 3)) _ q4) in
+          let m = within-range 0 (limits .netLimit) (at fs 2) (and-right (within 1 (limits .vertexLimit) (at fs 1)) _ q2) in
+          let k = within-range 2 (limits .blockLimit) (at fs 3) (and-right (within 1 (limits .vertexLimit) (at fs 1) && within 0 (limits .netLimit) (at fs 2)) _ q3) in
+          let s = within-range 0 1000 (at fs 4) (and-right (within 1 (limits .vertexLimit) (at fs 1) && within 0 (limits .netLimit) (at fs 2) && within 2 (limits .blockLimit) (at fs 3)) _ q4) in
           good-reading _ (keeps .first (isLineOf "EST" 4 fs) (at fs 1) (at fs 2) (at fs 3) (at fs 4) (n .0) (n .1) (m .1) (k .0) (k .1) (s .1))
 
   good-lot : (n : ℕ) (k : Book) (fixed : Bool) (fs : Fields) → P k → ltb (vertices (k .graph)) (k .lots) ≡ true → Good (lotLine n k fixed fs)
@@ -158,20 +159,20 @@ module _ (limits : Limits) (P : Book → Type 0) (keeps : Kept limits P) where
       let b = block-range (k .graph) session (not-false _ r) in
       good-grown n (lotted k low high session fixed) (keeps .vertex k low high session fixed g (ltb-true _ _ t) (l .0) (ltb-false _ _ o) (w .1) (b .0) (b .1))))))
 
-  good-net-read : (n : ℕ) (k : Book) (w i : ℕ) (m : Marking) → P k → ltb (length (k .graph .nets)) (k .buyers) ≡ true → 1 ≤ w → w ≤ 1000 → 1 ≤ i → Marked (k .graph) (k .marks) i m → Good (netRead n k w m)
+  good-net-read : (n : ℕ) (k : Book) (w i : ℕ) (m : Marking) → P k → ltb (length (k .graph .nets)) (k .buyers) ≡ true → 1 ≤ w → w ≤ 1000 → 1 ≤ i → Marked limits (k .graph) (k .marks) i m → Good (netRead n k w m)
   unfolding netRead
   good-net-read n k w i (wrong q) g t wl wu l a = good-stopped q n
   good-net-read n k w i (marked vs m) g t wl wu l a = good-grown n (netted k w vs m) (keeps .net k w vs m g (ltb-true _ _ t) wl wu (omega (arith, a .1)) (a .0))
 
-  good-buy : (n : ℕ) (k : Book) (fs : Fields) → P k → ltb (length (k .graph .nets)) (k .buyers) ≡ true → Good (buyLine n k fs)
+  good-buy : (n : ℕ) (k : Book) (fs : Fields) → P k → ltb (length (k .graph .nets)) (k .buyers) ≡ true → Good (buyLine limits n k fs)
   unfolding buyLine
   good-buy n k fs g t = good-or (not (isLine "BUY" fs && leb 3 (length fs))) 2 n _ (λ f. good-or (not (within 1 1000 (at fs 1))) 3 n _ (λ q.
       let w = within-range 1 1000 (at fs 1) (not-false _ q) in
       let long : 3 ≤ length fs = leb-true 3 (length fs) (and-right (isLine "BUY" fs) _ (not-false _ f)) in
-      good-net-read n k (at fs 1) (0 + length (drop 2 fs)) (marking (k .graph) (marked [] (k .marks)) (drop 2 fs)) g t (w .0) (w .1) (omega (arith, length-drop 2 fs))
-      (marked-all (k .graph) (k .marks) 0 (marked [] (k .marks)) (drop 2 fs) (none, refl))))
+      good-net-read n k (at fs 1) (0 + length (drop 2 fs)) (marking limits (k .graph) (marked [] (k .marks)) (drop 2 fs)) g t (w .0) (w .1) (omega (arith, length-drop 2 fs))
+      (marked-all limits (k .graph) (k .marks) 0 (marked [] (k .marks)) (drop 2 fs) (none, refl))))
     where
-      none : Marks (k .graph) (k .marks) [] (k .marks)
+      none : Marks limits (k .graph) (k .marks) [] (k .marks)
       none = record { in-range = tt; distinct = λ i j l _ _. absurd (omega arith); counted = omega arith; few = λ l. l }
 
   good-asked : (n : ℕ) (k : Book) (a : Asked) → ((c : Request) → P (called k c)) → Good (withCall n k a)
@@ -179,7 +180,7 @@ module _ (limits : Limits) (P : Book → Type 0) (keeps : Kept limits P) where
   good-asked n k nothing f = good-stopped 2 n
   good-asked n k (asks c) f = good-reading _ (f c)
 
-  good-line : (n : ℕ) (r : Reading) (l : List ℕ) → Good r → Good (line limits n r l)
+  pub good-line : (n : ℕ) (r : Reading) (l : List ℕ) → Good r → Good (line limits n r l)
   unfolding line callLine
   good-line n (stopped q m) l g = good-stopped q m
   good-line n unread l g = good-sale n (fields l)
@@ -220,6 +221,39 @@ module _ (limits : Limits) (P : Book → Type 0) (keeps : Kept limits P) where
   unfolding lines
   done-lines n r l [] g = done-ending n r l g
   done-lines n r l (m ∷ ls) g = done-lines (suc n) (line limits n r l) m ls (good-line n r l g)
+
+  -- ---- the lines of one catalogue, wherever they begin
+  Ended : Stage → Type 0
+  Ended (ended k n ls) = P k × (whole k ≡ true)
+  Ended (refused q n) = Unit {0}
+
+  ended-stage : (n : ℕ) (ls : List (List ℕ)) (more : Stage) (r : Reading) → Good r → Ended more → Ended (stageOf n ls more r)
+  unfolding Ended stageOf
+  ended-stage n ls more unread g e = e
+  ended-stage n ls more (stopped q m) g e = tt
+  ended-stage n ls more (reading k) g e = go (whole k) refl
+    where
+      go : (b : Bool) → whole k ≡ b → Ended (cond b (ended k n ls) more)
+      go true q = (read-good k g, q)
+      go false q = e
+
+  ended-refused : (q n : ℕ) → Ended (refused q n)
+  unfolding Ended
+  ended-refused q n = tt
+
+  ended-through : (n : ℕ) (r : Reading) (ls : List (List ℕ)) → Good r → Ended (through limits n r ls)
+  unfolding through
+  ended-through n r [] g = ended-stage n [] _ r g (ended-refused 2 n)
+  ended-through n r (l ∷ []) g = ended-stage n (l ∷ []) _ r g (ended-refused 2 n)
+  ended-through n r (l ∷ (m ∷ ls)) g = ended-stage n (l ∷ (m ∷ ls)) _ r g (ended-through (suc n) (line limits n r l) (m ∷ ls) (good-line n r l g))
+
+  pub good-unread : Good unread
+  unfolding Good
+  good-unread = tt
+
+  pub part-keeps : (n : ℕ) (ls : List (List ℕ)) (k : Book) (n′ : ℕ) (rest : List (List ℕ)) → through limits n unread ls ≡ ended k n′ rest → P k × (whole k ≡ true)
+  unfolding Ended
+  part-keeps n ls k n′ rest q = subst Ended q (ended-through n unread ls good-unread)
 
   -- the parts of a file are at least one
   done-parts : (n : ℕ) (r : Reading) (sep : ℕ) (file : List ℕ) → Good r → Done (lines limits n r (parts sep file))

@@ -30,7 +30,7 @@ use Rattle.model.specs.Ready.{timesIn, isPair, EachPairOnce, Found, FirstIsBest
 use Rattle.guarantees.specs.Ranked.{rankedBy, Other}
 use Rattle.guarantees.specs.Ranks.{ranked-is, ranked-only, ranked-once, ranked-short}
 use Rattle.guarantees.specs.Tops.{Earlier, Top, best-top}
-use Rattle.guarantees.specs.Reached.{Healthy}
+use Rattle.guarantees.specs.Reached.{Valid}
 
 -- ---- a row of the table: k places that hold a vertex's other blocks, and zeros after them
 module _ (gain : ℕ → ℤ) (own k : ℕ) (index : List ℕ) (from : ℕ) (holds : (j : ℕ) → j < k → getD index (from + j) 0 ≡ getD (rankedBy gain own k) j 0) where
@@ -107,7 +107,7 @@ module _ (worth : ℕ → ℕ → ℤ) (v b x c : ℕ) where
       go (no p) (no q) r z = inr (inr (inl (omega arith)))
 
 -- ---- the table
-module _ (limits : Limits) (a : Sale) (healthy : Healthy limits a) where
+module _ (limits : Limits) (a : Sale) (valid : Valid limits a) where
   abbrev h : Hypergraph
   h = a .graph
 
@@ -123,7 +123,7 @@ module _ (limits : Limits) (a : Sale) (healthy : Healthy limits a) where
     unfolding indexEntry
     index-at v j vl vu ju =
         let i : ℕ = 16 * (v - 1) + j in
-        let r = healthy .ranges in
+        let r = valid .ranges in
         let few : j < 16 = omega (arith, r .loaded .blocks-high) in
         let line : i / 16 ≡ v - 1 = omega arith in
         let place : i % 16 ≡ j = omega arith in

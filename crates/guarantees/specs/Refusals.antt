@@ -14,17 +14,17 @@ use Rattle.model.specs.Grammar.{Fields, at, fields, isLineOf, isLine, within, b
 use Rattle.model.specs.Report.{digits, row}
 use Rattle.model.specs.Engine.{outcome, engine}
 use Rattle.guarantees.specs.Numbers.{digits-le}
-use Rattle.guarantees.specs.Ranges.{accepted-book}
+use Rattle.guarantees.specs.Ranges.{Few, accepted-book}
 use Rattle.guarantees.specs.ReportFits.{row-length, report-fits}
 
 -- stopped, if it is, by a number from 1 to 21 on line m at the latest
 -- (no abbreviation: what `Stops m r` is of is then read off from its type)
-Stops : ℕ → Reading → Type 0
+pub Stops : ℕ → Reading → Type 0
 Stops m unread = Unit {0}
 Stops m (reading k) = Unit {0}
 Stops m (stopped q n) = (1 ≤ q) × (q ≤ 21) × (n ≤ m)
 
-stops-at : (q n : ℕ) → 1 ≤ q → q ≤ 21 → Stops n (stopped q n)
+pub stops-at : (q n : ℕ) → 1 ≤ q → q ≤ 21 → Stops n (stopped q n)
 unfolding Stops
 stops-at q n l u = (l, u, omega arith)
 
@@ -32,11 +32,11 @@ stops-not : (m : ℕ) (k : Book) → Stops m (reading k)
 unfolding Stops
 stops-not m k = tt
 
-stops-none : (m : ℕ) → Stops m unread
+pub stops-none : (m : ℕ) → Stops m unread
 unfolding Stops
 stops-none m = tt
 
-stops-later : (m n : ℕ) (r : Reading) → m ≤ n → Stops m r → Stops n r
+pub stops-later : (m n : ℕ) (r : Reading) → m ≤ n → Stops m r → Stops n r
 unfolding Stops
 stops-later m n unread l s = tt
 stops-later m n (reading k) l s = tt
@@ -61,7 +61,7 @@ module _ (limits : Limits) (n : ℕ) where
 
   stops-sale : (fs : Fields) → Stops n (saleLine limits n fs)
   unfolding saleLine
-  stops-sale fs = or-2 (not (isLineOf "SALE" 4 fs || isLineOf "EST" 4 fs)) _ (or-3 (not (within 1 (limits .vertexLimit) (at fs 1) && within 0 1024 (at fs 2) && within 2 (limits .blockLimit) (at fs 3) && within 0 1000 (at fs 4))) _ (stops-not n _))
+  stops-sale fs = or-2 (not (isLineOf "SALE" 4 fs || isLineOf "EST" 4 fs)) _ (or-3 (not (within 1 (limits .vertexLimit) (at fs 1) && within 0 (limits .netLimit) (at fs 2) && within 2 (limits .blockLimit) (at fs 3) && within 0 1000 (at fs 4))) _ (stops-not n _))
 
   stops-lot : (k : Book) (fixed : Bool) (fs : Fields) → Stops n (lotLine n k fixed fs)
   unfolding lotLine
@@ -80,25 +80,25 @@ module _ (limits : Limits) (n : ℕ) where
   wrong-if true x y s t = s
   wrong-if false x y s t = t
 
-  wrong-mark : (h : Hypergraph) (m : Marking) (v : ℕ) → Wrong m → Wrong (mark h m v)
+  wrong-mark : (h : Hypergraph) (m : Marking) (v : ℕ) → Wrong m → Wrong (mark limits h m v)
   unfolding mark
   wrong-mark h (wrong q) v s = s
   wrong-mark h (marked vs m) v s =
       wrong-if (not (isVertex h v)) (wrong 3) _ (omega arith)
       (wrong-if (any vs (λ x. eqb x v)) (wrong 4) _ (omega arith)
-      (wrong-if (leb 8192 m) (wrong 5) _ (omega arith) tt))
+      (wrong-if (leb (limits .pinLimit) m) (wrong 5) _ (omega arith) tt))
 
-  wrong-marking : (h : Hypergraph) (m : Marking) (fs : Fields) → Wrong m → Wrong (marking h m fs)
+  wrong-marking : (h : Hypergraph) (m : Marking) (fs : Fields) → Wrong m → Wrong (marking limits h m fs)
   unfolding marking
   wrong-marking h m [] s = s
-  wrong-marking h m (f ∷ fs) s = wrong-marking h (mark h m (value f)) fs (wrong-mark h m (value f) s)
+  wrong-marking h m (f ∷ fs) s = wrong-marking h (mark limits h m (value f)) fs (wrong-mark h m (value f) s)
 
   stops-net : (k : Book) (w : ℕ) (m : Marking) → Wrong m → Stops n (netRead n k w m)
   unfolding netRead
   stops-net k w (wrong q) s = stops-at q n (s .0) (s .1)
   stops-net k w (marked vs m) s = stops-grown _
 
-  stops-buy : (k : Book) (fs : Fields) → Stops n (buyLine n k fs)
+  stops-buy : (k : Book) (fs : Fields) → Stops n (buyLine limits n k fs)
   unfolding buyLine
   stops-buy k fs = or-2 (not (isLine "BUY" fs && leb 3 (length fs))) _ (or-3 (not (within 1 1000 (at fs 1))) _ (stops-net k (at fs 1) _ (wrong-marking (k .graph) (marked [] (k .marks)) (drop 2 fs) tt)))
 
@@ -111,7 +111,7 @@ module _ (limits : Limits) (n : ℕ) where
   or-7 : (b : Bool) (y : Reading) → Stops n y → Stops n (cond b (stopped 7 n) y)
   or-7 b y s = stops-if n b (stopped 7 n) y (stops-at 7 n (omega arith) (omega arith)) s
 
-  stops-line : (r : Reading) (l : List ℕ) → Stops n r → Stops n (line limits n r l)
+  pub stops-line : (r : Reading) (l : List ℕ) → Stops n r → Stops n (line limits n r l)
   unfolding line callLine
   stops-line (stopped q m) l s = s
   stops-line unread l s = stops-sale (fields l)
@@ -127,7 +127,7 @@ module _ (limits : Limits) (n : ℕ) where
   stops-ending (reading k) (b ∷ bs) s = or-7 (full k) _ (stops-at 2 n (omega arith) (omega arith))
 
 -- ---- a file
-parts-le : (sep : ℕ) (l : List ℕ) → length (parts sep l) ≤ length l + 1
+pub parts-le : (sep : ℕ) (l : List ℕ) → length (parts sep l) ≤ length l + 1
 unfolding parts
 parts-le sep [] = omega arith
 parts-le sep (b ∷ l) = go (eqb b sep) (parts sep l) (parts-le sep l)
@@ -156,7 +156,7 @@ module _ (limits : Limits) where
           stops-later (1 + (length (parts 10 file) - 1)) 60001 (lines limits 1 unread (parts 10 file)) (omega (arith, parts-le 10 file, ltb-false 60000 (length file) e))
           (stops-lines 1 unread (parts 10 file) (stops-none 1))
 
-  stopped-in : (m q n : ℕ) → Stops m (stopped q n) → (1 ≤ q) × (q ≤ 21) × (n ≤ m)
+  pub stopped-in : (m q n : ℕ) → Stops m (stopped q n) → (1 ≤ q) × (q ≤ 21) × (n ≤ m)
   unfolding Stops
   stopped-in m q n s = s
 
@@ -173,17 +173,17 @@ module _ (limits : Limits) where
       go (reading k) e = omega arith
 
   -- NO, a number of up to two digits and one of up to five
-  no-le : (q n : ℕ) → q ≤ 21 → n ≤ 60001 → length (row "NO" (digits q ∷ digits n ∷ [])) ≤ 12
+  pub no-le : (q n : ℕ) → q ≤ 25 → n ≤ 60001 → length (row "NO" (digits q ∷ digits n ∷ [])) ≤ 12
   unfolding sumOver bytes
   no-le q n l m = omega (arith, row-length "NO" (digits q ∷ digits n ∷ []), digits-le 1 q (omega arith), digits-le 4 n (omega arith))
 
-  pub engine-fits : limits .vertexLimit ≤ 1024 → limits .blockLimit ≤ 16 → (file : List ℕ) → length (engine limits file .report) ≤ 60000
+  pub engine-fits : limits .vertexLimit ≤ 1024 → limits .blockLimit ≤ 16 → Few limits → (file : List ℕ) → length (engine limits file .report) ≤ 60000
   unfolding engine outcome
-  engine-fits small narrow file = go (parse limits file) refl
+  engine-fits small narrow few file = go (parse limits file) refl
     where
       go : (r : Reading) → parse limits file ≡ r → length (outcome limits r .report) ≤ 60000
       go unread e = omega (arith, no-le 2 1 (omega arith) (omega arith))
       go (stopped q n) e =
           let b = refused-in file q n e in
-          omega (arith, no-le q n (b .1) (b .2))
-      go (reading k) e = report-fits limits small narrow (k .graph) (record { file = file; book = k; loads = e; graph-is = refl }) (k .calls) (accepted-book limits file k e .calls-high)
+          omega (arith, no-le q n (omega (arith, b .1)) (b .2))
+      go (reading k) e = report-fits limits small narrow few (k .graph) (record { file = file; book = k; loads = e; graph-is = refl }) (k .calls) (accepted-book limits file k e .calls-high)

@@ -17,7 +17,8 @@ use Rattle.model.specs.Grammar.{Reading, Book, reading, parse}
 use Rattle.model.specs.Report.{refusal, closing}
 use Rattle.model.specs.Engine.{after, answers, draftTotal, run, outcome}
 use Rattle.model.specs.Memory.{Tables, Memory, longMemory, Holds, Written, Worked, Served, Serves}
-use Rattle.model.specs.Demand.{Standing, Stands, Demand3, reachedBy}
+use Rattle.model.specs.Demand.{Standing, Stands, reachedBy}
+use Rattle.model.specs.Promises.{Demand3}
 use Rattle.model.specs.ListEntry.{listCalls}
 use Rattle.model.specs.Refused.{unless, acceptedFrom, acceptedCalls, SameEnd, closingIn, SameSale, RefusedChangeNothing}
 use Rattle.guarantees.specs.Determined.{holds-same}

@@ -3,15 +3,15 @@
 -- Numbers. Assumes nothing.
 use Prim.Native.Nat.{ℕ, zero, suc, _+_, _*_, _≤_}
 use Prim.Native.String.{String}
-use native.Mathlib.Nat.{mul-suc}
 use native.Mathlib.Omega.{arith}
-use mathlib.Core.Path.{_≡_, refl}
+use mathlib.Core.Path.{_≡_, refl, ap}
 use mathlib.Core.Bool.{Bool, true, false, not, cond, _&&_, _||_}
 use mathlib.Core.List.{List, [], _∷_, _++_}
 use lib.Dec.{leb, ltb}
 use lib.ListN.{length, length-append}
 use Rattle.laws.specs.Fold.{sumOver, all}
-use Rattle.laws.specs.Sum.{foldTo}
+use Rattle.laws.specs.Choice.{one}
+use Rattle.laws.specs.Sum.{sumTo-suc, countTo, foldTo}
 use Rattle.model.specs.Catalogue.{Limits, Net, Hypergraph, vertices, inSale, isVertex, isBlock, isNet, capacities}
 use Rattle.model.specs.Measure.{onBoard, representative, blockWeight, connectivity, metric}
 use Rattle.model.specs.Machine.{Answer, saysJ, saysS, saysM, saysB, saysW, saysP, saysA, saysX, saysN, saysNO, State, fresh}
@@ -25,8 +25,9 @@ use Rattle.guarantees.specs.Ends.{placed-high}
 use Rattle.guarantees.specs.Calls.{Legal}
 use Rattle.guarantees.specs.Clumps.{representative-in}
 use Rattle.guarantees.specs.Bounds.{connectivity-le}
-use Rattle.guarantees.specs.Ranges.{Ranges, accepted-ranges}
-use Rattle.guarantees.specs.Reached.{Healthy, accepts-X, accepts-N, number-le, healthy-turn, reached}
+use Rattle.guarantees.specs.Ranges.{Few, Ranges, accepted-ranges}
+use Rattle.guarantees.specs.Reached.{Valid, accepts-X, accepts-N, number-le, valid-turn, reached}
+use Rattle.guarantees.specs.StateBounds.{lots-le}
 use Rattle.guarantees.specs.AnswerBounds.{Bounded, either-le, bounded-call, metric-in, vertices-in, blocks-in}
 
 -- ---- one line
@@ -70,35 +71,32 @@ unfolding sumOver
 line-le word i x three l m = omega (arith, three, row-length word (digits i ∷ digits x ∷ []), digits-le 3 i (omega arith), digits-le 1 x (omega arith))
 
 -- ---- many lines
-fold-length : (n m : ℕ) (used : ℕ → Bool) (f : ℕ → List ℕ) → ((i : ℕ) → 1 ≤ i → i ≤ n → length (f i) ≤ m) → length (foldTo n (λ out i. cond (used i) (out ++ f i) out) []) ≤ m * n
+fold-length : (n : ℕ) (used : ℕ → Bool) (f : ℕ → List ℕ) → ((i : ℕ) → 1 ≤ i → i ≤ n → length (f i) ≤ 12) → length (foldTo n (λ out i. cond (used i) (out ++ f i) out) []) ≤ 12 * countTo n used
 unfolding foldTo
-fold-length zero m used f l = omega arith
-fold-length (suc n) m used f l = go (used (suc n)) (fold-length n m used f (λ i a b. l i a (omega arith)))
+fold-length zero used f l = omega arith
+fold-length (suc n) used f l = go (used (suc n)) refl (fold-length n used f (λ i a b. l i a (omega arith)))
   where
     out : List ℕ
     out = foldTo n (λ out i. cond (used i) (out ++ f i) out) []
 
-    go : (b : Bool) → length out ≤ m * n → length (cond b (out ++ f (suc n)) out) ≤ m * suc n
-    go true ih = omega (arith, length-append out (f (suc n)), l (suc n) (omega arith) (omega arith), mul-suc m n)
-    go false ih = omega (arith, mul-suc m n)
+    go : (b : Bool) → used (suc n) ≡ b → length out ≤ 12 * countTo n used → length (cond b (out ++ f (suc n)) out) ≤ 12 * countTo (suc n) used
+    go true e ih = omega (arith, length-append out (f (suc n)), l (suc n) (omega arith) (omega arith), sumTo-suc n (λ i. one (used i)), ap one e)
+    go false e ih = omega (arith, sumTo-suc n (λ i. one (used i)))
 
 module _ (limits : Limits) (small : limits .vertexLimit ≤ 1024) (narrow : limits .blockLimit ≤ 16) (h : Hypergraph) (r : Ranges limits h) where
   -- the block of a representative
-  block-in : (s : State) → Legal h s → (v : ℕ) → 1 ≤ v → v ≤ vertices h → s .block (representative (s .stack) v) ≤ 16
+  pub block-in : (s : State) → Legal h s → (v : ℕ) → 1 ≤ v → v ≤ vertices h → s .block (representative (s .stack) v) ≤ 16
   block-in s ok v l u =
       let i = representative-in h (s .stack) (ok .sound) (ok .inside) v l u in
       omega (arith, placed-high h (s .stack) (s .block) (ok .placed) (representative (s .stack) v) (i .0) (i .1), blocks-in limits small narrow h r)
 
-  lots-le : (s : State) → Legal h s → length (lotRows h s) ≤ 12288
-  unfolding lotRows bytes
-  lots-le s ok = omega (
-    arith,
-    fold-length (vertices h) 12 (λ v. inSale h v) (λ v. row "LOT" (digits v ∷ digits (s .block (representative (s .stack) v)) ∷ []))
-        (λ v l u. line-le "LOT" v (s .block (representative (s .stack) v)) refl (omega (arith, vertices-in limits small narrow h r)) (block-in s ok v l u)),
-    vertices-in limits small narrow h r,
-  )
+  lot-rows-le : (s : State) → Legal h s → length (lotRows h s) ≤ 12 * lotsIn h
+  unfolding lotRows bytes lotsIn
+  lot-rows-le s ok =
+      fold-length (vertices h) (λ v. inSale h v) (λ v. row "LOT" (digits v ∷ digits (s .block (representative (s .stack) v)) ∷ []))
+      (λ v l u. line-le "LOT" v (s .block (representative (s .stack) v)) refl (omega (arith, vertices-in limits small narrow h r)) (block-in s ok v l u))
 
-  visited-in : (s : State) (e : Net) → connectivity h (s .stack) (s .block) e ≤ 16
+  pub visited-in : (s : State) (e : Net) → connectivity h (s .stack) (s .block) e ≤ 16
   visited-in s e = omega (arith, connectivity-le limits narrow h (r .loaded) (r .nets-high) (s .stack) (s .block) e, blocks-in limits small narrow h r)
 
   nets-le : (s : State) (i : ℕ) (es : List Net) → i + length es ≤ 1025 → length (buyRows h s i es) ≤ 12 * length es
@@ -111,38 +109,41 @@ module _ (limits : Limits) (small : limits .vertexLimit ≤ 1024) (narrow : limi
     nets-le s (suc i) es (omega arith),
   )
 
-  pub closing-le : (draft : ℕ) → draft ≤ 15360000 → (s : State) → Legal h s → length (closing draft h s) ≤ 24600
+  -- by the lots in the sale and the buyers
+  pub closing-by : (draft : ℕ) → draft ≤ 15360000 → (s : State) → Legal h s → length (closing draft h s) ≤ 24 + (12 * lotsIn h + 12 * length (h .nets))
   unfolding closing sumOver bytes
-  closing-le draft low s ok = omega (
+  closing-by draft low s ok = omega (
     arith,
     length-append (first ++ lotRows h s) (buyRows h s 1 (h .nets)),
     length-append first (lotRows h s),
     row-length "TOTAL" (digits draft ∷ digits (metric h (s .stack) (s .block)) ∷ []),
     metric-digits draft low,
     metric-digits (metric h (s .stack) (s .block)) (metric-in limits small narrow h r _ _),
-    lots-le s ok,
+    lot-rows-le s ok,
     nets-le s 1 (h .nets) (omega (arith, r .nets-high)),
-    r .nets-high,
   )
     where
       first : List ℕ
       first = row "TOTAL" (digits draft ∷ digits (metric h (s .stack) (s .block)) ∷ [])
 
+  pub closing-le : (draft : ℕ) → draft ≤ 15360000 → (s : State) → Legal h s → length (closing draft h s) ≤ 24600
+  closing-le draft low s ok = omega (arith, closing-by draft low s ok, lots-le h, vertices-in limits small narrow h r, r .nets-high)
+
 module _ (limits : Limits) (small : limits .vertexLimit ≤ 1024) (narrow : limits .blockLimit ≤ 16) where
   -- the answer of every call line
-  turned-bounded : (q : ℕ) (a : Sale) (done : Turn) → q ≤ 25 → (q ≡ 0 → Bounded (done .answer)) → Bounded (turned q a done .answer)
+  pub turned-bounded : (q : ℕ) (a : Sale) (done : Turn) → q ≤ 25 → (q ≡ 0 → Bounded (done .answer)) → Bounded (turned q a done .answer)
   unfolding turned
   turned-bounded zero a done l f = f refl
   turned-bounded (suc q) a done l f = l
 
-  refusals-X : (h : Hypergraph) (s : State) (v : ℕ) → refusesX h s v ≤ 25
+  pub refusals-X : (h : Hypergraph) (s : State) (v : ℕ) → refusesX h s v ≤ 25
   unfolding refusesX
   refusals-X h s v =
       either-le (not (isVertex h v)) 9 _ 25 (omega arith)
       (either-le (joinsStand s) 16 _ 25 (omega arith)
       (either-le (not (onBoard h (s .stack) v)) 10 0 25 (omega arith) (omega arith)))
 
-  refusals-N : (space : Space) (h : Hypergraph) (ceiling : ℕ → ℕ) (s : State) (bales session : ℕ) (buyers : List ℕ) → refusesN space h ceiling s bales session buyers ≤ 25
+  pub refusals-N : (space : Space) (h : Hypergraph) (ceiling : ℕ → ℕ) (s : State) (bales session : ℕ) (buyers : List ℕ) → refusesN space h ceiling s bales session buyers ≤ 25
   unfolding refusesN
   refusals-N space h ceiling s bales session buyers =
       either-le (not (leb 1 bales && leb bales 65535 && isBlock h session && all buyers (isNet h))) 9 _ 25 (omega arith)
@@ -151,7 +152,7 @@ module _ (limits : Limits) (small : limits .vertexLimit ≤ 1024) (narrow : limi
       (either-le (leb (space .lots) (lotsIn h) || ltb (space .marks) (marksIn h + length buyers)) 23 _ 25 (omega arith)
       (either-le (not (leb (blockWeight h (s .stack) (s .block) session + bales) (ceiling session))) 14 0 25 (omega arith) (omega arith)))))
 
-  pub bounded-turn : (a : Sale) → Healthy limits a → (c : Request) → Bounded (turn limits a c .answer)
+  pub bounded-turn : (a : Sale) → Valid limits a → (c : Request) → Bounded (turn limits a c .answer)
   unfolding turnUnder ran doesX doesN
   bounded-turn a k (runs c) = bounded-call limits small narrow (a .graph) (k .ranges) (capacities (a .graph)) (a .state) c (k .held .legal) (k .listed)
   bounded-turn a k (callX v) = turned-bounded (refusesX (a .graph) (a .state) v) a (doesX a v) (refusals-X (a .graph) (a .state) v)
@@ -161,23 +162,23 @@ module _ (limits : Limits) (small : limits .vertexLimit ≤ 1024) (narrow : limi
       (refusals-N (spaceOf limits) (a .graph) (capacities (a .graph)) (a .state) bales session buyers)
       (λ q. let t = accepts-N limits a k bales session buyers q in (omega (arith, number-le limits a k bales session buyers q, t .ranges .vertices-high), metric-in limits small narrow _ (t .ranges) _ _))
 
-  pub answers-le : (a : Sale) (calls : List Request) → Healthy limits a → length (answers limits a calls) ≤ 41 * length calls
+  pub answers-le : (a : Sale) (calls : List Request) → Valid limits a → length (answers limits a calls) ≤ 41 * length calls
   unfolding answers
   answers-le a [] k = omega arith
   answers-le a (c ∷ cs) k = omega (
     arith,
     length-append (answerRow (turn limits a c .answer)) (answers limits (turn limits a c .sale) cs),
     answer-le (turn limits a c .answer) (bounded-turn a k c),
-    answers-le (turn limits a c .sale) cs (healthy-turn limits a k c),
+    answers-le (turn limits a c .sale) cs (valid-turn limits a k c),
   )
 
-pub report-fits : (limits : Limits) → limits .vertexLimit ≤ 1024 → limits .blockLimit ≤ 16 → (h : Hypergraph) → Accepted limits h → (calls : List Request) → length calls ≤ 512 → length (run limits h calls) ≤ 60000
+pub report-fits : (limits : Limits) → limits .vertexLimit ≤ 1024 → limits .blockLimit ≤ 16 → Few limits → (h : Hypergraph) → Accepted limits h → (calls : List Request) → length calls ≤ 512 → length (run limits h calls) ≤ 60000
 unfolding run after
-report-fits limits small narrow h a calls l =
-    let t = reached limits h a calls in
+report-fits limits small narrow few h a calls l =
+    let t = reached limits few h a calls in
     omega (
       arith,
       length-append (answers limits (opened h) calls) (closing (draftTotal h) (after limits (opened h) calls .graph) (after limits (opened h) calls .state)),
-      answers-le limits small narrow (opened h) calls (reached limits h a []),
-      closing-le limits small narrow (after limits (opened h) calls .graph) (t .ranges) (draftTotal h) (metric-in limits small narrow h (accepted-ranges limits h a) _ _) (after limits (opened h) calls .state) (t .held .legal),
+      answers-le limits small narrow (opened h) calls (reached limits few h a []),
+      closing-le limits small narrow (after limits (opened h) calls .graph) (t .ranges) (draftTotal h) (metric-in limits small narrow h (accepted-ranges limits few h a) _ _) (after limits (opened h) calls .state) (t .held .legal),
     )

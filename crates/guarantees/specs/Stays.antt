@@ -28,7 +28,8 @@ use Rattle.guarantees.specs.Walks.{walked-metric}
 use Rattle.guarantees.specs.Calls.{Legal, coarsened, can-join, AllInside, placed-split, legal-J}
 use Rattle.guarantees.specs.Contractions.{one-block}
 use Rattle.guarantees.specs.Caps.{walked-keeps, polished-keeps}
-use Rattle.guarantees.specs.Reached.{Healthy, turned-keeps, X-told, N-told, healthy-turn, reached}
+use Rattle.guarantees.specs.Ranges.{Few}
+use Rattle.guarantees.specs.Reached.{Valid, turned-keeps, X-told, N-told, valid-turn, reached}
 use Rattle.guarantees.specs.Changes.{put-at, put-other}
 use Rattle.guarantees.specs.Changed.{known, drafted-other}
 
@@ -192,7 +193,7 @@ module _ (limits : Limits) (h₀ : Hypergraph) where
     pub kept : Kept (a .graph) (capacities (a .graph)) (a .state)
     pub drafts : (x : ℕ) → 1 ≤ x → x ≤ vertices (a .graph) → fixedEntry (a .graph) x ≡ 1 → drafted (a .graph) x ≡ drafted h₀ x
 
-  module _ (a : Sale) (healthy : Healthy limits a) (k : KeptIn a) (none : a .state .stack ≡ []) (v bales session : ℕ) (nets : List Net) (vl : 1 ≤ v) (vu : v ≤ suc (vertices (a .graph))) where
+  module _ (a : Sale) (valid : Valid limits a) (k : KeptIn a) (none : a .state .stack ≡ []) (v bales session : ℕ) (nets : List Net) (vl : 1 ≤ v) (vu : v ≤ suc (vertices (a .graph))) where
     abbrev h : Hypergraph
     h = a .graph
 
@@ -201,11 +202,11 @@ module _ (limits : Limits) (h₀ : Hypergraph) where
 
     not-fixed : fixedEntry next v ≡ 0
     unfolding changedAt
-    not-fixed = put-at (h .fixed) (v - 1) 0 (omega (arith, healthy .ranges .loaded .fixed-long))
+    not-fixed = put-at (h .fixed) (v - 1) 0 (omega (arith, valid .ranges .loaded .fixed-long))
 
     fixed-other : (x : ℕ) → 1 ≤ x → (x ≡ v → ⊥) → fixedEntry next x ≡ fixedEntry h x
     unfolding changedAt
-    fixed-other x l n = put-other (h .fixed) (v - 1) 0 (x - 1) (omega (arith, healthy .ranges .loaded .fixed-long)) (λ e. n (omega arith))
+    fixed-other x l n = put-other (h .fixed) (v - 1) 0 (x - 1) (omega (arith, valid .ranges .loaded .fixed-long)) (λ e. n (omega arith))
 
     still : (x : ℕ) → 1 ≤ x → x ≤ vertices h → fixedEntry h x ≡ 1 → a .state .block x ≡ drafted h x
     still x l u q = ap (a .state .block) (sym (representative-none x)) ∙ subst (λ (cs : List Contraction). Stays h cs (a .state .block)) none (k .kept .stays) x l u q
@@ -223,22 +224,22 @@ module _ (limits : Limits) (h₀ : Hypergraph) where
             let f = sym (fixed-other x l n) ∙ q in
             drafted-other h (a .state .block) v bales session nets vl vu x l w n ∙ still x l w f ∙ k .drafts x l w f
 
-  kept-turn : (a : Sale) → Healthy limits a → KeptIn a → (c : Request) → KeptIn (turn limits a c .sale)
+  kept-turn : (a : Sale) → Valid limits a → KeptIn a → (c : Request) → KeptIn (turn limits a c .sale)
   unfolding turnUnder ran doesX doesN withdrawn added
-  kept-turn a healthy k (runs c) = record { kept = kept-call (a .graph) (capacities (a .graph)) (a .state) c (healthy .held .legal) (k .kept); drafts = k .drafts }
-  kept-turn a healthy k (callX v) = turned-keeps limits KeptIn (refusesX (a .graph) (a .state) v) a (doesX a v) k
-      (λ q. let t = X-told limits a healthy v q in kept-change a healthy k (t .0) v 0 0 (netsWithout v (a .graph .nets)) (t .1) (omega (arith, t .2)) (v ∷ a .free))
-  kept-turn a healthy k (callN bales session buyers) =
+  kept-turn a valid k (runs c) = record { kept = kept-call (a .graph) (capacities (a .graph)) (a .state) c (valid .held .legal) (k .kept); drafts = k .drafts }
+  kept-turn a valid k (callX v) = turned-keeps limits KeptIn (refusesX (a .graph) (a .state) v) a (doesX a v) k
+      (λ q. let t = X-told limits a valid v q in kept-change a valid k (t .0) v 0 0 (netsWithout v (a .graph .nets)) (t .1) (omega (arith, t .2)) (v ∷ a .free))
+  kept-turn a valid k (callN bales session buyers) =
       turned-keeps limits KeptIn (refusesN (spaceOf limits) (a .graph) (capacities (a .graph)) (a .state) bales session buyers) a (doesN a bales session buyers) k
-      (λ q. let t = N-told limits a healthy bales session buyers q in
-      kept-change a healthy k (t .0) (numberFor (a .graph) (a .free)) bales session (netsWith (numberFor (a .graph) (a .free)) buyers 1 (a .graph .nets)) (t .1) (t .2) (drop 1 (a .free)))
+      (λ q. let t = N-told limits a valid bales session buyers q in
+      kept-change a valid k (t .0) (numberFor (a .graph) (a .free)) bales session (netsWith (numberFor (a .graph) (a .free)) buyers 1 (a .graph .nets)) (t .1) (t .2) (drop 1 (a .free)))
 
-  kept-after : (a : Sale) (calls : List Request) → Healthy limits a → KeptIn a → KeptIn (after limits a calls)
+  kept-after : (a : Sale) (calls : List Request) → Valid limits a → KeptIn a → KeptIn (after limits a calls)
   unfolding after
-  kept-after a [] healthy k = k
-  kept-after a (c ∷ cs) healthy k = kept-after (turn limits a c .sale) cs (healthy-turn limits a healthy c) (kept-turn a healthy k c)
+  kept-after a [] valid k = k
+  kept-after a (c ∷ cs) valid k = kept-after (turn limits a c .sale) cs (valid-turn limits a valid c) (kept-turn a valid k c)
 
   -- after every list of call lines a kept lot, not withdrawn since, stands in its session of the draft
-  pub fixed-stays : Accepted limits h₀ → (calls : List Request) → KeptIn (reachedBy limits h₀ calls)
+  pub fixed-stays : Few limits → Accepted limits h₀ → (calls : List Request) → KeptIn (reachedBy limits h₀ calls)
   unfolding after
-  fixed-stays a calls = kept-after (opened h₀) calls (reached limits h₀ a []) (record { kept = kept-fresh h₀; drafts = λ x l u q. refl })
+  fixed-stays few a calls = kept-after (opened h₀) calls (reached limits few h₀ a []) (record { kept = kept-fresh h₀; drafts = λ x l u q. refl })

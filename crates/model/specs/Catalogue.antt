@@ -5,18 +5,20 @@ use mathlib.Core.List.{List}
 use lib.Dec.{eqb, leb, ltb}
 use lib.ListN.{length, getD}
 
--- the limits of an entry: how many lots and how many sessions a catalogue may have
+-- the limits of a catalogue: how many lots, sessions, buyers and marks it may have
 pub record Limits : Type 0 where
   pub vertexLimit : ℕ
   pub blockLimit : ℕ
+  pub netLimit : ℕ
+  pub pinLimit : ℕ
 
--- "lots 1 to 1,024", "sessions 2 to 16"
+-- "lots 1 to 1,024", "sessions 2 to 16", "buyers 0 to 1,024", "at most 8,192 marks in all"
 abbrev pub mainLimits : Limits
-mainLimits = record { vertexLimit = 1024; blockLimit = 16 }
+mainLimits = record { vertexLimit = 1024; blockLimit = 16; netLimit = 1024; pinLimit = 8192 }
 
 -- the superfine desk's (M-102): "257 lots or 9 sessions are out of range"
 abbrev pub fineLimits : Limits
-fineLimits = record { vertexLimit = 256; blockLimit = 8 }
+fineLimits = record { vertexLimit = 256; blockLimit = 8; netLimit = 1024; pinLimit = 8192 }
 
 -- net: a buyer with its weight. pins: the lots marked with it, in the file's order
 pub record Net : Type 0 where
@@ -50,7 +52,7 @@ loaded h v = getD (h .weights) (v - 1) 0
 abbrev pub least : Hypergraph → ℕ → ℕ
 least h v = getD (h .lows) (v - 1) 0
 
--- a lot's session in the draft; 0 for no lot
+-- a lot's session in the draft; 0 past the last lot
 abbrev pub drafted : Hypergraph → ℕ → ℕ
 drafted h v = getD (h .draft) (v - 1) 0
 

@@ -1,5 +1,5 @@
--- Demand 3: one statement about an accepted catalogue, a list of calls and what they leave. Rests on Memory and on laws' occurrences.
--- Assumes nothing.
+-- What demand 3 speaks of: an accepted catalogue, the sale that a list of calls leads to, what holds of the machine's own states, what stands in lent
+-- memory. Rests on Memory and on laws' occurrences. Assumes nothing.
 use Prim.Native.Nat.{ℕ, _-_, _≤_}
 use mathlib.Core.Path.{_≡_}
 use mathlib.Core.Bool.{Bool, true, false}
@@ -76,17 +76,3 @@ pub record LoadedSets (h : Hypergraph) (t : Tables) : Type 0 where
   pub as-many : (e : ℕ) → 1 ≤ e → e ≤ length (h .nets) → getD (t .presentSizes) (e - 1) 0 ≡ getD (t .loadedSizes) (e - 1) 0
   pub as-often : (e v : ℕ) → 1 ≤ e → e ≤ length (h .nets)
       → occ (t .presentPins) (getD (t .firsts) (e - 1) 0) (getD (t .presentSizes) (e - 1) 0) v ≡ occ (t .loadedPins) (getD (t .firsts) (e - 1) 0) (getD (t .loadedSizes) (e - 1) 0) v
-
--- Demand 3, of every accepted catalogue and every list of at most 512 calls, from a fresh machine and from tables as loading left them.
--- `old` is what the tables held before loading; `left` is what stands after the calls, `lines` are the answers' bytes, whose totals are
--- the machine's, and `total` is the one that the closing report prints
-pub record Demand3 (limits : Limits) (h : Hypergraph) (calls : List Request) (old : Tables) (left : Standing) (lines : List ℕ) (total : ℕ) : Type 0 where
-  pub accepted : Accepted limits h
-  pub few : length calls ≤ 512
-  -- joins, record of moves and every entry of the tables are the machine's
-  pub stands : Stands old (reachedBy limits h calls) left
-  -- with no join standing the mark sets are the loaded ones, less withdrawals plus additions
-  pub unjoined : left .stack ≡ [] → LoadedSets (reachedBy limits h calls .graph) (left .tables)
-  pub answered : lines ≡ answers limits (opened h) calls
-  pub total-is : total ≡ totalOf (reachedBy limits h calls)
-  pub machine : MachineHalf limits h calls

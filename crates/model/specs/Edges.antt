@@ -76,10 +76,10 @@ pub edges :
     × (says (bytes "SALE,1,1,2,1000\nLOT,7,1\nBUY,1,1,1\n") ≡ stopped 4 3)
     -- 5: the 8,193rd mark; of one mark 3 and 4 come before 5
     × (says (nine 912 ++ many 910 nineMarks ++ bytes "BUY,1,1,2\nBUY,1,3\n") ≡ stopped 5 922)
-    × (mark oneLot (marked [] 8191) 1 ≡ marked (1 ∷ []) 8192)
-    × (mark oneLot (marked [] 8192) 1 ≡ wrong 5)
-    × (mark oneLot (marked (1 ∷ []) 8192) 1 ≡ wrong 4)
-    × (mark oneLot (marked [] 8192) 2 ≡ wrong 3)
+    × (mark mainLimits oneLot (marked [] 8191) 1 ≡ marked (1 ∷ []) 8192)
+    × (mark mainLimits oneLot (marked [] 8192) 1 ≡ wrong 5)
+    × (mark mainLimits oneLot (marked (1 ∷ []) 8192) 1 ≡ wrong 4)
+    × (mark mainLimits oneLot (marked [] 8192) 2 ≡ wrong 3)
     -- 6: on the last catalogue line, a lot's or a buyer's, and before the calls
     × (says (bytes "SALE,1,0,2,0\nLOT,7,1\nP\n") ≡ stopped 6 2)
     × (says (bytes "SALE,1,1,2,0\nLOT,7,1\nBUY,1,1\nP\n") ≡ stopped 6 3)

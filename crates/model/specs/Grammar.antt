@@ -104,7 +104,7 @@ within low high x = leb low x && leb x high
 unfoldable pub saleLine : Limits → ℕ → Fields → Reading
 saleLine limits n fs =
     cond (not (isLineOf "SALE" 4 fs || isLineOf "EST" 4 fs)) (stopped 2 n)
-    (cond (not (within 1 (limits .vertexLimit) (at fs 1) && within 0 1024 (at fs 2) && within 2 (limits .blockLimit) (at fs 3) && within 0 1000 (at fs 4))) (stopped 3 n)
+    (cond (not (within 1 (limits .vertexLimit) (at fs 1) && within 0 (limits .netLimit) (at fs 2) && within 2 (limits .blockLimit) (at fs 3) && within 0 1000 (at fs 4))) (stopped 3 n)
     (reading (record {
       estimated = isLineOf "EST" 4 fs;
       lots = at fs 1;
@@ -172,18 +172,18 @@ pub data Marking : Type 0 where
   marked : List ℕ → ℕ → Marking
   wrong : ℕ → Marking
 
--- one mark: a lot that there is (3), not marked yet (4), and at most 8,192 in all (5)
-unfoldable pub mark : Hypergraph → Marking → ℕ → Marking
-mark h (wrong q) v = wrong q
-mark h (marked vs m) v =
+-- one mark: a lot that there is (3), not marked yet (4), and at most so many in all (5)
+unfoldable pub mark : Limits → Hypergraph → Marking → ℕ → Marking
+mark limits h (wrong q) v = wrong q
+mark limits h (marked vs m) v =
     cond (not (isVertex h v)) (wrong 3)
     (cond (any vs (λ x. eqb x v)) (wrong 4)
-    (cond (leb 8192 m) (wrong 5) (marked (vs ++ (v ∷ [])) (suc m))))
+    (cond (leb (limits .pinLimit) m) (wrong 5) (marked (vs ++ (v ∷ [])) (suc m))))
 
 -- the marks of a line, from left to right
-unfoldable pub marking : Hypergraph → Marking → Fields → Marking
-marking h m [] = m
-marking h m (f ∷ fs) = marking h (mark h m (value f)) fs
+unfoldable pub marking : Limits → Hypergraph → Marking → Fields → Marking
+marking limits h m [] = m
+marking limits h m (f ∷ fs) = marking limits h (mark limits h m (value f)) fs
 
 -- one buyer more
 unfoldable pub withNet : Hypergraph → ℕ → List ℕ → Hypergraph
@@ -202,11 +202,11 @@ netRead n k w (marked vs m) = grown n (record {
 })
 
 -- BUY,weight,lot,..
-unfoldable pub buyLine : ℕ → Book → Fields → Reading
-buyLine n k fs =
+unfoldable pub buyLine : Limits → ℕ → Book → Fields → Reading
+buyLine limits n k fs =
     cond (not (isLine "BUY" fs && leb 3 (length fs))) (stopped 2 n)
     (cond (not (within 1 1000 (at fs 1))) (stopped 3 n)
-    (netRead n k (at fs 1) (marking (k .graph) (marked [] (k .marks)) (drop 2 fs))))
+    (netRead n k (at fs 1) (marking limits (k .graph) (marked [] (k .marks)) (drop 2 fs))))
 
 -- a call line's call, or none
 pub data Asked : Type 0 where
@@ -249,7 +249,7 @@ line limits n (stopped q m) l = stopped q m
 line limits n unread l = saleLine limits n (fields l)
 line limits n (reading k) l =
     cond (ltb (vertices (k .graph)) (k .lots)) (lotLine n k (endsInK l) (fields (beforeK l)))
-    (cond (ltb (length (k .graph .nets)) (k .buyers)) (buyLine n k (fields l))
+    (cond (ltb (length (k .graph .nets)) (k .buyers)) (buyLine limits n k (fields l))
     (callLine n k (fields l)))
 
 -- what stands behind the last line feed: nothing, and no line is missing; or a line that lacks its line feed

@@ -1,5 +1,5 @@
 -- The entry that takes a catalogue's bytes and a list of calls apart from each other: when the list is refused, and what the entry returns
--- and leaves in lent memory. Rests on Lent, Demand, Clump, Ready and Estimate. Assumes nothing.
+-- and leaves in lent memory. Rests on Lent and Promises. Assumes nothing.
 use Prim.Native.Nat.{ℕ, zero, suc, _+_, _*_, _/_, _%_}
 use mathlib.Core.Path.{_≡_}
 use mathlib.Core.Bool.{Bool, true, false, not, cond, _&&_, _||_}
@@ -10,11 +10,9 @@ use Rattle.model.specs.Catalogue.{Limits, Hypergraph}
 use Rattle.model.specs.Sale.{Request}
 use Rattle.model.specs.Grammar.{Reading, unread, reading, stopped, parse, letterJ, letterS, letterM, letterB, letterW, letterP, letterA, letterX, letterN}
 use Rattle.model.specs.Memory.{Memory, longMemory, Written, Worked, Untouched}
-use Rattle.model.specs.Clump.{ClumpGains}
-use Rattle.model.specs.Ready.{EachPairOnce, FirstIsBest}
 use Rattle.model.specs.Lent.{callsOf, Two, stackOf, journalOf, ZeroPast}
-use Rattle.model.specs.Demand.{standing, reachedBy, Demand3}
-use Rattle.model.specs.Estimate.{EveryCount}
+use Rattle.model.specs.Demand.{standing}
+use Rattle.model.specs.Promises.{Demand3}
 
 -- ---- the list
 -- the letter of a call
@@ -51,19 +49,13 @@ abbrev pub returned : ℕ → ℕ → ℕ → Two → Two → Returned
 returned code bytes total stack journal = record { code = code; bytes = bytes; total = total; stack = stack; journal = journal }
 
 -- ---- what it promises
--- the calls ran: demand 3, what the gain table says of clumps (M-108), what the index holds and which pair of it is the first (M-107), what holds of
--- every count of bales within the ranges (M-109), and the answers' lines in the output
+-- the calls ran: demand 3 with the promises, and the answers' lines in the output
 pub record Listed (limits : Limits) (h : Hypergraph) (calls : List Request) (old new : Memory) (r : Returned) : Type 0 where
   pub code-is : r .code ≡ 0
   pub lines : List ℕ
   pub demand : Demand3 limits h calls (old .tables)
       (standing (new .tables) (stackOf (r .stack .xs) (r .stack .ys) (r .stack .len)) (journalOf (r .journal .xs) (r .journal .ys) (r .journal .len)))
       lines (r .total)
-  pub clump-gains : ClumpGains (reachedBy limits h calls .graph) (reachedBy limits h calls .state) (new .tables)
-  pub each-pair-once : EachPairOnce (reachedBy limits h calls .graph) (reachedBy limits h calls .state) (new .tables)
-  pub first-is-best : FirstIsBest (reachedBy limits h calls .graph) (reachedBy limits h calls .state) (new .tables)
-  -- for lists without an accepted X or N
-  pub every-count : reachedBy limits h calls .changed ≡ false → EveryCount h (reachedBy limits h calls .state)
   pub output : Written lines (old .output) (new .output) (r .bytes)
   pub stack-whole : ZeroPast (r .stack)
   pub journal-whole : ZeroPast (r .journal)

@@ -11,7 +11,7 @@ use Rattle.model.specs.Machine.{Call, callJ, callS, callM, callB, callW,
 use Rattle.model.specs.Sale.{Request, runs, callX, callN, Sale, turn}
 use Rattle.model.specs.Report.{refusal}
 use Rattle.model.specs.Grammar.{Book, reading, parse}
-use Rattle.model.specs.Memory.{Tables, Memory, longMemory}
+use Rattle.model.specs.Memory.{Tables, Memory, longMemory, Holds, Serves}
 use Rattle.model.specs.Lent.{stackOf}
 use Rattle.model.specs.Demand.{Accepted, reachedBy}
 use Rattle.model.specs.ListEntry.{listRefusal, listCalls, Returned, ListServes}
@@ -66,6 +66,20 @@ OrderOfMoves limits =
     → SameSessions limits (k .graph) before moves moves′
     → ListServes limits file list operands old new r → ListServes limits file list′ operands′ old new′ r′
     → SameLeft (new .tables) (new′ .tables) (stackOf (r .stack .xs) (r .stack .ys) (r .stack .len)) (stackOf (r′ .stack .xs) (r′ .stack .ys) (r′ .stack .len)) (r .total) (r′ .total)
+
+-- two calls of an entry for files on equal lent memory, whose files have the same catalogue and such lists of calls, leave the same tables
+abbrev pub OrderInFiles : Limits → Type 0
+OrderInFiles limits =
+    (file file′ : List ℕ) (k k′ : Book) (old new new′ : Memory) (code written code′ written′ : ℕ) (before moves moves′ : List Request)
+    → parse limits file ≡ reading k → parse limits file′ ≡ reading k′ → k′ .graph ≡ k .graph → longMemory limits old ≡ true
+    → k .calls ≡ before ++ moves → k′ .calls ≡ before ++ moves′ → SameSessions limits (k .graph) before moves moves′
+    → Serves limits file old new code written → Serves limits file′ old new′ code′ written′ → new′ .tables ≡ new .tables
+
+-- so do any two entries: tables that hold what the one list leads to and tables that hold what the other leads to, from what the same memory held before
+abbrev pub OrderOfTables : Limits → Type 0
+OrderOfTables limits =
+    (h : Hypergraph) (before moves moves′ : List Request) (old t t′ : Tables) → Accepted limits h → SameSessions limits h before moves moves′
+    → Holds (reachedBy limits h (before ++ moves)) old t → Holds (reachedBy limits h (before ++ moves′)) old t′ → t′ ≡ t
 
 -- two moves of different lots, accepted in either order, are such lists
 abbrev pub EitherOrder : Limits → Type 0

@@ -30,7 +30,7 @@ tail (f ∷ fs) = 44 ∷ (f ++ tail fs)
 unfoldable pub row : String → List (List ℕ) → List ℕ
 row word fs = bytes word ++ tail fs
 
--- an answer's number of the refusals 9 to 16, and 0 for an accepted call
+-- the number of a call's refusal (9 to 16, 20, 22, 23, 25), and 0 for an accepted call
 unfoldable pub refusal : Answer → ℕ
 refusal (saysJ w) = 0
 refusal (saysS u v) = 0

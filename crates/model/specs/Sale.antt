@@ -131,8 +131,8 @@ refusesN space h ceiling s bales session buyers =
 
 -- ---- what a call line does
 -- the sale on a changed catalogue: a fresh machine, whose draft is the present sessions
-abbrev pub goesOn : Hypergraph → List ℕ → Sale
-goesOn h free = record { graph = h; free = free; changed = true; state = fresh h }
+abbrev pub startedOver : Hypergraph → List ℕ → Sale
+startedOver h free = record { graph = h; free = free; changed = true; state = fresh h }
 
 abbrev pub totalOf : Sale → ℕ
 totalOf a = metric (a .graph) (a .state .stack) (a .state .block)
@@ -145,14 +145,14 @@ turned (suc q) a done = record { sale = a; answer = saysNO (suc q) }
 -- X accepted
 unfoldable pub doesX : Sale → ℕ → Turn
 doesX a v =
-    let next : Sale = goesOn (withdrawn (a .graph) (a .state .block) v) (v ∷ a .free) in
+    let next : Sale = startedOver (withdrawn (a .graph) (a .state .block) v) (v ∷ a .free) in
     record { sale = next; answer = saysX (totalOf next) }
 
 -- N accepted
 unfoldable pub doesN : Sale → ℕ → ℕ → List ℕ → Turn
 doesN a bales session buyers =
     let v : ℕ = numberFor (a .graph) (a .free) in
-    let next : Sale = goesOn (added (a .graph) (a .state .block) v bales session buyers) (drop 1 (a .free)) in
+    let next : Sale = startedOver (added (a .graph) (a .state .block) v bales session buyers) (drop 1 (a .free)) in
     record { sale = next; answer = saysN v (totalOf next) }
 
 -- a call of the machine
