@@ -14,7 +14,7 @@ use Rattle.model.specs.Catalogue.{Net, Hypergraph, mainLimits, vertices, drafte
 use Rattle.model.specs.Machine.{fresh}
 use Rattle.model.specs.Grammar.{Fields, isNumber, value, within, overfull}
 use Rattle.guarantees.specs.Clumps.{Within}
-use Rattle.guarantees.specs.Loads.{Loaded, loaded-fair, sum-below, placed-start, capped-draft}
+use Rattle.guarantees.specs.Loads.{Loaded, loaded-formed, sum-below, placed-start, capped-draft}
 use Rattle.guarantees.specs.Ranges.{Ranges}
 use Rattle.guarantees.specs.Reading.{within-range}
 use Rattle.model.specs.Hmetis.{words, numbersIn, Edge, isEdge, edgeFrom, edgeOf, edgesWeighted, code, edgeLines, Hmetis, said}
@@ -181,7 +181,7 @@ module _ (s : List ℕ) (w : Well s) (c : carried (said s) ≡ true) (t : listed
         nets-high = nets-few;
         marks-high = marks-few;
         total-high = omega (arith, loaded .total-is, sum-below (h .lows) (h .weights) (loaded .lows-long) (loaded .lows-in), sumOver-le (h .weights) _ (λ w. w) 65535 (loaded .weights-in) (λ w i. i .1), vertices-is, v .1);
-        loaded = loaded-fair loaded;
+        loaded = loaded-formed loaded;
         placed = placed-start mainLimits h loaded;
         draft-within = capped-draft mainLimits h o;
       }

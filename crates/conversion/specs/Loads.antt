@@ -60,7 +60,7 @@ module _ (s : List ℕ) (e : refusal s ≡ 0) where
       let short = leb-true _ _ (and-right (not (overfull (catalogueOf (said s)))) _ (a .fit)) in
       record {
         book = bookOf (catalogueOf (said s));
-        loads = loads-again mainLimits (omega arith) (omega arith) (catalogueOf (said s)) (ranges s w (a .carries) (a .lists) over) (loaded s w (a .carries) (a .lists)) (none-fixed s w (a .carries) (a .lists)) refl short;
+        loads = loads-again mainLimits (omega arith) (omega arith) (omega arith) (omega arith) (catalogueOf (said s)) (ranges s w (a .carries) (a .lists) over) (loaded s w (a .carries) (a .lists)) (none-fixed s w (a .carries) (a .lists)) refl short;
         blocks = refl;
         imbalance = refl;
         weights = refl;

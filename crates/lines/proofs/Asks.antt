@@ -106,7 +106,7 @@ module _ (fs : Fields) where
 
 -- ---- SALE, EST
 module _ (limits : Limits) (n : ℕ) (fs : Fields) where
-  sale-is : (f r : Bool) → (isLineOf "SALE" 4 fs || isLineOf "EST" 4 fs) ≡ f → (within 1 (limits .vertexLimit) (at fs 1) && within 0 1024 (at fs 2) && within 2 (limits .blockLimit) (at fs 3) && within 0 1000 (at fs 4)) ≡ r
+  sale-is : (f r : Bool) → (isLineOf "SALE" 4 fs || isLineOf "EST" 4 fs) ≡ f → (within 1 (limits .vertexLimit) (at fs 1) && within 0 (limits .netLimit) (at fs 2) && within 2 (limits .blockLimit) (at fs 3) && within 0 1000 (at fs 4)) ≡ r
       → saleLine limits n fs ≡ cond (not f) (stopped 2 n) (cond (not r) (stopped 3 n) (reading (book (isLineOf "EST" 4 fs) (at fs 1) (at fs 2) (record { blocks = at fs 3; imbalance = at fs 4; totalWeight = 0; lows = []; weights = []; draft = []; fixed = []; nets = [] }) 0 [])))
   unfolding saleLine
   sale-is f r p q = rw (← p, ← q)
@@ -118,7 +118,7 @@ module _ (limits : Limits) (n : ℕ) (fs : Fields) where
       neither x y p q = rw (p, q)
 
   module _ (is : (isLineOf "SALE" 4 fs || isLineOf "EST" 4 fs) ≡ true) (l b k t : ℕ) (el : l ≡ at fs 1) (eb : b ≡ at fs 2) (ek : k ≡ at fs 3) (et : t ≡ at fs 4) where
-    ranges : (within 1 (limits .vertexLimit) l && within 0 1024 b && within 2 (limits .blockLimit) k && within 0 1000 t) ≡ false → stopped 3 n ≡ saleLine limits n fs
+    ranges : (within 1 (limits .vertexLimit) l && within 0 (limits .netLimit) b && within 2 (limits .blockLimit) k && within 0 1000 t) ≡ false → stopped 3 n ≡ saleLine limits n fs
     ranges e = sym (sale-is true false is (rw (← el, ← eb, ← ek, ← et) e))
 
     pub sale-1 : within 1 (limits .vertexLimit) l ≡ false → stopped 3 n ≡ saleLine limits n fs
@@ -128,13 +128,13 @@ module _ (limits : Limits) (n : ℕ) (fs : Fields) where
         and3 x y z u e = rw e
 
     module _ (e1 : within 1 (limits .vertexLimit) l ≡ true) where
-      pub sale-2 : within 0 1024 b ≡ false → stopped 3 n ≡ saleLine limits n fs
+      pub sale-2 : within 0 (limits .netLimit) b ≡ false → stopped 3 n ≡ saleLine limits n fs
       sale-2 e = ranges (and3 _ _ _ _ e1 e)
         where
           and3 : (x y z u : Bool) → x ≡ true → y ≡ false → (x && y && z && u) ≡ false
           and3 x y z u d e = rw (d, e)
 
-      module _ (e2 : within 0 1024 b ≡ true) where
+      module _ (e2 : within 0 (limits .netLimit) b ≡ true) where
         pub sale-3 : within 2 (limits .blockLimit) k ≡ false → stopped 3 n ≡ saleLine limits n fs
         sale-3 e = ranges (and3 _ _ _ _ e1 e2 e)
           where

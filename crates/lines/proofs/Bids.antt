@@ -9,7 +9,7 @@ use lib.Seq.{slice}
 use lib.Dec.{leb}
 use borrow.Author.Tests.{le-leb, lt-leb}
 use Rattle.laws.specs.Fold.{all}
-use Rattle.model.specs.Catalogue.{vertices}
+use Rattle.model.specs.Catalogue.{Limits, vertices}
 use Rattle.model.specs.Grammar.{Fields, bytes, same, parts, fields, at, isLine, isNumber, within, Book, stopped, marked, wrong, marking, netRead, buyLine}
 use Rattle.text.specs.Field.{FirstAt, NumberRead}
 use Rattle.lines.specs.Mark.{refusalOf, tested, MarksRead, marksSeen, isBuy, WeightRead, BuyRead}
@@ -100,29 +100,29 @@ module _ (s : List ℕ) (at₀ end a : ℕ) (le : at₀ ≤ end) (inside : end �
         }
 
 -- ---- the line
-module _ (n : ℕ) (k : Book) (fs : Fields) where
+module _ (limits : Limits) (n : ℕ) (k : Book) (fs : Fields) where
   buy-is : (a b : Bool) → isBuy fs ≡ a → within 1 1000 (at fs 1) ≡ b
-      → buyLine n k fs ≡ cond (not a) (stopped 2 n) (cond (not b) (stopped 3 n) (netRead n k (at fs 1) (marking (k .graph) (marked [] (k .marks)) (drop 2 fs))))
+      → buyLine limits n k fs ≡ cond (not a) (stopped 2 n) (cond (not b) (stopped 3 n) (netRead n k (at fs 1) (marking limits (k .graph) (marked [] (k .marks)) (drop 2 fs))))
   unfolding buyLine
   buy-is a b p q = rw (← p, ← q)
 
 -- where `read_weight` answered w and e
-module _ (s : List ℕ) (at₀ end lots j first : ℕ) (marks stamps : List ℕ) (slen : length stamps ≡ 1024) (w e : ℕ) (read : WeightRead s at₀ end w e) where
+module _ (s : List ℕ) (at₀ end lots most j first : ℕ) (marks stamps : List ℕ) (slen : length stamps ≡ 1024) (w e : ℕ) (read : WeightRead s at₀ end w e) where
   abbrev fs : Fields
   fs = fields (slice at₀ end s)
 
-  none : (q : ℕ) → ((n : ℕ) (k : Book) → stopped q n ≡ buyLine n k fs) → BuyRead fs lots j first (NoBuy q) marks marks stamps
+  none : (q : ℕ) → ((limits : Limits) (n : ℕ) (k : Book) → stopped q n ≡ buyLine limits n k fs) → BuyRead fs lots most j first (NoBuy q) marks marks stamps
   none q f = record {
     keep = refl;
     past = λ w m e. absurd (let z : _≡_ {A = ℕ} 0 1 = cc in omega arith);
     len = refl;
     slen = slen;
-    says = λ n k e z. f n k;
+    says = λ limits n k is e z. f limits n k;
     next = λ w m e. absurd (let z : _≡_ {A = ℕ} 0 1 = cc in omega arith);
   }
 
-  pub buy-bad : e ≡ end → BuyRead fs lots j first (NoBuy 2) marks marks stamps
-  buy-bad z = none 2 (λ n k. sym (buy-is n k fs false _ (read .none z) refl))
+  pub buy-bad : e ≡ end → BuyRead fs lots most j first (NoBuy 2) marks marks stamps
+  buy-bad z = none 2 (λ limits n k. sym (buy-is limits n k fs false _ (read .none z) refl))
 
   module _ (more : e < end) where
     abbrev ps : Fields
@@ -131,45 +131,45 @@ module _ (s : List ℕ) (at₀ end lots j first : ℕ) (marks stamps : List ℕ)
     range-is : (t : Bool) → within 1 1000 w ≡ t → within 1 1000 (at fs 1) ≡ t
     range-is t u = ap (within 1 1000) (sym (read .is more)) ∙ u
 
-    pub buy-range : within 1 1000 w ≡ false → (q : ℕ) → q ≡ refusalOf 3 ps → BuyRead fs lots j first (NoBuy q) marks marks stamps
-    buy-range u q is = none q (λ n k.
-        ap (λ (x : ℕ). stopped x n) is ∙ sym (buy-is n k fs (all ps isNumber) false (read .form more) (range-is false u) ∙ go n (all ps isNumber)))
+    pub buy-range : within 1 1000 w ≡ false → (q : ℕ) → q ≡ refusalOf 3 ps → BuyRead fs lots most j first (NoBuy q) marks marks stamps
+    buy-range u q is = none q (λ limits n k.
+        ap (λ (x : ℕ). stopped x n) is ∙ sym (buy-is limits n k fs (all ps isNumber) false (read .form more) (range-is false u) ∙ go n (all ps isNumber)))
       where
         go : (n : ℕ) (t : Bool) → cond (not t) (stopped 2 n) (stopped 3 n) ≡ stopped (cond t 3 2) n
         go n true = refl
         go n false = refl
 
-    module _ (in-range : within 1 1000 w ≡ true) (m : Pinned) (marks′ stamps′ : List ℕ) (pins : MarksRead ps lots j first m marks marks′ stamps′) where
-      says : (n : ℕ) (k : Book) → vertices (k .graph) ≡ lots → k .marks ≡ first → netRead n k w (marksSeen first m marks′) ≡ buyLine n k fs
+    module _ (in-range : within 1 1000 w ≡ true) (m : Pinned) (marks′ stamps′ : List ℕ) (pins : MarksRead ps lots most j first m marks marks′ stamps′) where
+      says : (limits : Limits) (n : ℕ) (k : Book) → limits .pinLimit ≡ most → vertices (k .graph) ≡ lots → k .marks ≡ first → netRead n k w (marksSeen first m marks′) ≡ buyLine limits n k fs
       unfolding tested netRead
-      says n k c z =
-          ap (netRead n k w) (pins .says (k .graph) c ∙ ap (λ (f : ℕ). tested (k .graph) (marked [] f) ps) (sym z))
+      says limits n k is c z =
+          ap (netRead n k w) (pins .says limits (k .graph) is c ∙ ap (λ (f : ℕ). tested limits (k .graph) (marked [] f) ps) (sym z))
           ∙ go (all ps isNumber)
-          ∙ ap (λ (v : ℕ). cond (not (all ps isNumber)) (stopped 2 n) (netRead n k v (marking (k .graph) (marked [] (k .marks)) ps))) (read .is more)
-          ∙ ap (λ (gs : Fields). cond (not (all ps isNumber)) (stopped 2 n) (netRead n k (at fs 1) (marking (k .graph) (marked [] (k .marks)) gs))) (read .rest more)
-          ∙ sym (buy-is n k fs (all ps isNumber) true (read .form more) (range-is true in-range))
+          ∙ ap (λ (v : ℕ). cond (not (all ps isNumber)) (stopped 2 n) (netRead n k v (marking limits (k .graph) (marked [] (k .marks)) ps))) (read .is more)
+          ∙ ap (λ (gs : Fields). cond (not (all ps isNumber)) (stopped 2 n) (netRead n k (at fs 1) (marking limits (k .graph) (marked [] (k .marks)) gs))) (read .rest more)
+          ∙ sym (buy-is limits n k fs (all ps isNumber) true (read .form more) (range-is true in-range))
         where
-          go : (t : Bool) → netRead n k w (cond t (marking (k .graph) (marked [] (k .marks)) ps) (wrong 2)) ≡ cond (not t) (stopped 2 n) (netRead n k w (marking (k .graph) (marked [] (k .marks)) ps))
+          go : (t : Bool) → netRead n k w (cond t (marking limits (k .graph) (marked [] (k .marks)) ps) (wrong 2)) ≡ cond (not t) (stopped 2 n) (netRead n k w (marking limits (k .graph) (marked [] (k .marks)) ps))
           go true = refl
           go false = refl
 
-      pub buy-read : (f : ℕ) → m ≡ Good f → BuyRead fs lots j first (Bought w f) marks marks′ stamps′
+      pub buy-read : (f : ℕ) → m ≡ Good f → BuyRead fs lots most j first (Bought w f) marks marks′ stamps′
       buy-read f q = record {
         keep = pins .keep;
         past = λ v g z. let u : f ≡ g = cc in rw (← u) (pins .past f q);
         len = pins .len;
         slen = pins .slen;
-        says = λ n k c z. ap (λ (y : Pinned). netRead n k w (marksSeen first y marks′)) (sym q) ∙ says n k c z;
+        says = λ limits n k is c z. ap (λ (y : Pinned). netRead n k w (marksSeen first y marks′)) (sym q) ∙ says limits n k is c z;
         next = λ v g z. let u : f ≡ g = cc in rw (← u) (pins .next f q);
       }
 
-      pub buy-wrong : (f : ℕ) → m ≡ Wrong f → BuyRead fs lots j first (NoBuy f) marks marks′ stamps′
+      pub buy-wrong : (f : ℕ) → m ≡ Wrong f → BuyRead fs lots most j first (NoBuy f) marks marks′ stamps′
       unfolding netRead
       buy-wrong f q = record {
         keep = pins .keep;
         past = λ v g z. absurd (let u : _≡_ {A = ℕ} 0 1 = cc in omega arith);
         len = pins .len;
         slen = pins .slen;
-        says = λ n k c z. ap (λ (y : Pinned). netRead n k w (marksSeen first y marks′)) (sym q) ∙ says n k c z;
+        says = λ limits n k is c z. ap (λ (y : Pinned). netRead n k w (marksSeen first y marks′)) (sym q) ∙ says limits n k is c z;
         next = λ v g z. absurd (let u : _≡_ {A = ℕ} 0 1 = cc in omega arith);
       }

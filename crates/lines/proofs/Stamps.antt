@@ -12,7 +12,7 @@ use lib.Seq.{slice, slice-empty, take-suc-set, take-set-le, length-take-le, drop
 use lib.Dec.{eqb, leb}
 use borrow.Author.Tests.{eq-eqb, ne-eqb, le-leb, lt-leb}
 use Rattle.laws.specs.Fold.{any}
-use Rattle.model.specs.Catalogue.{Hypergraph, vertices, isVertex}
+use Rattle.model.specs.Catalogue.{Limits, Hypergraph, vertices, isVertex}
 use Rattle.model.specs.Grammar.{marked, wrong, mark}
 use Rattle.lines.specs.Mark.{Stamped, Fresh, MarkOne}
 
@@ -36,30 +36,30 @@ any-nil : (v : ℕ) → any [] (λ x. eqb x v) ≡ false
 unfolding any
 any-nil v = refl
 
-pub stamped-start : (j first : ℕ) (marks stamps : List ℕ) → first ≤ 8192 → Fresh j stamps → Stamped first first j marks stamps
-stamped-start j first marks stamps le f = record {
+pub stamped-start : (most j first : ℕ) (marks stamps : List ℕ) → first ≤ most → Fresh j stamps → Stamped most first first j marks stamps
+stamped-start most j first marks stamps le f = record {
   f-le = omega arith;
   m-le = le;
   below = λ x. omega (arith, f .below x);
   told = λ v l u. ap (λ (l : List ℕ). any l (λ x. eqb x v)) (slice-empty first marks) ∙ any-nil v ∙ sym (ne-eqb (getD stamps (v - 1) 0) j (λ e. omega (arith, f .below (v - 1))));
 }
 
-module _ (v lots j m : ℕ) (marks stamps : List ℕ) (lots-le : lots ≤ 1024) (wide : 8192 ≤ length marks) (s-len : length stamps ≡ 1024) where
-  mark-is : (h : Hypergraph) (vs : List ℕ) (a b c : Bool) → isVertex h v ≡ a → any vs (λ x. eqb x v) ≡ b → leb 8192 m ≡ c
-      → mark h (marked vs m) v ≡ cond (not a) (wrong 3) (cond b (wrong 4) (cond c (wrong 5) (marked (vs ++ (v ∷ [])) (suc m))))
+module _ (v lots most j m : ℕ) (marks stamps : List ℕ) (lots-le : lots ≤ 1024) (wide : most ≤ length marks) (s-len : length stamps ≡ 1024) where
+  mark-is : (limits : Limits) (h : Hypergraph) (vs : List ℕ) (a b c : Bool) → isVertex h v ≡ a → any vs (λ x. eqb x v) ≡ b → leb (limits .pinLimit) m ≡ c
+      → mark limits h (marked vs m) v ≡ cond (not a) (wrong 3) (cond b (wrong 4) (cond c (wrong 5) (marked (vs ++ (v ∷ [])) (suc m))))
   unfolding mark
-  mark-is h vs a b c p q r = rw (← p, ← q, ← r)
+  mark-is limits h vs a b c p q r = rw (← p, ← q, ← r)
 
   never : {A : Type 0} (q : ℕ) → 0 < q → q ≡ 0 → A
   never q l e = absurd (omega arith)
 
-  refused : (q : ℕ) → 0 < q → ((h : Hypergraph) (first : ℕ) → vertices h ≡ lots → Stamped first m j marks stamps → mark h (marked (slice first m marks) m) v ≡ wrong q) → MarkOne v lots j m q marks stamps marks stamps
+  refused : (q : ℕ) → 0 < q → ((limits : Limits) (h : Hypergraph) (first : ℕ) → limits .pinLimit ≡ most → vertices h ≡ lots → Stamped most first m j marks stamps → mark limits h (marked (slice first m marks) m) v ≡ wrong q) → MarkOne v lots most j m q marks stamps marks stamps
   refused q l f = record {
     keep = refl;
     past = λ x u. refl;
     len = refl;
     slen = refl;
-    says = λ h first e st. f h first e st ∙ ap (λ (b : Bool). cond b (marked (slice first (m + 1) marks) (m + 1)) (wrong q)) (sym (ne-eqb q 0 (λ z. omega arith)));
+    says = λ limits h first is e st. f limits h first is e st ∙ ap (λ (b : Bool). cond b (marked (slice first (m + 1) marks) (m + 1)) (wrong q)) (sym (ne-eqb q 0 (λ z. omega arith)));
     next = λ first e st. never q l e;
     room = λ e. never q l e;
   }
@@ -72,31 +72,31 @@ module _ (v lots j m : ℕ) (marks stamps : List ℕ) (lots-le : lots ≤ 1024) 
       go true = refl
       go false = refl
 
-  pub mark-low : v < 1 → MarkOne v lots j m 3 marks stamps marks stamps
-  mark-low u = refused 3 (omega arith) (λ h first e st. mark-is h (slice first m marks) false _ _ (outside h e (inl u)) refl refl)
+  pub mark-low : v < 1 → MarkOne v lots most j m 3 marks stamps marks stamps
+  mark-low u = refused 3 (omega arith) (λ limits h first is e st. mark-is limits h (slice first m marks) false _ _ (outside h e (inl u)) refl refl)
 
-  pub mark-high : lots < v → MarkOne v lots j m 3 marks stamps marks stamps
-  mark-high u = refused 3 (omega arith) (λ h first e st. mark-is h (slice first m marks) false _ _ (outside h e (inr u)) refl refl)
+  pub mark-high : lots < v → MarkOne v lots most j m 3 marks stamps marks stamps
+  mark-high u = refused 3 (omega arith) (λ limits h first is e st. mark-is limits h (slice first m marks) false _ _ (outside h e (inr u)) refl refl)
 
   module _ (low : 1 ≤ v) (high : v ≤ lots) where
     inside : (h : Hypergraph) → vertices h ≡ lots → isVertex h v ≡ true
     inside h e = rw (e, le-leb 1 v low, le-leb v lots high)
 
-    pub mark-twice : getD stamps (v - 1) 0 ≡ j → MarkOne v lots j m 4 marks stamps marks stamps
-    mark-twice u = refused 4 (omega arith) (λ h first e st. mark-is h (slice first m marks) true true _ (inside h e) (st .told v low (omega arith) ∙ eq-eqb _ _ u) refl)
+    pub mark-twice : getD stamps (v - 1) 0 ≡ j → MarkOne v lots most j m 4 marks stamps marks stamps
+    mark-twice u = refused 4 (omega arith) (λ limits h first is e st. mark-is limits h (slice first m marks) true true _ (inside h e) (st .told v low (omega arith) ∙ eq-eqb _ _ u) refl)
 
     module _ (new : getD stamps (v - 1) 0 ≡ j → ⊥) where
-      pub mark-full : 8192 ≤ m → MarkOne v lots j m 5 marks stamps marks stamps
-      mark-full u = refused 5 (omega arith) (λ h first e st. mark-is h (slice first m marks) true false true (inside h e) (st .told v low (omega arith) ∙ ne-eqb _ _ new) (le-leb 8192 m u))
+      pub mark-full : most ≤ m → MarkOne v lots most j m 5 marks stamps marks stamps
+      mark-full u = refused 5 (omega arith) (λ limits h first is e st. mark-is limits h (slice first m marks) true false true (inside h e) (st .told v low (omega arith) ∙ ne-eqb _ _ new) (le-leb (limits .pinLimit) m (omega arith)))
 
-      pub mark-new : m < 8192 → MarkOne v lots j m 0 marks stamps (set marks m v) (set stamps (v - 1) j)
+      pub mark-new : m < most → MarkOne v lots most j m 0 marks stamps (set marks m v) (set stamps (v - 1) j)
       mark-new u = record {
         keep = take-set-le m marks m v (omega arith);
         past = λ x z. getD-set-other marks m x v 0 (λ c. omega arith);
         len = simp length-set;
         slen = simp length-set;
-        says = λ h first e st.
-            mark-is h (slice first m marks) true false false (inside h e) (st .told v low (omega arith) ∙ ne-eqb _ _ new) (lt-leb 8192 m u)
+        says = λ limits h first is e st.
+            mark-is limits h (slice first m marks) true false false (inside h e) (st .told v low (omega arith) ∙ ne-eqb _ _ new) (lt-leb (limits .pinLimit) m (omega arith))
             ∙ ap (λ (l : List ℕ). marked l (suc m)) (sym (slice-more first m v marks (st .f-le) (omega arith)))
             ∙ ap (marked (slice first (m + 1) (set marks m v))) (sym (add-one m));
         next = λ first e st. record {

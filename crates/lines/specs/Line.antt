@@ -11,6 +11,8 @@ use Rattle.model.specs.Sale.{Request, callN}
 use Rattle.model.specs.Grammar.{Fields, at, values, Book, Reading, reading, stopped, Asked, asks, nothing, asked, callOf, grown, withLot, endsInK, beforeK, fields, within, isLine, isLineOf, saleLine, lotLine}
 use Rattle.model.specs.ListEntry.{isEntry}
 use Rattle.text.specs.Field.{Numbered}
+use Rattle.guarantees.specs.Ranges.{Few}
+use Rattle.lines.specs.declared.Limits.{Limits as Given}
 use Rattle.lines.specs.declared.Short.{Short}
 use Rattle.lines.specs.declared.Short.the-variants.{Calls, Other}
 use Rattle.lines.specs.declared.Head.{Head}
@@ -22,9 +24,15 @@ use Rattle.lines.specs.declared.Lot.the-variants.{Of, NoLot}
 abbrev pub book : Bool → ℕ → ℕ → Hypergraph → ℕ → List Request → Book
 book estimated lots buyers h marks calls = record { estimated = estimated; lots = lots; buyers = buyers; graph = h; marks = marks; calls = calls }
 
--- limits by their parts
-abbrev pub limitsOf : ℕ → ℕ → Limits
-limitsOf v b = record { vertexLimit = v; blockLimit = b }
+-- limits as code hands them on, in model's names
+abbrev pub limitsOf : Given → Limits
+limitsOf g = record { vertexLimit = g .lots; blockLimit = g .sessions; netLimit = g .buyers; pinLimit = g .marks }
+
+-- limits that are not above document 01's
+pub record Within (limits : Limits) : Type 0 where
+  pub lots-few : limits .vertexLimit ≤ 1024
+  pub sessions-few : limits .blockLimit ≤ 16
+  pub few : Few limits
 
 -- entries from n on keep what they held
 abbrev pub Past : ℕ → List ℕ → List ℕ → Type 0
@@ -60,7 +68,7 @@ pub record Announces (fs : Fields) (estimated : Bool) : Type 0 where
 pub record InRange (limits : Limits) (l b k t : ℕ) : Type 0 where
   pub l-low : 1 ≤ l
   pub l-high : l ≤ limits .vertexLimit
-  pub b-high : b ≤ 1024
+  pub b-high : b ≤ limits .netLimit
   pub k-low : 2 ≤ k
   pub k-high : k ≤ limits .blockLimit
   pub t-high : t ≤ 1000

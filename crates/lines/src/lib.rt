@@ -9,6 +9,14 @@ ghost use Rattle.lines.specs.Line.{limitsOf, ShortRead, Announces, SaleR
 ghost use Rattle.lines.specs.Late.{OperandsRead, LateRead, CallRead};
 ghost use Rattle.lines.specs.Mark.{Fresh, MarkOne, refusalOf, MarksRead, WeightRead, BuyRead};
 
+// What a catalogue may have: so many lots, sessions, buyers and marks.
+pub struct Limits {
+    pub lots: u32,
+    pub sessions: u32,
+    pub buyers: u32,
+    pub marks: u32,
+}
+
 // A call line's call: the byte of its letter, its numbers and how many operands are in use behind it.
 pub enum Ask {
     Asks(u32, u32, u32, usize),
@@ -150,21 +158,21 @@ pub fn call_line(s: &[u8], at: usize, end: usize, used: usize, operands: &mut [u
 }
 
 // The numbers of the first line.
-fn read_head(s: &[u8], at: usize, end: usize, vmax: u32, bmax: u32, estimated: bool) -> Head
+fn read_head(s: &[u8], at: usize, end: usize, limits: Limits, estimated: bool) -> Head
     requires { ⌜ (at ≤ end) × (end ≤ length (now s)) × Announces (fields (slice at end (now s))) estimated ⌝ }
-    ensures { λ r. ⌜ SaleRead (limitsOf vmax bmax) (fields (slice at end (now (s .entry)))) r ⌝ }
+    ensures { λ r. ⌜ SaleRead (limitsOf limits) (fields (slice at end (now (s .entry)))) r ⌝ }
 {
     let vertices = text::get(s, at, end, 1);
     let nets = text::get(s, at, end, 2);
     let blocks = text::get(s, at, end, 3);
     let imbalance = text::get(s, at, end, 4);
-    if !between(1, vmax, vertices) {
+    if !between(1, limits.lots, vertices) {
         return Head::NoSale(3);
     }
-    if !between(0, 1024, nets) {
+    if !between(0, limits.buyers, nets) {
         return Head::NoSale(3);
     }
-    if !between(2, bmax, blocks) {
+    if !between(2, limits.sessions, blocks) {
         return Head::NoSale(3);
     }
     if !between(0, 1000, imbalance) {
@@ -174,15 +182,15 @@ fn read_head(s: &[u8], at: usize, end: usize, vmax: u32, bmax: u32, estimated: b
 }
 
 // The first line.
-pub fn sale_line(s: &[u8], at: usize, end: usize, vmax: u32, bmax: u32) -> Head
+pub fn sale_line(s: &[u8], at: usize, end: usize, limits: Limits) -> Head
     requires { ⌜ (at ≤ end) × (end ≤ length (now s)) ⌝ }
-    ensures { λ r. ⌜ SaleRead (limitsOf vmax bmax) (fields (slice at end (now (s .entry)))) r ⌝ }
+    ensures { λ r. ⌜ SaleRead (limitsOf limits) (fields (slice at end (now (s .entry)))) r ⌝ }
 {
     if text::form(s, at, end, b"EST") == 5 {
-        return read_head(s, at, end, vmax, bmax, true);
+        return read_head(s, at, end, limits, true);
     }
     if text::form(s, at, end, b"SALE") == 5 {
-        return read_head(s, at, end, vmax, bmax, false);
+        return read_head(s, at, end, limits, false);
     }
     Head::NoSale(2)
 }
@@ -264,17 +272,18 @@ pub fn lot_line(s: &[u8], at: usize, end: usize, blocks: u16, estimated: bool) -
     Lot::Of(low, high, block as u16, last < end)
 }
 
-// One mark more of buyer j: 0, or the refusal.
+// One mark more of buyer j: 0, or the refusal; `most` is the limit of marks.
 fn put_pin(
     v: u32,
     vertices: u32,
+    most: usize,
     j: u16,
     m: usize,
     loadedpins: &mut [u16],
     stamps: &mut [u16; 1024],
 ) -> u8
-    requires { ⌜ (vertices ≤ 1024) × (8192 ≤ length (now loadedpins)) × (length (now stamps) ≡ 1024) ⌝ }
-    ensures { λ r. ⌜ MarkOne v vertices j m r (now (loadedpins .entry)) (now (stamps .entry)) (now (loadedpins .exit)) (now (stamps .exit)) ⌝ }
+    requires { ⌜ (vertices ≤ 1024) × (most ≤ length (now loadedpins)) × (length (now stamps) ≡ 1024) ⌝ }
+    ensures { λ r. ⌜ MarkOne v vertices most j m r (now (loadedpins .entry)) (now (stamps .entry)) (now (loadedpins .exit)) (now (stamps .exit)) ⌝ }
 {
     if v < 1 {
         return 3;
@@ -286,7 +295,7 @@ fn put_pin(
     if stamps[x] == j {
         return 4;
     }
-    if 8192 <= m {
+    if most <= m {
         return 5;
     }
     loadedpins[m] = v as u16;
@@ -305,20 +314,21 @@ fn refusal(s: &[u8], at: usize, end: usize, q: u8) -> u8
     q
 }
 
-// The marks of buyer j, in the fields from `at` to `end`, into the table from `first` on. Each field is tested and read at once.
+// The marks of buyer j, in the fields from `at` to `end`, into the table from `first` on, `most` in all. Each field is tested and read at once.
 fn read_pins(
     s: &[u8],
     at: usize,
     end: usize,
     vertices: u32,
+    most: usize,
     j: u16,
     first: usize,
     loadedpins: &mut [u16],
     stamps: &mut [u16; 1024],
 ) -> Pinned
-    requires { ⌜ (1 ≤ at) × (at ≤ end) × (end ≤ length (now s)) × (vertices ≤ 1024) × (first ≤ 8192)
-        × (8192 ≤ length (now loadedpins)) × (length (now stamps) ≡ 1024) × Fresh j (now stamps) ⌝ }
-    ensures { λ r. ⌜ MarksRead (parts 44 (slice at end (now (s .entry)))) vertices j first r (now (loadedpins .entry)) (now (loadedpins .exit)) (now (stamps .exit)) ⌝ }
+    requires { ⌜ (1 ≤ at) × (at ≤ end) × (end ≤ length (now s)) × (vertices ≤ 1024) × (first ≤ most)
+        × (most ≤ length (now loadedpins)) × (length (now stamps) ≡ 1024) × Fresh j (now stamps) ⌝ }
+    ensures { λ r. ⌜ MarksRead (parts 44 (slice at end (now (s .entry)))) vertices most j first r (now (loadedpins .entry)) (now (loadedpins .exit)) (now (stamps .exit)) ⌝ }
 {
     let mut i = at;
     let mut m = first;
@@ -328,7 +338,7 @@ fn read_pins(
         if e == i {
             return Pinned::Wrong(2);
         }
-        let q = put_pin(f.value, vertices, j, m, loadedpins, stamps);
+        let q = put_pin(f.value, vertices, most, j, m, loadedpins, stamps);
         if q != 0 {
             return Pinned::Wrong(refusal(s, i, end, q));
         }
@@ -360,19 +370,20 @@ fn read_weight(s: &[u8], at: usize, end: usize) -> text::Number
     f
 }
 
-// The line of buyer j.
+// The line of buyer j; `most` is the limit of marks in all.
 pub fn buy_line(
     s: &[u8],
     at: usize,
     end: usize,
     vertices: u32,
+    most: usize,
     j: u16,
     first: usize,
     loadedpins: &mut [u16],
     stamps: &mut [u16; 1024],
 ) -> Buy
-    requires { ⌜ (at ≤ end) × (end ≤ length (now s)) × (vertices ≤ 1024) × (first ≤ 8192) × (8192 ≤ length (now loadedpins)) × (length (now stamps) ≡ 1024) × Fresh j (now stamps) ⌝ }
-    ensures { λ r. ⌜ BuyRead (fields (slice at end (now (s .entry)))) vertices j first r (now (loadedpins .entry)) (now (loadedpins .exit)) (now (stamps .exit)) ⌝ }
+    requires { ⌜ (at ≤ end) × (end ≤ length (now s)) × (vertices ≤ 1024) × (first ≤ most) × (most ≤ length (now loadedpins)) × (length (now stamps) ≡ 1024) × Fresh j (now stamps) ⌝ }
+    ensures { λ r. ⌜ BuyRead (fields (slice at end (now (s .entry)))) vertices most j first r (now (loadedpins .entry)) (now (loadedpins .exit)) (now (stamps .exit)) ⌝ }
 {
     let f = read_weight(s, at, end);
     let w = f.value;
@@ -383,7 +394,7 @@ pub fn buy_line(
     if !between(1, 1000, w) {
         return Buy::NoBuy(refusal(s, e + 1, end, 3));
     }
-    match read_pins(s, e + 1, end, vertices, j, first, loadedpins, stamps) {
+    match read_pins(s, e + 1, end, vertices, most, j, first, loadedpins, stamps) {
         Pinned::Good(m) => Buy::Bought(w as u16, m),
         Pinned::Wrong(q) => Buy::NoBuy(q),
     }

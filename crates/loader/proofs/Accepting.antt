@@ -1,47 +1,50 @@
--- An accepted file: its tables are those of a fresh machine, its numbers fit, and no session is above its cap. Rests on Fill, Stretches and guarantees' laws of accepted files.
+-- An accepted catalogue: its tables are those of a fresh machine, its numbers fit, and no session is above its cap. Rests on Fill, Stretches and guarantees'
+-- laws of a catalogue that is read whole.
 use Prim.Native.Nat.{ℕ, zero, suc, _+_, _-_, _*_, _/_, _≤_, _<_}
 use mathlib.Core.Path.{_≡_, refl, ap, sym, _∙_}
-use mathlib.Core.Bool.{Bool, false, cond}
+use mathlib.Core.Bool.{Bool, true, false, cond}
 use mathlib.Core.List.{List, []}
 use native.Mathlib.Omega.{arith}
 use native.Mathlib.Nat.{div-le-self}
 use lib.Dec.{ltb}
 use lib.ListN.{length, getD, take}
-use lib.Seq.{length-take-le, getD-take}
+use lib.Seq.{slice, length-take-le, getD-take}
 use Rattle.laws.specs.Fold.{sumOver, sumOver-le}
 use Rattle.laws.specs.Occurrence.{occ, occ-distinct}
 use Rattle.laws.specs.Choice.{one, one-le}
 use Rattle.model.specs.Catalogue.{Limits, Hypergraph, vertices, fixedEntry, drafted, nearest, capacity, capacities}
 use Rattle.model.specs.Measure.{pin, size, weight}
 use Rattle.model.specs.Machine.{fresh}
-use Rattle.model.specs.Grammar.{Book, reading, parse}
+use Rattle.model.specs.Grammar.{Book, unread, whole, parts}
+use Rattle.model.specs.Through.{ended, through}
 use Rattle.model.specs.Memory.{Filled, net, allPins, firstPlace, weightEntry, blockEntry, weightWhenGone, takenOut, pastMarks}
-use Rattle.model.specs.Lent.{callsOf, lists}
+use Rattle.model.specs.Lent.{lists}
 use Rattle.guarantees.specs.Caps.{Capped}
-use Rattle.guarantees.specs.Loads.{Loaded as Good, sum-below, parsed, held-start, loaded-sale}
+use Rattle.guarantees.specs.Loads.{Loaded as Good, Read, sum-below, part-read, held-part, loaded-sale}
+use Rattle.guarantees.specs.Ranges.{read-ranges}
 use Rattle.guarantees.specs.Board.{board-is}
 use Rattle.guarantees.specs.Splits.{board-none, above-none, weight-none}
 use Rattle.laws.specs.Rising.{Rising}
 use Rattle.pins.specs.Sorting.{start, SortableNets}
-use Rattle.lines.specs.Line.{book}
-use Rattle.reader.specs.Whole.{averageOf, graphOf, Fitted, FileRead, seen as told}
-use Rattle.reader.specs.declared.Outcome.{Outcome}
-use Rattle.reader.specs.declared.Outcome.the-variants.{Taken, Refused as Stopped}
+use Rattle.lines.specs.Line.{book, Within}
+use Rattle.reader.specs.Whole.{averageOf, graphOf, Fitted, CatalogueRead, catalogueSeen as told}
+use Rattle.reader.specs.declared.Catalogue.{Catalogue}
+use Rattle.reader.specs.declared.Catalogue.the-variants.{Taken, Refused}
 use Rattle.reader.specs.Buyers.{netsOf, Laid}
 use Rattle.reader.proofs.Loads.{average-is, capacity-is}
-use Rattle.loader.specs.Tables.{InOrder, Started, Loads, sizesOf}
+use Rattle.loader.specs.Tables.{InOrder, Started, LoadsCatalogue, sizesOf}
 use Rattle.loader.specs.declared.Sizes.{Sizes}
-use Rattle.loader.specs.declared.Loaded.the-variants.{Accepted, Refused}
+use Rattle.loader.specs.declared.LoadedCatalogue.the-variants.{Fits, Fails}
 use Rattle.loader.proofs.Fill.{filled, filled-in, filled-out, filled-as}
 use Rattle.loader.proofs.Stretches.{count-is, size-is, first-is, pins-count, pins-at, present-is, sets-is, marks-inside}
 
-refused-accepted : {A : Type 0} {q n : ℕ} {z : Sizes} → Refused q n ≡ Accepted z → A
-refused-accepted e = absurd (let z : _≡_ {A = ℕ} 0 1 = cc in omega arith)
+fails-fits : {A : Type 0} {q m i : ℕ} {z : Sizes} → Fails q m ≡ Fits z i → A
+fails-fits e = absurd (let z : _≡_ {A = ℕ} 0 1 = cc in omega arith)
 
--- a refused file
-pub refused : (limits : Limits) (file : List ℕ) (r : Outcome) (q n : ℕ) (w₀ d₀ fx₀ a pp pc f₀ c₀ lp₀ w d fx nw lo f c lp calls ops : List ℕ) → FileRead limits file r w₀ d₀ fx₀ f₀ c₀ lp₀ w d fx nw lo f c lp calls ops → r ≡ Stopped q n
-    → Loads limits file (Refused q n) (lists w₀ d₀ a fx₀ lp₀ pp f₀ c₀ pc) (lists w d a fx lp pp f c pc) nw lo calls ops
-refused limits file r q n w₀ d₀ fx₀ a pp pc f₀ c₀ lp₀ w d fx nw lo f c lp calls ops read is = record { estimated = read .estimated; says = ap (λ (x : Outcome). told (read .estimated) x w d fx nw lo f c lp calls ops) (sym is) ∙ read .says; accepts = λ z y. refused-accepted y }
+-- a refused catalogue
+pub fails : (limits : Limits) (n : ℕ) (file : List ℕ) (at : ℕ) (r : Catalogue) (q m : ℕ) (w₀ d₀ fx₀ a pp pc f₀ c₀ lp₀ w d fx nw lo f c lp : List ℕ) → CatalogueRead limits n file at r w₀ d₀ fx₀ f₀ c₀ lp₀ w d fx nw lo f c lp → r ≡ Refused q m
+    → LoadsCatalogue limits n file at (Fails q m) (lists w₀ d₀ a fx₀ lp₀ pp f₀ c₀ pc) (lists w d a fx lp pp f c pc) nw lo
+fails limits n file at r q m w₀ d₀ fx₀ a pp pc f₀ c₀ lp₀ w d fx nw lo f c lp read is = record { estimated = read .estimated; says = ap (λ (x : Catalogue). told n file (read .estimated) x w d fx nw lo f c lp) (sym is) ∙ read .says; inside = λ z i y. fails-fits y; accepts = λ z i y. fails-fits y }
 
 -- ---- weights are small
 pub small-average : (limits : Limits) (h : Hypergraph) → Good limits h → vertices h ≤ 1024 → (k : ℕ) → averageOf k (h .lows) ≤ 67107855 + k
@@ -49,24 +52,27 @@ small-average limits h g l k =
     let s = sumOver-le (h .weights) (λ w. (1 ≤ w) × (w ≤ 65535)) (λ w. w) 65535 (g .weights-in) (λ w r. r .1) in
     omega (arith, sum-below (h .lows) (h .weights) (g .lows-long) (g .lows-in), div-le-self (sumOver (h .lows) (λ w. w) + (k - 1)) k)
 
-module _ (limits : Limits) (file : List ℕ) (l b k t m n : ℕ) (w₀ d₀ a₀ fx₀ lp₀ pp₀ f₀ c₀ pc₀ w d a fx lp pp f c pc nw lo calls ops : List ℕ) where
+module _ (limits : Limits) (n : ℕ) (file : List ℕ) (at l b k t m i : ℕ) (w₀ d₀ a₀ fx₀ lp₀ pp₀ f₀ c₀ pc₀ w d a fx lp pp f c pc nw lo : List ℕ) where
   abbrev h : Hypergraph
   h = graphOf l b k t w d fx nw lo f c lp
 
   abbrev k′ : Bool → Book
-  k′ est = book est l b h m (callsOf ops n calls)
+  k′ est = book est l b h m []
 
-  module _ (r : Outcome) (read : FileRead limits file r w₀ d₀ fx₀ f₀ c₀ lp₀ w d fx nw lo f c lp calls ops) (is : r ≡ Taken l b k t m n) (v-le : limits .vertexLimit ≤ 1024)
+  module _ (r : Catalogue) (read : CatalogueRead limits n file at r w₀ d₀ fx₀ f₀ c₀ lp₀ w d fx nw lo f c lp) (is : r ≡ Taken l b k t m i) (within : Within limits)
       (w-len : length w ≡ length w₀) (d-len : length d ≡ length d₀) (fx-len : length fx ≡ length fx₀) (lp-len : length lp ≡ length lp₀) (f-len : length f ≡ length f₀) (c-len : length c ≡ length c₀)
       (w-long : limits .vertexLimit ≤ length w₀) (d-long : limits .vertexLimit ≤ length d₀) (lp-long : 8192 ≤ length lp₀) (pp-long : 8192 ≤ length pp₀) where
-    says : reading (k′ (read .estimated)) ≡ parse limits file
-    says = ap (λ (x : Outcome). told (read .estimated) x w d fx nw lo f c lp calls ops) (sym is) ∙ read .says
+    says : ended (k′ (read .estimated)) (n + 1 + l + b) (parts 10 (slice i (length file) file)) ≡ through limits n unread (parts 10 (slice at (length file) file))
+    says = ap (λ (x : Catalogue). told n file (read .estimated) x w d fx nw lo f c lp) (sym is) ∙ read .says
 
-    fit : Fitted limits l b k t m n w₀ d₀ fx₀ f₀ c₀ lp₀ w d fx f c lp calls ops
-    fit = read .fitted l b k t m n is
+    fit : Fitted limits file l b k t m i w₀ d₀ fx₀ f₀ c₀ lp₀ w d fx nw lo f c lp
+    fit = read .fitted l b k t m i is
+
+    all-read : Read limits (k′ (read .estimated)) × (whole (k′ (read .estimated)) ≡ true)
+    all-read = part-read limits n (parts 10 (slice at (length file) file)) (k′ (read .estimated)) (n + 1 + l + b) (parts 10 (slice i (length file) file)) (sym says)
 
     good : Good limits h
-    good = parsed limits file (k′ (read .estimated)) (sym says)
+    good = all-read .0 .loads
 
     l-le : l ≤ length w
     l-le = omega (arith, fit .range .l-high)
@@ -74,23 +80,23 @@ module _ (limits : Limits) (file : List ℕ) (l b k t m n : ℕ) (w₀ d₀ a₀
     count : vertices h ≡ l
     count = length-take-le l w l-le
 
-    wide : 8192 ≤ length lp
-    wide = omega arith
+    wide : limits .pinLimit ≤ length lp
+    wide = omega (arith, within .few .pins-few)
 
     pub small : averageOf k (take l lo) ≤ 67107855 + k
-    small = small-average limits h good (omega (arith, count, fit .range .l-high)) k
+    small = small-average limits h good (omega (arith, count, fit .range .l-high, within .lots-few)) k
 
     -- each buyer's marks are different lots, so that they can be put in order
     pub sortable : SortableNets lp c b
     sortable y z =
-        let laid : Laid b m f₀ c₀ lp₀ f c lp = fit .settled .laid in
+        let laid : Laid (limits .pinLimit) b m f₀ c₀ lp₀ f c lp = fit .laid in
         rw (← laid .first-is y z) (record {
           distinct = occ-distinct lp (getD f y 0) (getD c y 0) (λ x. omega (
             arith,
             sets-is h b m f₀ c₀ lp₀ nw f c lp refl laid wide (good .nets-in) (good .nets-distinct) lp (λ i u. refl) y x z,
             one-le (pin [] (net h (suc y)) x),
           ));
-          inside = λ i u. let r = marks-inside h b m f₀ c₀ lp₀ nw f c lp refl laid wide (good .nets-in) (good .nets-distinct) y i z u in (r .0, omega (arith, r .1, count, fit .range .l-high));
+          inside = λ i u. let r = marks-inside h b m f₀ c₀ lp₀ nw f c lp refl laid wide (good .nets-in) (good .nets-distinct) y i z u in (r .0, omega (arith, r .1, count, fit .range .l-high, within .lots-few));
         })
 
     module _ (fa : Filled 0 (λ i. ltb i l) (λ i. 0) a₀ a) (fp : InOrder lp c b m pp₀ pp) (fc : Filled 0 (λ i. ltb i b) (λ i. getD c i 0) pc₀ pc) where
@@ -116,11 +122,11 @@ module _ (limits : Limits) (file : List ℕ) (l b k t m n : ℕ) (w₀ d₀ a₀
           let z : suc i - 1 ≡ i = omega arith in
           sym (ap (λ (j : ℕ). getD (take l fx) j 0) z ∙ getD-take l fx i 0 u)
 
-      abbrev laid : Laid b m f₀ c₀ lp₀ f c lp
-      laid = fit .settled .laid
+      abbrev laid : Laid (limits .pinLimit) b m f₀ c₀ lp₀ f c lp
+      laid = fit .laid
 
       copied : (i : ℕ) → i < m → getD (fp .copy) i 0 ≡ getD lp i 0
-      copied i u = filled-in m (λ i. getD lp i 0) pp₀ (fp .copy) (fp .copied) i u (omega (arith, laid .m-le))
+      copied i u = filled-in m (λ i. getD lp i 0) pp₀ (fp .copy) (fp .copied) i u (omega (arith, laid .m-le, within .few .pins-few))
 
       total : length (allPins (h .nets)) ≡ m
       total = pins-count h b m f₀ c₀ lp₀ nw f c lp refl laid wide
@@ -208,22 +214,24 @@ module _ (limits : Limits) (file : List ℕ) (l b k t m n : ℕ) (w₀ d₀ a₀
 
       capped : Capped h (capacities h) [] (drafted h)
       unfolding fresh
-      capped = held-start limits file (k′ (read .estimated)) (sym says) .capped
+      capped = held-part limits n (parts 10 (slice at (length file) file)) (k′ (read .estimated)) (n + 1 + l + b) (parts 10 (slice i (length file) file)) (sym says) .capped
 
-      pub accepted : (s : Sizes) → s ≡ sizesOf l b k t m n (averageOf k (take l lo)) (nearest ((1000 + t) * averageOf k (take l lo)))
-          → Loads limits file (Accepted s) (lists w₀ d₀ a₀ fx₀ lp₀ pp₀ f₀ c₀ pc₀) (lists w d a fx lp pp f c pc) nw lo calls ops
-      accepted s e = record {
+      pub fits : (s : Sizes) → s ≡ sizesOf l b k t m (averageOf k (take l lo)) (nearest ((1000 + t) * averageOf k (take l lo)))
+          → LoadsCatalogue limits n file at (Fits s i) (lists w₀ d₀ a₀ fx₀ lp₀ pp₀ f₀ c₀ pc₀) (lists w d a fx lp pp f c pc) nw lo
+      fits s e = record {
         estimated = read .estimated;
         says = rw e says;
-        accepts = λ z q.
+        inside = λ z j q. let p : i ≡ j = cc in omega (arith, fit .inside);
+        accepts = λ z j q.
             let p : s ≡ z = cc in
             rw (← p, e) (record {
               range = fit .range;
               pins-le = laid .m-le;
-              calls-le = fit .settled .n-le;
-              costs = read .nw-len l b k t m n is;
-              known = fit .settled .known;
-              entries = fit .settled .entries;
+              costs = fit .nw-len;
+              ranges = read-ranges limits (within .few) (k′ (read .estimated)) (all-read .0) (all-read .1);
+              vertices-are = count;
+              nets-are = known;
+              pins-are = all-read .0 .sized .marks-are;
               average = sym (average-is l k t w d fx lo (netsOf b nw f c lp));
               capacity = sym (capacity-is l k t w d fx lo (netsOf b nw f c lp));
               capped = capped;

@@ -1,3 +1,4 @@
 pub mod Fill
 pub mod Stretches
 pub mod Accepting
+pub mod Sales

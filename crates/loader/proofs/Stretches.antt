@@ -1,4 +1,4 @@
--- What the tables of an accepted file show: each buyer's marks, all marks, first places, sizes, present marks. Rests on Fill and on guarantees' laws of a catalogue with no contraction.
+-- What the tables of an accepted catalogue show: each buyer's marks, all marks, first places, sizes, present marks. Rests on Fill and on guarantees' laws of a catalogue with no contraction.
 use Prim.Native.Nat.{ℕ, zero, suc, _+_, _-_, _≤_, _<_}
 use mathlib.Core.Path.{_≡_, refl, ap, sym, _∙_}
 use mathlib.Core.List.{List, [], _∷_, _++_, append-assoc, append-nil}
@@ -63,7 +63,7 @@ module _ (w f c marks : List ℕ) where
       ∙ ap (λ (n : ℕ). take n marks) (sym (sum-suc j (λ y. getD c y 0)))
 
 -- the buyers of a catalogue are those of the tables
-module _ (h : Hypergraph) (b m : ℕ) (f₀ c₀ marks₀ w f c marks : List ℕ) (is : h .nets ≡ netsOf b w f c marks) (laid : Laid b m f₀ c₀ marks₀ f c marks) (wide : 8192 ≤ length marks) where
+module _ {most : ℕ} (h : Hypergraph) (b m : ℕ) (f₀ c₀ marks₀ w f c marks : List ℕ) (is : h .nets ≡ netsOf b w f c marks) (laid : Laid most b m f₀ c₀ marks₀ f c marks) (wide : most ≤ length marks) where
   pub net-is : (y : ℕ) → y < b → net h (suc y) ≡ netAt w f c marks y
   net-is y l = let z : suc y - 1 ≡ y = omega arith in
       rw z (ap (λ (ns : List Net). getD ns y noNet) is ∙ nets-at w f c marks b y l)

@@ -1,6 +1,8 @@
-// Loads a sale file into lent tables, or says its first refusal.
+// Loads a catalogue, from any place and line of a file, or a whole sale file into lent tables, or says the first refusal. Rests on reader.
+use lines::Limits;
 use pins::sort_nets;
-use reader::Outcome;
+use reader::Catalogue;
+use reader::Ended;
 ghost use mathlib.Core.Path.{_≡_};
 ghost use Prim.Native.Nat.{_+_, _*_, _≤_};
 ghost use lib.Dec.{ltb};
@@ -8,26 +10,31 @@ ghost use lib.ListN.{length, getD, take};
 ghost use Rattle.model.specs.Catalogue.{nearest};
 ghost use Rattle.model.specs.Memory.{Filled};
 ghost use Rattle.model.specs.Lent.{lists};
-ghost use Rattle.lines.specs.Line.{limitsOf};
+ghost use Rattle.lines.specs.Line.{limitsOf, Within};
 ghost use Rattle.reader.specs.Whole.{averageOf};
 ghost use Rattle.pins.specs.Sorting.{start as begins, SortableNets};
-ghost use Rattle.loader.specs.Tables.{LongLists, InOrder, sizesOf, Loads};
+ghost use Rattle.loader.specs.Tables.{LongLists, InOrder, sizesOf, LoadsCatalogue, Loads};
 
-// The sizes of an accepted catalogue: how many lots, buyers, sessions, thousandths of slack, marks and calls; ⌈W/k⌉; the cap.
+// The sizes of an accepted catalogue: how many lots, buyers, sessions, thousandths of slack and marks; ⌈W/k⌉; the cap.
 pub struct Sizes {
     pub vertices: u32,
     pub nets: u32,
     pub blocks: u32,
     pub imbalance: u32,
     pub pins: usize,
-    pub calls: usize,
     pub average: u32,
     pub capacity: u32,
 }
 
-// An accepted file's sizes; or the refusal's number and the line's.
+// An accepted catalogue's sizes and the place behind its last line; or the refusal's number and the line's.
+pub enum LoadedCatalogue {
+    Fits(Sizes, usize),
+    Fails(u8, usize),
+}
+
+// An accepted file's sizes and how many calls it has; or the refusal's number and the line's.
 pub enum Loaded {
-    Accepted(Sizes),
+    Accepted(Sizes, usize),
     Refused(u8, usize),
 }
 
@@ -86,11 +93,10 @@ fn measure(
     blocks: u32,
     imbalance: u32,
     pins: usize,
-    calls: usize,
 ) -> Sizes
     requires { ⌜ (vertices ≤ 1024) × (vertices ≤ length (now lows)) × (1 ≤ blocks) × (blocks ≤ 16) × (imbalance ≤ 1000)
         × (averageOf blocks (take vertices (now lows)) ≤ 67107871) ⌝ }
-    ensures { λ r. ⌜ r ≡ sizesOf vertices nets blocks imbalance pins calls (averageOf blocks (take vertices (now (lows .entry)))) (nearest ((1000 + imbalance) * averageOf blocks (take vertices (now (lows .entry))))) ⌝ }
+    ensures { λ r. ⌜ r ≡ sizesOf vertices nets blocks imbalance pins (averageOf blocks (take vertices (now (lows .entry)))) (nearest ((1000 + imbalance) * averageOf blocks (take vertices (now (lows .entry))))) ⌝ }
 {
     let average = reader::average_weight(lows, vertices as usize, blocks);
     let capacity = reader::capacity(average, imbalance);
@@ -100,18 +106,72 @@ fn measure(
         blocks: blocks,
         imbalance: imbalance,
         pins: pins,
-        calls: calls,
         average: average as u32,
         capacity: capacity as u32,
     }
 }
 
-// Loads a sale file: vmax lots and bmax sessions are its limits. The calls are three numbers each: the letter's byte and
-// two numbers, which for N are where its own numbers begin among the operands and how many they are.
+// Loads a catalogue: it begins at place `at`, and its first line is the given one.
+pub fn load_catalogue(
+    s: &[u8],
+    at: usize,
+    line: usize,
+    limits: Limits,
+    weights: &mut [u32],
+    blocks: &mut [u16],
+    aboves: &mut [u16],
+    fixed: &mut [u16],
+    loadedpins: &mut [u16],
+    presentpins: &mut [u16],
+    firsts: &mut [u16],
+    loadedsizes: &mut [u16],
+    presentsizes: &mut [u16],
+    netweights: &mut [u16; 1024],
+    lows: &mut [u32; 1024],
+) -> LoadedCatalogue
+    requires { ⌜ (at ≤ length (now s)) × (line ≤ 60001) × Within (limitsOf limits) × (length (now netweights) ≡ 1024) × (length (now lows) ≡ 1024) × LongLists (limits .lots)
+        (lists (now weights) (now blocks) (now aboves) (now fixed) (now loadedpins) (now presentpins) (now firsts) (now loadedsizes) (now presentsizes)) ⌝ }
+    ensures { λ r. ⌜ LoadsCatalogue (limitsOf limits) line (now (s .entry)) at r
+        (lists (now (weights .entry)) (now (blocks .entry)) (now (aboves .entry)) (now (fixed .entry)) (now (loadedpins .entry)) (now (presentpins .entry)) (now (firsts .entry)) (now (loadedsizes .entry)) (now (presentsizes .entry)))
+        (lists (now (weights .exit)) (now (blocks .exit)) (now (aboves .exit)) (now (fixed .exit)) (now (loadedpins .exit)) (now (presentpins .exit)) (now (firsts .exit)) (now (loadedsizes .exit)) (now (presentsizes .exit)))
+        (now (netweights .exit)) (now (lows .exit)) ⌝ }
+{
+    match reader::read_catalogue(
+        s,
+        at,
+        line,
+        limits,
+        weights,
+        blocks,
+        fixed,
+        netweights,
+        lows,
+        firsts,
+        loadedsizes,
+        loadedpins,
+    ) {
+        Catalogue::Refused(q, n) => LoadedCatalogue::Fails(q, n),
+        Catalogue::Taken(l, b, k, t, m, i) => {
+            start(
+                l as usize,
+                b as usize,
+                m,
+                loadedpins,
+                loadedsizes,
+                aboves,
+                presentpins,
+                presentsizes,
+            );
+            LoadedCatalogue::Fits(measure(lows, l, b, k, t, m), i)
+        }
+    }
+}
+
+// Loads a sale file within the limits. The calls are three numbers each: the letter's byte and two numbers, which for N are
+// where its own numbers begin among the operands and how many they are.
 pub fn load(
     s: &[u8],
-    vmax: u32,
-    bmax: u32,
+    limits: Limits,
     weights: &mut [u32],
     blocks: &mut [u16],
     aboves: &mut [u16],
@@ -126,41 +186,40 @@ pub fn load(
     calls: &mut [u32],
     operands: &mut [u32],
 ) -> Loaded
-    requires { ⌜ (vmax ≤ 1024) × (bmax ≤ 16) × (length (now netweights) ≡ 1024) × (length (now lows) ≡ 1024) × (1536 ≤ length (now calls)) × (30000 ≤ length (now operands)) × LongLists vmax
+    requires { ⌜ Within (limitsOf limits) × (length (now netweights) ≡ 1024) × (length (now lows) ≡ 1024) × (1536 ≤ length (now calls)) × (30000 ≤ length (now operands)) × LongLists (limits .lots)
         (lists (now weights) (now blocks) (now aboves) (now fixed) (now loadedpins) (now presentpins) (now firsts) (now loadedsizes) (now presentsizes)) ⌝ }
-    ensures { λ r. ⌜ Loads (limitsOf vmax bmax) (now (s .entry)) r
+    ensures { λ r. ⌜ Loads (limitsOf limits) (now (s .entry)) r
         (lists (now (weights .entry)) (now (blocks .entry)) (now (aboves .entry)) (now (fixed .entry)) (now (loadedpins .entry)) (now (presentpins .entry)) (now (firsts .entry)) (now (loadedsizes .entry)) (now (presentsizes .entry)))
         (lists (now (weights .exit)) (now (blocks .exit)) (now (aboves .exit)) (now (fixed .exit)) (now (loadedpins .exit)) (now (presentpins .exit)) (now (firsts .exit)) (now (loadedsizes .exit)) (now (presentsizes .exit)))
         (now (netweights .exit)) (now (lows .exit)) (now (calls .exit)) (now (operands .exit)) ⌝ }
 {
-    match reader::read(
+    if 60000 < s.len() {
+        return Loaded::Refused(1, 0);
+    }
+    match load_catalogue(
         s,
-        vmax,
-        bmax,
+        0,
+        1,
+        limits,
         weights,
         blocks,
+        aboves,
         fixed,
-        netweights,
-        lows,
+        loadedpins,
+        presentpins,
         firsts,
         loadedsizes,
-        loadedpins,
-        calls,
-        operands,
+        presentsizes,
+        netweights,
+        lows,
     ) {
-        Outcome::Refused(q, n) => Loaded::Refused(q, n),
-        Outcome::Taken(l, b, k, t, m, n) => {
-            start(
-                l as usize,
-                b as usize,
-                m,
-                loadedpins,
-                loadedsizes,
-                aboves,
-                presentpins,
-                presentsizes,
-            );
-            Loaded::Accepted(measure(lows, l, b, k, t, m, n))
+        LoadedCatalogue::Fails(q, n) => Loaded::Refused(q, n),
+        LoadedCatalogue::Fits(z, i) => {
+            let n = z.vertices as usize + z.nets as usize + 2;
+            match reader::read_calls(s, i, n, calls, operands) {
+                Ended::Stop(q, m) => Loaded::Refused(q, m),
+                Ended::Up(c) => Loaded::Accepted(z, c),
+            }
         }
     }
 }

@@ -156,7 +156,7 @@ frame cs vs g c v q = record {
 pub opens : Opens five pins blocks firsts sizes sizes weights netWeights (replicate 80 0) (replicate 48 0) (replicate 3 0) (replicate 80 (pos 0)) 5 3 2
 unfolding occ same sum any
 opens = record {
-  fit = record { limits = mainLimits; narrow = omega arith; short = omega arith; ranges = accepted-ranges mainLimits five accepted };
+  fit = record { limits = mainLimits; narrow = omega arith; short = omega arith; ranges = accepted-ranges mainLimits (record { nets-few = omega arith; pins-few = omega arith }) five accepted };
   made = record {
     listed = below3 _ (λ x. two 1 3 x (λ q. omega arith)) (λ x. two 2 5 x (λ q. omega arith)) (λ x. two 3 4 x (λ q. omega arith));
     rising = below3 _ (rises (λ i. getD pins (0 + i) 0) (omega arith)) (rises (λ i. getD pins (2 + i) 0) (omega arith)) (rises (λ i. getD pins (4 + i) 0) (omega arith));

@@ -7,17 +7,19 @@ use native.Mathlib.Omega.{arith}
 use native.Mathlib.Numerals.{add-one}
 use lib.ListN.{length, set, take, length-set}
 use lib.Seq.{slice, take-suc-set, length-take-le, getD-set-other}
-use lib.Dec.{eqb, leb}
+use lib.Dec.{eqb}
 use borrow.Author.Tests.{ne-eqb, lt-ltb}
 use mir.Val.{boolByte}
 use Rattle.laws.specs.Choice.{one}
 use Rattle.laws.specs.Fold.{sumOver-more}
 use Rattle.model.specs.Catalogue.{Limits, Hypergraph}
 use Rattle.model.specs.Sale.{Request}
-use Rattle.model.specs.Grammar.{Book, Reading, reading, stopped, parts, fields, whole, overfull, grown, withLot, endsInK, beforeK, lotLine, line, ending, lines}
+use Rattle.model.specs.Grammar.{Book, Reading, reading, stopped, parts, fields, whole, overfull, grown, withLot, endsInK, beforeK, lotLine, line}
 use Rattle.text.specs.Field.{FirstAt}
-use Rattle.reader.proofs.Turns.{lines-stopped, no-more, turned}
+use Rattle.reader.proofs.Turns.{through-none, through-on}
 use Rattle.lines.specs.Line.{book, Past, lotted, LotRead}
+use Rattle.model.specs.Through.{through}
+use Rattle.guarantees.specs.Through.{unfinished, through-stopped}
 use Rattle.reader.specs.Seen.{lotsGraph, LotsRead}
 use Rattle.reader.specs.declared.Ended.the-variants.{Up, Stop}
 use Rattle.lines.specs.declared.Lot.{Lot}
@@ -33,10 +35,9 @@ pub partly : (k : Book) → whole k ≡ false → (n : ℕ) → grown n k ≡ re
 unfolding grown
 partly k e n = ap (λ (t : Bool). cond (t && overfull (k .graph)) (stopped 6 n) (reading k)) e
 
-pub partly-end : (k : Book) → whole k ≡ false → (n : ℕ) (l : List ℕ) → ending n (reading k) l ≡ stopped 2 n
-unfolding ending
-partly-end k e n [] = ap (λ (t : Bool). cond t (reading k) (stopped 2 n)) e
-partly-end k e n (x ∷ xs) = ap (λ (t : Bool). cond (t && leb 512 (length (k .calls))) (stopped 7 n) (stopped 2 n)) e
+pub partly-on : (k : Book) → whole k ≡ false → unfinished (reading k) ≡ true
+unfolding unfinished
+partly-on k e = ap (λ (t : Bool). cond t false true) e
 
 -- lots are missing
 module _ (est : Bool) (l b : ℕ) (h : Hypergraph) (m : ℕ) (cs : List Request) (lt : length (h .weights) < l) where
@@ -47,7 +48,7 @@ module _ (est : Bool) (l b : ℕ) (h : Hypergraph) (m : ℕ) (cs : List Request)
   unfolding line
   lot-turn limits n x = rw (lt-ltb (length (h .weights)) l lt)
 
-pub record OnLots (s : List ℕ) (at l blocks : ℕ) (est : Bool) (w₀ d₀ fx₀ w d fx lo : List ℕ) (i k : ℕ) : Type 0 where
+pub record OnLots (n : ℕ) (s : List ℕ) (at l blocks : ℕ) (est : Bool) (w₀ d₀ fx₀ w d fx lo : List ℕ) (i k : ℕ) : Type 0 where
   pub i-le : i ≤ length s
   pub k-le : k ≤ l
   pub l-le : l ≤ 1024
@@ -61,11 +62,11 @@ pub record OnLots (s : List ℕ) (at l blocks : ℕ) (est : Bool) (w₀ d₀ fx�
   pub w-past : Past k w₀ w
   pub d-past : Past k d₀ d
   pub fx-past : Past k fx₀ fx
-  pub says : (limits : Limits) (b imbalance : ℕ) → lines limits 2 (reading (book est l b (lotsGraph blocks imbalance 0 w d fx lo) 0 [])) (parts 10 (slice at (length s) s))
-      ≡ lines limits (k + 2) (grown (k + 1) (book est l b (lotsGraph blocks imbalance k w d fx lo) 0 [])) (parts 10 (slice i (length s) s))
+  pub says : (limits : Limits) (b imbalance : ℕ) → through limits (n + 1) (reading (book est l b (lotsGraph blocks imbalance 0 w d fx lo) 0 [])) (parts 10 (slice at (length s) s))
+      ≡ through limits (n + k + 1) (grown (n + k) (book est l b (lotsGraph blocks imbalance k w d fx lo) 0 [])) (parts 10 (slice i (length s) s))
 
-pub lots-start : (s : List ℕ) (at l blocks : ℕ) (est : Bool) (w d fx lo : List ℕ) → at ≤ length s → 1 ≤ l → l ≤ 1024 → l ≤ length w → l ≤ length d → l ≤ length fx → length lo ≡ 1024 → OnLots s at l blocks est w d fx w d fx lo at 0
-lots-start s at l blocks est w d fx lo a low high p q r o = record {
+pub lots-start : (n : ℕ) (s : List ℕ) (at l blocks : ℕ) (est : Bool) (w d fx lo : List ℕ) → at ≤ length s → 1 ≤ l → l ≤ 1024 → l ≤ length w → l ≤ length d → l ≤ length fx → length lo ≡ 1024 → OnLots n s at l blocks est w d fx w d fx lo at 0
+lots-start n s at l blocks est w d fx lo a low high p q r o = record {
   i-le = a;
   k-le = omega arith;
   l-le = high;
@@ -79,20 +80,22 @@ lots-start s at l blocks est w d fx lo a low high p q r o = record {
   w-past = λ x u. refl;
   d-past = λ x u. refl;
   fx-past = λ x u. refl;
-  says = λ limits b imbalance. ap (λ (r : Reading). lines limits 2 r (parts 10 (slice at (length s) s))) (sym (partly (book est l b (lotsGraph blocks imbalance 0 w d fx lo) 0 []) (few-lots est l b (lotsGraph blocks imbalance 0 w d fx lo) 0 [] (omega arith)) 1));
+  says = λ limits b imbalance.
+      let z : n + 0 ≡ n = omega arith in
+      rw z (ap (λ (r : Reading). through limits (n + 1) r (parts 10 (slice at (length s) s))) (sym (partly (book est l b (lotsGraph blocks imbalance 0 w d fx lo) 0 []) (few-lots est l b (lotsGraph blocks imbalance 0 w d fx lo) 0 [] (omega arith)) n)));
 }
 
-pub lots-done : (s : List ℕ) (at l blocks : ℕ) (est : Bool) (w₀ d₀ fx₀ w d fx lo : List ℕ) (i k : ℕ) → OnLots s at l blocks est w₀ d₀ fx₀ w d fx lo i k → k ≡ l → LotsRead s at l blocks est (Up i) w₀ d₀ fx₀ w d fx lo
-lots-done s at l blocks est w₀ d₀ fx₀ w d fx lo i k on e = record {
+pub lots-done : (n : ℕ) (s : List ℕ) (at l blocks : ℕ) (est : Bool) (w₀ d₀ fx₀ w d fx lo : List ℕ) (i k : ℕ) → OnLots n s at l blocks est w₀ d₀ fx₀ w d fx lo i k → k ≡ l → LotsRead n s at l blocks est (Up i) w₀ d₀ fx₀ w d fx lo
+lots-done n s at l blocks est w₀ d₀ fx₀ w d fx lo i k on e = record {
   inside = λ j q. let z : i ≡ j = cc in omega (arith, on .i-le);
   w-past = λ x u. on .w-past x (omega arith);
   d-past = λ x u. on .d-past x (omega arith);
   fx-past = λ x u. on .fx-past x (omega arith);
   lo-len = on .lo-len;
-  says = λ limits b imbalance. sym (on .says limits b imbalance ∙ ap (λ (n : ℕ). lines limits (n + 2) (grown (n + 1) (book est l b (lotsGraph blocks imbalance n w d fx lo) 0 [])) (parts 10 (slice i (length s) s))) e);
+  says = λ limits b imbalance. sym (on .says limits b imbalance ∙ ap (λ (x : ℕ). through limits (n + x + 1) (grown (n + x) (book est l b (lotsGraph blocks imbalance x w d fx lo) 0 [])) (parts 10 (slice i (length s) s))) e);
 }
 
-module _ (s : List ℕ) (at l blocks : ℕ) (est : Bool) (w₀ d₀ fx₀ w d fx lo : List ℕ) (i k : ℕ) (on : OnLots s at l blocks est w₀ d₀ fx₀ w d fx lo i k) (lt : k < l) where
+module _ (n : ℕ) (s : List ℕ) (at l blocks : ℕ) (est : Bool) (w₀ d₀ fx₀ w d fx lo : List ℕ) (i k : ℕ) (on : OnLots n s at l blocks est w₀ d₀ fx₀ w d fx lo i k) (lt : k < l) where
   abbrev graph : ℕ → Hypergraph
   graph imbalance = lotsGraph blocks imbalance k w d fx lo
 
@@ -102,43 +105,43 @@ module _ (s : List ℕ) (at l blocks : ℕ) (est : Bool) (w₀ d₀ fx₀ w d fx
   some : (b imbalance : ℕ) → whole (book est l b (graph imbalance) 0 []) ≡ false
   some b imbalance = few-lots est l b (graph imbalance) 0 [] (omega (arith, size))
 
-  here : (limits : Limits) (b imbalance : ℕ) → lines limits 2 (reading (book est l b (lotsGraph blocks imbalance 0 w d fx lo) 0 [])) (parts 10 (slice at (length s) s)) ≡ lines limits (k + 2) (reading (book est l b (graph imbalance) 0 [])) (parts 10 (slice i (length s) s))
-  here limits b imbalance = on .says limits b imbalance ∙ ap (λ (r : Reading). lines limits (k + 2) r (parts 10 (slice i (length s) s))) (partly (book est l b (graph imbalance) 0 []) (some b imbalance) (k + 1))
+  here : (limits : Limits) (b imbalance : ℕ) → through limits (n + 1) (reading (book est l b (lotsGraph blocks imbalance 0 w d fx lo) 0 [])) (parts 10 (slice at (length s) s)) ≡ through limits (n + k + 1) (reading (book est l b (graph imbalance) 0 [])) (parts 10 (slice i (length s) s))
+  here limits b imbalance = on .says limits b imbalance ∙ ap (λ (r : Reading). through limits (n + k + 1) r (parts 10 (slice i (length s) s))) (partly (book est l b (graph imbalance) 0 []) (some b imbalance) (n + k))
 
-  never : {A : Type 0} (q n j : ℕ) → Stop q n ≡ Up j → A
-  never q n j e = absurd (let z : _≡_ {A = ℕ} 0 1 = cc in omega arith)
+  never : {A : Type 0} (q m j : ℕ) → Stop q m ≡ Up j → A
+  never q m j e = absurd (let z : _≡_ {A = ℕ} 0 1 = cc in omega arith)
 
   module _ (e : ℕ) (found : FirstAt s i (length s) 10 e) where
-    pub lots-none : e ≡ length s → LotsRead s at l blocks est (Stop 2 (k + 2)) w₀ d₀ fx₀ w d fx lo
+    pub lots-none : e ≡ length s → LotsRead n s at l blocks est (Stop 2 (n + k + 1)) w₀ d₀ fx₀ w d fx lo
     lots-none x = record {
-      inside = λ j q. never 2 (k + 2) j q;
+      inside = λ j q. never 2 (n + k + 1) j q;
       w-past = λ x u. on .w-past x (omega arith);
       d-past = λ x u. on .d-past x (omega arith);
       fx-past = λ x u. on .fx-past x (omega arith);
       lo-len = on .lo-len;
-      says = λ limits b imbalance. sym (here limits b imbalance ∙ no-more limits s (length s) i e (k + 2) (on .i-le) (omega arith) found (reading (book est l b (graph imbalance) 0 [])) (stopped 2 (k + 2)) x (partly-end (book est l b (graph imbalance) 0 []) (some b imbalance) (k + 2)));
+      says = λ limits b imbalance. sym (here limits b imbalance ∙ through-none limits s (length s) i e (n + k + 1) (on .i-le) (omega arith) found (reading (book est l b (graph imbalance) 0 [])) (partly-on (book est l b (graph imbalance) 0 []) (some b imbalance)) x);
     }
 
     module _ (more : e < length s) (r : Lot) (read : LotRead blocks est (slice i e s) r) where
-      step : (limits : Limits) (b imbalance : ℕ) → lines limits 2 (reading (book est l b (lotsGraph blocks imbalance 0 w d fx lo) 0 [])) (parts 10 (slice at (length s) s))
-          ≡ lines limits (k + 2 + 1) (lotted (k + 2) (book est l b (graph imbalance) 0 []) r) (parts 10 (slice (e + 1) (length s) s))
+      step : (limits : Limits) (b imbalance : ℕ) → through limits (n + 1) (reading (book est l b (lotsGraph blocks imbalance 0 w d fx lo) 0 [])) (parts 10 (slice at (length s) s))
+          ≡ through limits (n + k + 1 + 1) (lotted (n + k + 1) (book est l b (graph imbalance) 0 []) r) (parts 10 (slice (e + 1) (length s) s))
       step limits b imbalance =
           here limits b imbalance
-          ∙ turned limits s (length s) i e (k + 2) (on .i-le) (omega arith) found (reading (book est l b (graph imbalance) 0 [])) more
-          ∙ ap (λ (x : Reading). lines limits (k + 2 + 1) x (parts 10 (slice (e + 1) (length s) s)))
-          (lot-turn est l b (graph imbalance) 0 [] (omega (arith, size)) limits (k + 2) (slice i e s) ∙ sym (read (k + 2) (book est l b (graph imbalance) 0 []) refl refl))
+          ∙ through-on limits s (length s) i e (n + k + 1) (on .i-le) (omega arith) found (reading (book est l b (graph imbalance) 0 [])) (partly-on (book est l b (graph imbalance) 0 []) (some b imbalance)) more
+          ∙ ap (λ (x : Reading). through limits (n + k + 1 + 1) x (parts 10 (slice (e + 1) (length s) s)))
+          (lot-turn est l b (graph imbalance) 0 [] (omega (arith, size)) limits (n + k + 1) (slice i e s) ∙ sym (read (n + k + 1) (book est l b (graph imbalance) 0 []) refl refl))
 
-      pub lots-stop : (q : ℕ) → r ≡ NoLot q → LotsRead s at l blocks est (Stop q (k + 2)) w₀ d₀ fx₀ w d fx lo
+      pub lots-stop : (q : ℕ) → r ≡ NoLot q → LotsRead n s at l blocks est (Stop q (n + k + 1)) w₀ d₀ fx₀ w d fx lo
       lots-stop q x = record {
-        inside = λ j z. never q (k + 2) j z;
+        inside = λ j z. never q (n + k + 1) j z;
         w-past = λ x u. on .w-past x (omega arith);
         d-past = λ x u. on .d-past x (omega arith);
         fx-past = λ x u. on .fx-past x (omega arith);
         lo-len = on .lo-len;
-        says = λ limits b imbalance. sym (step limits b imbalance ∙ ap (λ (y : Lot). lines limits (k + 2 + 1) (lotted (k + 2) (book est l b (graph imbalance) 0 []) y) (parts 10 (slice (e + 1) (length s) s))) x ∙ lines-stopped limits (k + 2 + 1) q (k + 2) (parts 10 (slice (e + 1) (length s) s)));
+        says = λ limits b imbalance. sym (step limits b imbalance ∙ ap (λ (y : Lot). through limits (n + k + 1 + 1) (lotted (n + k + 1) (book est l b (graph imbalance) 0 []) y) (parts 10 (slice (e + 1) (length s) s))) x ∙ through-stopped limits (n + k + 1 + 1) q (n + k + 1) (parts 10 (slice (e + 1) (length s) s)));
       }
 
-      pub lots-on : (o x y : ℕ) (t : Bool) → r ≡ Of o x y t → OnLots s at l blocks est w₀ d₀ fx₀ (set w k x) (set d k y) (set fx k (boolByte t)) (set lo k o) (e + 1) (k + 1)
+      pub lots-on : (o x y : ℕ) (t : Bool) → r ≡ Of o x y t → OnLots n s at l blocks est w₀ d₀ fx₀ (set w k x) (set d k y) (set fx k (boolByte t)) (set lo k o) (e + 1) (k + 1)
       unfolding withLot
       lots-on o x y t z = record {
         i-le = omega arith;
@@ -155,13 +158,12 @@ module _ (s : List ℕ) (at l blocks : ℕ) (est : Bool) (w₀ d₀ fx₀ w d fx
         d-past = λ z u. getD-set-other d k z y 0 (λ c. omega arith) ∙ on .d-past z (omega arith);
         fx-past = λ z u. getD-set-other fx k z (boolByte t) 0 (λ c. omega arith) ∙ on .fx-past z (omega arith);
         says = λ limits b imbalance.
-            let p : k + 1 + 2 ≡ k + 2 + 1 = omega arith in
-            let q : k + 1 + 1 ≡ k + 2 = omega arith in
+            let p : n + (k + 1) ≡ n + k + 1 = omega arith in
             let u : take (k + 1) (set w k x) ≡ take k w ++ (x ∷ []) = rw add-one (take-suc-set w k x (omega (arith, on .w-len, on .l-le))) in
             let v : take (k + 1) (set d k y) ≡ take k d ++ (y ∷ []) = rw add-one (take-suc-set d k y (omega (arith, on .d-len, on .l-le))) in
             let m : take (k + 1) (set lo k o) ≡ take k lo ++ (o ∷ []) = rw add-one (take-suc-set lo k o (omega (arith, on .lo-len, on .l-le))) in
             let g : take (k + 1) (set fx k (boolByte t)) ≡ take k fx ++ (one t ∷ []) = rw (add-one, ← byte-one t) (take-suc-set fx k (boolByte t) (omega (arith, on .fx-len, on .l-le))) in
             step limits b imbalance
-            ∙ ap (λ (r : Lot). lines limits (k + 2 + 1) (lotted (k + 2) (book est l b (graph imbalance) 0 []) r) (parts 10 (slice (e + 1) (length s) s))) z
-            ∙ rw (p, q, u, v, m, g, sumOver-more (take k lo) o (λ n. n));
+            ∙ ap (λ (r : Lot). through limits (n + k + 1 + 1) (lotted (n + k + 1) (book est l b (graph imbalance) 0 []) r) (parts 10 (slice (e + 1) (length s) s))) z
+            ∙ rw (p, u, v, m, g, sumOver-more (take k lo) o (λ y. y));
       }

@@ -12,12 +12,14 @@ use lib.Dec.{eqb}
 use borrow.Author.Tests.{ne-eqb, lt-ltb, le-ltb}
 use Rattle.laws.specs.Sum.{sum, sum-zero, sum-step, sum-ext}
 use Rattle.model.specs.Catalogue.{Limits, Net, Hypergraph, vertices}
-use Rattle.model.specs.Grammar.{Book, Reading, reading, stopped, parts, fields, whole, grown, withNet, marked, netRead, buyLine, line, lines}
+use Rattle.model.specs.Grammar.{Book, Reading, reading, parts, fields, whole, grown, withNet, marked, netRead, buyLine, line}
 use Rattle.text.specs.Field.{FirstAt}
-use Rattle.reader.proofs.Turns.{lines-stopped, no-more, turned}
-use Rattle.reader.proofs.Lots.{partly, partly-end}
+use Rattle.reader.proofs.Turns.{through-none, through-on}
+use Rattle.reader.proofs.Lots.{partly, partly-on}
 use Rattle.lines.specs.Line.{book, Past}
 use Rattle.lines.specs.Mark.{Stamped, Fresh, buySeen, BuyRead}
+use Rattle.model.specs.Through.{through}
+use Rattle.guarantees.specs.Through.{through-stopped}
 use Rattle.reader.specs.Buyers.{Laid, netsOf, withNets, BuysRead, BuysReady}
 use Rattle.lines.specs.declared.Buy.{Buy}
 use Rattle.lines.specs.declared.Buy.the-variants.{Bought, NoBuy}
@@ -68,9 +70,9 @@ sizes-keep : (n j v : ℕ) (c : List ℕ) → n ≤ j → sum n (λ y. getD (set
 sizes-keep n j v c le = sum-ext n _ _ (λ y u. getD-set-other c j y v 0 (λ z. omega arith))
 
 -- one buyer more, whose marks end at e
-laid-more : (j m e : ℕ) (f₀ c₀ marks₀ f c marks marks′ : List ℕ) → m ≤ e → j < length f → j < length c → e ≤ 8192 → Laid j m f₀ c₀ marks₀ f c marks → Past e marks marks′
-    → Laid (j + 1) e f₀ c₀ marks₀ (set f j m) (set c j (e - m)) marks′
-laid-more j m e f₀ c₀ marks₀ f c marks marks′ le fl cl el on past = record {
+laid-more : (most j m e : ℕ) (f₀ c₀ marks₀ f c marks marks′ : List ℕ) → m ≤ e → j < length f → j < length c → e ≤ most → Laid most j m f₀ c₀ marks₀ f c marks → Past e marks marks′
+    → Laid most (j + 1) e f₀ c₀ marks₀ (set f j m) (set c j (e - m)) marks′
+laid-more most j m e f₀ c₀ marks₀ f c marks marks′ le fl cl el on past = record {
   m-le = el;
   m-is = omega (arith, sum-step j (λ y. getD (set c j (e - m)) y 0), sizes-keep j j (e - m) c (omega arith), getD-set-same c j (e - m) 0 cl, on .m-is);
   first-is = λ x u. first x u (ℕ-discrete x j);
@@ -92,7 +94,7 @@ module _ (est : Bool) (l b : ℕ) (h : Hypergraph) (m : ℕ) (ns : List Net) (si
       go true = refl
       go false = refl
 
-  buy-turn : (limits : Limits) (n : ℕ) (x : List ℕ) → line limits n (reading (book est l b (withNets h ns) m [])) x ≡ buyLine n (book est l b (withNets h ns) m []) (fields x)
+  buy-turn : (limits : Limits) (n : ℕ) (x : List ℕ) → line limits n (reading (book est l b (withNets h ns) m [])) x ≡ buyLine limits n (book est l b (withNets h ns) m []) (fields x)
   unfolding line
   buy-turn limits n x = rw (le-ltb (vertices h) l (omega arith), lt-ltb (length ns) b lt)
 
@@ -100,34 +102,36 @@ net-read-is : (est : Bool) (n l b w m e : ℕ) (h : Hypergraph) (ns : List Net) 
 unfolding netRead withNet
 net-read-is est n l b w m e h ns vs = refl
 
-pub record OnBuys (s : List ℕ) (at l b : ℕ) (f₀ c₀ marks₀ w f c marks stamps : List ℕ) (i j m : ℕ) : Type 0 where
+pub record OnBuys (p : ℕ) (s : List ℕ) (at most l b : ℕ) (f₀ c₀ marks₀ w f c marks stamps : List ℕ) (i j m : ℕ) : Type 0 where
   pub i-le : i ≤ length s
   pub j-le : j ≤ b
   pub l-le : l ≤ 1024
   pub b-le : b ≤ 1024
-  pub m-le : m ≤ 8192
+  pub m-le : m ≤ most
+  pub most-le : most ≤ 8192
   pub w-len : length w ≡ 1024
   pub f-len : 1024 ≤ length f
   pub c-len : 1024 ≤ length c
-  pub wide : 8192 ≤ length marks
+  pub wide : most ≤ length marks
   pub slen : length stamps ≡ 1024
   pub f-same : length f ≡ length f₀
   pub c-same : length c ≡ length c₀
   pub m-same : length marks ≡ length marks₀
   pub fresh : Fresh (j + 1) stamps
   pub inside : (x : ℕ) → x < j → getD f x 0 + getD c x 0 ≤ m
-  pub laid : Laid j m f₀ c₀ marks₀ f c marks
-  pub says : (limits : Limits) (est : Bool) (h : Hypergraph) → vertices h ≡ l → lines limits (l + 2) (grown (l + 1) (book est l b (withNets h []) 0 [])) (parts 10 (slice at (length s) s))
-      ≡ lines limits (l + 2 + j) (grown (l + 1 + j) (book est l b (withNets h (netsOf j w f c marks)) m [])) (parts 10 (slice i (length s) s))
+  pub laid : Laid most j m f₀ c₀ marks₀ f c marks
+  pub says : (limits : Limits) (est : Bool) (h : Hypergraph) → limits .pinLimit ≡ most → vertices h ≡ l → through limits (p + 1) (grown p (book est l b (withNets h []) 0 [])) (parts 10 (slice at (length s) s))
+      ≡ through limits (p + 1 + j) (grown (p + j) (book est l b (withNets h (netsOf j w f c marks)) m [])) (parts 10 (slice i (length s) s))
 
-pub buys-start : (s : List ℕ) (at l b : ℕ) (w f c marks stamps : List ℕ) → BuysReady s at l b w f c marks stamps → OnBuys s at l b f c marks w f c marks stamps at 0 0
+pub buys-start : (p : ℕ) (s : List ℕ) (at most l b : ℕ) (w f c marks stamps : List ℕ) → BuysReady s at most l b w f c marks stamps → OnBuys p s at most l b f c marks w f c marks stamps at 0 0
 unfolding netsOf
-buys-start s at l b w f c marks stamps r = record {
+buys-start p s at most l b w f c marks stamps r = record {
   i-le = r .at-le;
   j-le = omega arith;
   l-le = r .l-le;
   b-le = r .b-le;
   m-le = omega arith;
+  most-le = r .few;
   w-len = r .w-len;
   f-len = r .f-len;
   c-len = r .c-len;
@@ -139,16 +143,16 @@ buys-start s at l b w f c marks stamps r = record {
   fresh = r .fresh;
   inside = λ x u. absurd (omega arith);
   laid = record { m-le = omega arith; m-is = sym (sum-zero (λ y. getD c y 0)); first-is = λ x u. absurd (omega arith); past = λ x u. refl; f-past = λ x u. refl; c-past = λ x u. refl };
-  says = λ limits est h e. let p : l + 2 + 0 ≡ l + 2 = omega arith in let q : l + 1 + 0 ≡ l + 1 = omega arith in rw (p, q);
+  says = λ limits est h is e. let u : p + 1 + 0 ≡ p + 1 = omega arith in let v : p + 0 ≡ p = omega arith in rw (u, v);
 }
 
-module _ (s : List ℕ) (at l b : ℕ) (f₀ c₀ marks₀ w f c marks stamps : List ℕ) (i j m : ℕ) (on : OnBuys s at l b f₀ c₀ marks₀ w f c marks stamps i j m) where
-  pub buys-done : j ≡ b → BuysRead s at l b (All i m) f₀ c₀ marks₀ w f c marks
+module _ (p : ℕ) (s : List ℕ) (at most l b : ℕ) (f₀ c₀ marks₀ w f c marks stamps : List ℕ) (i j m : ℕ) (on : OnBuys p s at most l b f₀ c₀ marks₀ w f c marks stamps i j m) where
+  pub buys-done : j ≡ b → BuysRead p s at most l b (All i m) f₀ c₀ marks₀ w f c marks
   buys-done e = record {
     inside = λ x y q. let z : i ≡ x = cc in omega (arith, on .i-le);
     w-len = λ x y q. on .w-len;
     laid = λ x y q. let z : m ≡ y = cc in rw (← z, ← e) (on .laid);
-    says = λ limits est h q. sym (on .says limits est h q ∙ ap (λ (n : ℕ). lines limits (l + 2 + n) (grown (l + 1 + n) (book est l b (withNets h (netsOf n w f c marks)) m [])) (parts 10 (slice i (length s) s))) e);
+    says = λ limits est h lim q. sym (on .says limits est h lim q ∙ ap (λ (n : ℕ). through limits (p + 1 + n) (grown (p + n) (book est l b (withNets h (netsOf n w f c marks)) m [])) (parts 10 (slice i (length s) s))) e);
   }
 
   module _ (lt : j < b) where
@@ -161,40 +165,40 @@ module _ (s : List ℕ) (at l b : ℕ) (f₀ c₀ marks₀ w f c marks stamps : 
     few : (est : Bool) (h : Hypergraph) → vertices h ≡ l → whole (now-book est h) ≡ false
     few est h q = few-nets est l b h m ns q (omega (arith, nets-length j w f c marks))
 
-    here : (limits : Limits) (est : Bool) (h : Hypergraph) → vertices h ≡ l → lines limits (l + 2) (grown (l + 1) (book est l b (withNets h []) 0 [])) (parts 10 (slice at (length s) s)) ≡ lines limits (l + 2 + j) (reading (now-book est h)) (parts 10 (slice i (length s) s))
-    here limits est h q = on .says limits est h q ∙ ap (λ (r : Reading). lines limits (l + 2 + j) r (parts 10 (slice i (length s) s))) (partly (now-book est h) (few est h q) (l + 1 + j))
+    here : (limits : Limits) (est : Bool) (h : Hypergraph) → limits .pinLimit ≡ most → vertices h ≡ l → through limits (p + 1) (grown p (book est l b (withNets h []) 0 [])) (parts 10 (slice at (length s) s)) ≡ through limits (p + 1 + j) (reading (now-book est h)) (parts 10 (slice i (length s) s))
+    here limits est h lim q = on .says limits est h lim q ∙ ap (λ (r : Reading). through limits (p + 1 + j) r (parts 10 (slice i (length s) s))) (partly (now-book est h) (few est h q) (p + j))
 
     module _ (e : ℕ) (found : FirstAt s i (length s) 10 e) where
-      pub buys-none : e ≡ length s → BuysRead s at l b (Cut 2 (l + 2 + j)) f₀ c₀ marks₀ w f c marks
+      pub buys-none : e ≡ length s → BuysRead p s at most l b (Cut 2 (p + 1 + j)) f₀ c₀ marks₀ w f c marks
       buys-none x = record {
         inside = λ y z q. absurd (let u : _≡_ {A = ℕ} 0 1 = cc in omega arith);
         w-len = λ y z q. on .w-len;
         laid = λ y z q. absurd (let u : _≡_ {A = ℕ} 0 1 = cc in omega arith);
-        says = λ limits est h q. sym (here limits est h q ∙ no-more limits s (length s) i e (l + 2 + j) (on .i-le) (omega arith) found (reading (now-book est h)) (stopped 2 (l + 2 + j)) x (partly-end (now-book est h) (few est h q) (l + 2 + j)));
+        says = λ limits est h lim q. sym (here limits est h lim q ∙ through-none limits s (length s) i e (p + 1 + j) (on .i-le) (omega arith) found (reading (now-book est h)) (partly-on (now-book est h) (few est h q)) x);
       }
 
-      module _ (more : e < length s) (r : Buy) (marks′ stamps′ : List ℕ) (read : BuyRead (fields (slice i e s)) l (j + 1) m r marks marks′ stamps′) where
-        step : (limits : Limits) (est : Bool) (h : Hypergraph) → vertices h ≡ l → lines limits (l + 2) (grown (l + 1) (book est l b (withNets h []) 0 [])) (parts 10 (slice at (length s) s))
-            ≡ lines limits (l + 2 + j + 1) (buySeen (l + 2 + j) (now-book est h) m r marks′) (parts 10 (slice (e + 1) (length s) s))
-        step limits est h q =
-            here limits est h q
-            ∙ turned limits s (length s) i e (l + 2 + j) (on .i-le) (omega arith) found (reading (now-book est h)) more
-            ∙ ap (λ (x : Reading). lines limits (l + 2 + j + 1) x (parts 10 (slice (e + 1) (length s) s)))
-            (buy-turn est l b h m ns q (omega (arith, nets-length j w f c marks)) limits (l + 2 + j) (slice i e s) ∙ sym (read .says (l + 2 + j) (now-book est h) q refl))
+      module _ (more : e < length s) (r : Buy) (marks′ stamps′ : List ℕ) (read : BuyRead (fields (slice i e s)) l most (j + 1) m r marks marks′ stamps′) where
+        step : (limits : Limits) (est : Bool) (h : Hypergraph) → limits .pinLimit ≡ most → vertices h ≡ l → through limits (p + 1) (grown p (book est l b (withNets h []) 0 [])) (parts 10 (slice at (length s) s))
+            ≡ through limits (p + 1 + j + 1) (buySeen (p + 1 + j) (now-book est h) m r marks′) (parts 10 (slice (e + 1) (length s) s))
+        step limits est h lim q =
+            here limits est h lim q
+            ∙ through-on limits s (length s) i e (p + 1 + j) (on .i-le) (omega arith) found (reading (now-book est h)) (partly-on (now-book est h) (few est h q)) more
+            ∙ ap (λ (x : Reading). through limits (p + 1 + j + 1) x (parts 10 (slice (e + 1) (length s) s)))
+            (buy-turn est l b h m ns q (omega (arith, nets-length j w f c marks)) limits (p + 1 + j) (slice i e s) ∙ sym (read .says limits (p + 1 + j) (now-book est h) lim q refl))
 
-        pub buys-stop : (q : ℕ) → r ≡ NoBuy q → BuysRead s at l b (Cut q (l + 2 + j)) f₀ c₀ marks₀ w f c marks′
+        pub buys-stop : (q : ℕ) → r ≡ NoBuy q → BuysRead p s at most l b (Cut q (p + 1 + j)) f₀ c₀ marks₀ w f c marks′
         buys-stop q x = record {
           inside = λ y z u. absurd (let v : _≡_ {A = ℕ} 0 1 = cc in omega arith);
           w-len = λ y z u. on .w-len;
           laid = λ y z u. absurd (let v : _≡_ {A = ℕ} 0 1 = cc in omega arith);
-          says = λ limits est h z. sym (step limits est h z ∙ ap (λ (y : Buy). lines limits (l + 2 + j + 1) (buySeen (l + 2 + j) (now-book est h) m y marks′) (parts 10 (slice (e + 1) (length s) s))) x ∙ lines-stopped limits (l + 2 + j + 1) q (l + 2 + j) (parts 10 (slice (e + 1) (length s) s)));
+          says = λ limits est h lim z. sym (step limits est h lim z ∙ ap (λ (y : Buy). through limits (p + 1 + j + 1) (buySeen (p + 1 + j) (now-book est h) m y marks′) (parts 10 (slice (e + 1) (length s) s))) x ∙ through-stopped limits (p + 1 + j + 1) q (p + 1 + j) (parts 10 (slice (e + 1) (length s) s)));
         }
 
         module _ (x z : ℕ) (is : r ≡ Bought x z) where
-          pub grows : Stamped m z (j + 1) marks′ stamps′
+          pub grows : Stamped most m z (j + 1) marks′ stamps′
           grows = read .next x z is
 
-          pub buys-on : OnBuys s at l b f₀ c₀ marks₀ (set w j x) (set f j m) (set c j (z - m)) marks′ stamps′ (e + 1) (j + 1) z
+          pub buys-on : OnBuys p s at most l b f₀ c₀ marks₀ (set w j x) (set f j m) (set c j (z - m)) marks′ stamps′ (e + 1) (j + 1) z
           buys-on =
               let le : m ≤ z = grows .f-le in
               let wl : j < length w = omega (arith, on .w-len, on .b-le) in
@@ -206,6 +210,7 @@ module _ (s : List ℕ) (at l b : ℕ) (f₀ c₀ marks₀ w f c marks stamps : 
                 l-le = on .l-le;
                 b-le = on .b-le;
                 m-le = grows .m-le;
+                most-le = on .most-le;
                 w-len = simp length-set (on .w-len);
                 f-len = simp length-set (on .f-len);
                 c-len = simp length-set (on .c-len);
@@ -216,12 +221,12 @@ module _ (s : List ℕ) (at l b : ℕ) (f₀ c₀ marks₀ w f c marks stamps : 
                 m-same = read .len ∙ on .m-same;
                 fresh = record { below = λ y. omega (arith, grows .below y) };
                 inside = inside-more j m z x w f c marks marks′ (read .keep) le wl fl cl (on .inside);
-                laid = laid-more j m z f₀ c₀ marks₀ f c marks marks′ le fl cl (grows .m-le) (on .laid) (read .past x z is);
-                says = λ limits est h q.
-                    let p : l + 2 + (j + 1) ≡ l + 2 + j + 1 = omega arith in
-                    let u : l + 1 + (j + 1) ≡ l + 2 + j = omega arith in
-                    step limits est h q
-                    ∙ ap (λ (y : Buy). lines limits (l + 2 + j + 1) (buySeen (l + 2 + j) (now-book est h) m y marks′) (parts 10 (slice (e + 1) (length s) s))) is
-                    ∙ ap (λ (y : Reading). lines limits (l + 2 + j + 1) y (parts 10 (slice (e + 1) (length s) s))) (net-read-is est (l + 2 + j) l b x m z h ns (slice m z marks′))
-                    ∙ rw (p, u, nets-more j m z x w f c marks marks′ (read .keep) le wl fl cl (on .inside));
+                laid = laid-more most j m z f₀ c₀ marks₀ f c marks marks′ le fl cl (grows .m-le) (on .laid) (read .past x z is);
+                says = λ limits est h lim q.
+                    let v : p + 1 + (j + 1) ≡ p + 1 + j + 1 = omega arith in
+                    let u : p + (j + 1) ≡ p + 1 + j = omega arith in
+                    step limits est h lim q
+                    ∙ ap (λ (y : Buy). through limits (p + 1 + j + 1) (buySeen (p + 1 + j) (now-book est h) m y marks′) (parts 10 (slice (e + 1) (length s) s))) is
+                    ∙ ap (λ (y : Reading). through limits (p + 1 + j + 1) y (parts 10 (slice (e + 1) (length s) s))) (net-read-is est (p + 1 + j) l b x m z h ns (slice m z marks′))
+                    ∙ rw (v, u, nets-more j m z x w f c marks marks′ (read .keep) le wl fl cl (on .inside));
               }

@@ -1,4 +1,4 @@
--- One line after another: what the lines from a cursor on say; the lines of calls. Rests on Seen, CallTable and text's laws of parts.
+-- One line after another: what the lines from a cursor on say, a catalogue's and a file's; the lines of calls. Rests on Seen, CallTable and text's laws of parts.
 use Prim.Native.Nat.{ℕ, zero, suc, _+_, _-_, _*_, _≤_, _<_}
 use mathlib.Core.Path.{_≡_, refl, ap, sym, subst, _∙_}
 use mathlib.Core.List.{List, [], _∷_, _++_}
@@ -13,6 +13,8 @@ use Rattle.laws.specs.Choice.{and-left, and-right}
 use Rattle.model.specs.Catalogue.{Limits, Hypergraph}
 use Rattle.model.specs.Sale.{Request}
 use Rattle.model.specs.Grammar.{Reading, reading, stopped, parts, fields, Asked, asks, nothing, asked, withCall, whole, full, callLine, line, ending, lines}
+use Rattle.model.specs.Through.{refused, through}
+use Rattle.guarantees.specs.Through.{unfinished, stage-on}
 use Rattle.model.specs.Lent.{listed, callsOf}
 use Rattle.model.specs.ListEntry.{isEntry, entriesTo}
 use Rattle.text.specs.Field.{first, FirstAt}
@@ -26,7 +28,7 @@ use Rattle.reader.specs.Seen.{CallsRead}
 use Rattle.reader.proofs.CallTable.{entries-more, same-calls, calls-put, entries-put}
 use Rattle.reader.specs.declared.Ended.the-variants.{Up, Stop}
 
-pub lines-stopped : (limits : Limits) (n q m : ℕ) (ls : List (List ℕ)) → lines limits n (stopped q m) ls ≡ stopped q m
+lines-stopped : (limits : Limits) (n q m : ℕ) (ls : List (List ℕ)) → lines limits n (stopped q m) ls ≡ stopped q m
 unfolding lines ending line
 lines-stopped limits n q m [] = refl
 lines-stopped limits n q m (l ∷ []) = refl
@@ -59,14 +61,24 @@ module _ (limits : Limits) (s : List ℕ) (len i e n : ℕ) (lt : i < len) (with
       ∙ ap (ending n r) (slice-at s i len lt within)
       ∙ h (getD s i 0) (slice (i + 1) len s)
 
--- no line feed any more, wherever the cursor stands
-pub no-more : (limits : Limits) (s : List ℕ) (len i e n : ℕ) → i ≤ len → len ≤ length s → FirstAt s i len 10 e → (r x : Reading) → e ≡ len → ((l : List ℕ) → ending n r l ≡ x) → lines limits n r (parts 10 (slice i len s)) ≡ x
-unfolding lines
-no-more limits s len i e n le within found r x last h = ap (lines limits n r) (parts-last s i len 10 e le within found last) ∙ h (slice i e s)
+-- ---- a catalogue's lines
+step-on : (limits : Limits) (n : ℕ) (r : Reading) (l rest : List ℕ) → unfinished r ≡ true → through limits n r (l ∷ parts 10 rest) ≡ through limits (n + 1) (line limits n r l) (parts 10 rest)
+unfolding through
+step-on limits n r l rest g = rw add-one (go (parts 10 rest) refl)
+  where
+    go : (ps : List (List ℕ)) → parts 10 rest ≡ ps → through limits n r (l ∷ ps) ≡ through limits (suc n) (line limits n r l) ps
+    go [] e = absurd (parts-some 10 rest e)
+    go (p ∷ ps) e = stage-on n _ _ r g
 
--- the same of `turn`, at any cursor before a line feed
-pub turned : (limits : Limits) (s : List ℕ) (len i e n : ℕ) → i ≤ len → len ≤ length s → FirstAt s i len 10 e → (r : Reading) → e < len → lines limits n r (parts 10 (slice i len s)) ≡ lines limits (n + 1) (line limits n r (slice i e s)) (parts 10 (slice (e + 1) len s))
-turned limits s len i e n le within found r more = ap (lines limits n r) (parts-on s i len 10 e le within found more) ∙ lines-on limits n r (slice i e s) (slice (e + 1) len s)
+-- a line more, at any cursor before a line feed
+pub through-on : (limits : Limits) (s : List ℕ) (len i e n : ℕ) → i ≤ len → len ≤ length s → FirstAt s i len 10 e → (r : Reading) → unfinished r ≡ true → e < len
+    → through limits n r (parts 10 (slice i len s)) ≡ through limits (n + 1) (line limits n r (slice i e s)) (parts 10 (slice (e + 1) len s))
+through-on limits s len i e n le within found r g more = ap (through limits n r) (parts-on s i len 10 e le within found more) ∙ step-on limits n r (slice i e s) (slice (e + 1) len s) g
+
+-- no line feed any more
+pub through-none : (limits : Limits) (s : List ℕ) (len i e n : ℕ) → i ≤ len → len ≤ length s → FirstAt s i len 10 e → (r : Reading) → unfinished r ≡ true → e ≡ len → through limits n r (parts 10 (slice i len s)) ≡ refused 2 n
+unfolding through
+through-none limits s len i e n le within found r g last = ap (through limits n r) (parts-last s i len 10 e le within found last) ∙ stage-on n _ _ r g
 
 -- ---- the calls
 module _ (limits : Limits) (est : Bool) (l b m : ℕ) (h : Hypergraph) (cs : List Request) (w : whole (book est l b h m []) ≡ true) (n : ℕ) where

@@ -1,4 +1,4 @@
--- Books read off the tables, and what the lot lines and the call lines are read as. Rests on model's grammar. Assumes nothing.
+-- Books read off the tables, and what the lot lines and the call lines are read as. Rests on model's grammar and Through. Assumes nothing.
 use Prim.Native.Nat.{ℕ, _+_, _≤_}
 use mathlib.Core.Path.{_≡_}
 use mathlib.Core.Bool.{Bool, true}
@@ -8,6 +8,7 @@ use lib.Seq.{slice}
 use Rattle.laws.specs.Fold.{sumOver}
 use Rattle.model.specs.Catalogue.{Limits, Hypergraph}
 use Rattle.model.specs.Grammar.{Reading, reading, stopped, grown, whole, lines, parts}
+use Rattle.model.specs.Through.{Stage, refused, through}
 use Rattle.model.specs.Lent.{callsOf}
 use Rattle.model.specs.ListEntry.{entriesTo}
 use Rattle.lines.specs.Line.{book, Past}
@@ -30,15 +31,15 @@ pub record CallsRead (s : List ℕ) (at n : ℕ) (r : Ended) (t ops : List ℕ) 
 abbrev pub lotsGraph : ℕ → ℕ → ℕ → List ℕ → List ℕ → List ℕ → List ℕ → Hypergraph
 lotsGraph blocks imbalance k w d fx lo = record { blocks = blocks; imbalance = imbalance; totalWeight = sumOver (take k lo) (λ x. x); lows = take k lo; weights = take k w; draft = take k d; fixed = take k fx; nets = [] }
 
--- the lot lines of a file whose first line is read: what is left to read, from the place where they end
-abbrev pub lotsSeen : Limits → List ℕ → Bool → ℕ → ℕ → ℕ → ℕ → Ended → List ℕ → List ℕ → List ℕ → List ℕ → Reading
-lotsSeen limits s estimated l b blocks imbalance (Up i) w d fx lo = lines limits (l + 2) (grown (l + 1) (book estimated l b (lotsGraph blocks imbalance l w d fx lo) 0 [])) (parts 10 (slice i (length s) s))
-lotsSeen limits s estimated l b blocks imbalance (Stop q n) w d fx lo = stopped q n
+-- the lot lines of a catalogue whose first line is line n: what is left to read, from the place where they end
+abbrev pub lotsSeen : ℕ → Limits → List ℕ → Bool → ℕ → ℕ → ℕ → ℕ → Ended → List ℕ → List ℕ → List ℕ → List ℕ → Stage
+lotsSeen n limits s estimated l b blocks imbalance (Up i) w d fx lo = through limits (n + l + 1) (grown (n + l) (book estimated l b (lotsGraph blocks imbalance l w d fx lo) 0 [])) (parts 10 (slice i (length s) s))
+lotsSeen n limits s estimated l b blocks imbalance (Stop q m) w d fx lo = refused q m
 
-pub record LotsRead (s : List ℕ) (at l blocks : ℕ) (estimated : Bool) (r : Ended) (w₀ d₀ fx₀ w d fx lo : List ℕ) : Type 0 where
+pub record LotsRead (n : ℕ) (s : List ℕ) (at l blocks : ℕ) (estimated : Bool) (r : Ended) (w₀ d₀ fx₀ w d fx lo : List ℕ) : Type 0 where
   pub inside : (i : ℕ) → r ≡ Up i → i ≤ length s
   pub w-past : Past l w₀ w
   pub d-past : Past l d₀ d
   pub fx-past : Past l fx₀ fx
   pub lo-len : length lo ≡ 1024
-  pub says : (limits : Limits) (b imbalance : ℕ) → lotsSeen limits s estimated l b blocks imbalance r w d fx lo ≡ lines limits 2 (reading (book estimated l b (lotsGraph blocks imbalance 0 w d fx lo) 0 [])) (parts 10 (slice at (length s) s))
+  pub says : (limits : Limits) (b imbalance : ℕ) → lotsSeen n limits s estimated l b blocks imbalance r w d fx lo ≡ through limits (n + 1) (reading (book estimated l b (lotsGraph blocks imbalance 0 w d fx lo) 0 [])) (parts 10 (slice at (length s) s))

@@ -1,7 +1,9 @@
-// A sale file read into lent tables, or its first refusal, equal to model's grammar on the same bytes.
+// A catalogue's lines, from any place and line of a file, and a sale's call lines, read into lent tables, or their first refusal: equal to
+// model's grammar on the same bytes. Rests on lines.
 use lines::Ask;
 use lines::Buy;
 use lines::Head;
+use lines::Limits;
 use lines::Lot;
 ghost use mathlib.Core.Path.{_≡_};
 ghost use mathlib.Core.Bool.{cond};
@@ -11,25 +13,19 @@ ghost use lib.ListN.{length, take};
 ghost use Rattle.laws.specs.Fold.{sumOver};
 ghost use Rattle.laws.specs.Sum.{sum};
 ghost use Rattle.model.specs.Catalogue.{mainLimits, nearest};
-ghost use Rattle.lines.specs.Line.{limitsOf, InRange};
+ghost use Rattle.lines.specs.Line.{limitsOf, Within, InRange};
 ghost use Rattle.reader.specs.Seen.{CallsRead, LotsRead};
 ghost use Rattle.reader.specs.Buyers.{BuysRead, BuysReady};
-ghost use Rattle.reader.specs.Whole.{averageOf, Long, Ready, overfullIs, LastRead, NetsRead, CatalogueRead, FileRead};
+ghost use Rattle.reader.specs.Whole.{averageOf, Long, Ready, overfullIs, NetsRead, BodyRead, CatalogueRead};
 
-// How the buyers' lines ended: where, and with how many marks; or refused.
+// How the buyers' lines ended: where, and with how many marks; or refused with the refusal's number and the line's.
 pub enum Nets {
     All(usize, usize),
     Cut(u8, usize),
 }
 
-// What follows the lot lines: the marks and the calls, how many; or refused.
-pub enum Rest {
-    Kept(usize, usize),
-    Not(u8, usize),
-}
-
-// A file: lots, buyers, sessions, slack, marks, calls; or the refusal's number and the line's.
-pub enum Outcome {
+// A catalogue: lots, buyers, sessions, slack, marks and the place behind its last line; or the refusal's number and the line's.
+pub enum Catalogue {
     Taken(u32, u32, u32, u32, usize, usize),
     Refused(u8, usize),
 }
@@ -41,7 +37,7 @@ pub enum Ended {
 }
 
 // Reads the call lines, the first of which is the n-th line. A line has at most half as many operands as bytes, so that all have room.
-fn read_calls(s: &[u8], at: usize, n: usize, calls: &mut [u32], operands: &mut [u32]) -> Ended
+pub fn read_calls(s: &[u8], at: usize, n: usize, calls: &mut [u32], operands: &mut [u32]) -> Ended
     requires { ⌜ (at ≤ length (now s)) × (length (now s) ≤ 60000) × (n ≤ 4096) × (1536 ≤ length (now calls)) × (30000 ≤ length (now operands)) ⌝ }
     ensures { λ r. ⌜ CallsRead (now (s .entry)) at n r (now (calls .exit)) (now (operands .exit)) ⌝ }
 {
@@ -75,10 +71,11 @@ fn read_calls(s: &[u8], at: usize, n: usize, calls: &mut [u32], operands: &mut [
     Ended::Up(c)
 }
 
-// Reads the lot lines, the first of which is line 2.
+// Reads the lot lines of a catalogue whose first line is the given one.
 fn read_vertices(
     s: &[u8],
     at: usize,
+    line: usize,
     vertices: usize,
     blocks: u16,
     estimated: bool,
@@ -88,8 +85,8 @@ fn read_vertices(
     lows: &mut [u32; 1024],
 ) -> Ended
     requires { ⌜ (at ≤ length (now s)) × (1 ≤ vertices) × (vertices ≤ 1024) × (vertices ≤ length (now weights)) × (vertices ≤ length (now draft)) × (vertices ≤ length (now fixed))
-        × (length (now lows) ≡ 1024) ⌝ }
-    ensures { λ r. ⌜ LotsRead (now (s .entry)) at vertices blocks estimated r (now (weights .entry)) (now (draft .entry)) (now (fixed .entry)) (now (weights .exit)) (now (draft .exit)) (now (fixed .exit)) (now (lows .exit)) ⌝ }
+        × (length (now lows) ≡ 1024) × (line ≤ 60001) ⌝ }
+    ensures { λ r. ⌜ LotsRead line (now (s .entry)) at vertices blocks estimated r (now (weights .entry)) (now (draft .entry)) (now (fixed .entry)) (now (weights .exit)) (now (draft .exit)) (now (fixed .exit)) (now (lows .exit)) ⌝ }
 {
     let len = s.len();
     let mut i = at;
@@ -97,11 +94,11 @@ fn read_vertices(
     while k < vertices {
         let e = text::line_end(s, i, len);
         if e == len {
-            return Ended::Stop(2, k + 2);
+            return Ended::Stop(2, line + k + 1);
         }
         match lines::lot_line(s, i, e, blocks, estimated) {
             Lot::NoLot(q) => {
-                return Ended::Stop(q, k + 2);
+                return Ended::Stop(q, line + k + 1);
             }
             Lot::Of(low, high, b, f) => {
                 weights[k] = high;
@@ -116,10 +113,12 @@ fn read_vertices(
     Ended::Up(i)
 }
 
-// Reads the buyers' lines, which follow the lot lines.
+// Reads the buyers' lines, which follow line `last`, the last lot's; `most` is the limit of marks.
 fn read_nets(
     s: &[u8],
     at: usize,
+    last: usize,
+    most: usize,
     vertices: u32,
     nets: usize,
     netweights: &mut [u16; 1024],
@@ -128,22 +127,31 @@ fn read_nets(
     loadedpins: &mut [u16],
     stamps: &mut [u16; 1024],
 ) -> Nets
-    requires { ⌜ BuysReady (now s) at vertices nets (now netweights) (now firsts) (now loadedsizes) (now loadedpins) (now stamps) ⌝ }
-    ensures { λ r. ⌜ BuysRead (now (s .entry)) at vertices nets r (now (firsts .entry)) (now (loadedsizes .entry)) (now (loadedpins .entry)) (now (netweights .exit)) (now (firsts .exit)) (now (loadedsizes .exit)) (now (loadedpins .exit)) ⌝ }
+    requires { ⌜ (last ≤ 65535) × BuysReady (now s) at most vertices nets (now netweights) (now firsts) (now loadedsizes) (now loadedpins) (now stamps) ⌝ }
+    ensures { λ r. ⌜ BuysRead last (now (s .entry)) at most vertices nets r (now (firsts .entry)) (now (loadedsizes .entry)) (now (loadedpins .entry)) (now (netweights .exit)) (now (firsts .exit)) (now (loadedsizes .exit)) (now (loadedpins .exit)) ⌝ }
 {
     let len = s.len();
-    let base = vertices as usize + 2;
     let mut i = at;
     let mut j: usize = 0;
     let mut m: usize = 0;
     while j < nets {
         let e = text::line_end(s, i, len);
         if e == len {
-            return Nets::Cut(2, base + j);
+            return Nets::Cut(2, last + 1 + j);
         }
-        match lines::buy_line(s, i, e, vertices, (j + 1) as u16, m, loadedpins, stamps) {
+        match lines::buy_line(
+            s,
+            i,
+            e,
+            vertices,
+            most,
+            (j + 1) as u16,
+            m,
+            loadedpins,
+            stamps,
+        ) {
             Buy::NoBuy(q) => {
-                return Nets::Cut(q, base + j);
+                return Nets::Cut(q, last + 1 + j);
             }
             Buy::Bought(w, z) => {
                 netweights[j] = w;
@@ -227,36 +235,12 @@ pub fn overfull(
     false
 }
 
-// What follows the catalogue's last line.
-fn finish(
-    s: &[u8],
-    at: usize,
-    vertices: u32,
-    nets: u32,
-    blocks: u32,
-    imbalance: u32,
-    m: usize,
-    weights: &[u32],
-    draft: &[u16],
-    lows: &[u32],
-    calls: &mut [u32],
-    operands: &mut [u32],
-) -> Ended
-    requires { ⌜ (at ≤ length (now s)) × (length (now s) ≤ 60000) × (vertices ≤ 1024) × (nets ≤ 1024) × (2 ≤ blocks) × (blocks ≤ 16) × (imbalance ≤ 1000) × (vertices ≤ length (now weights))
-        × (vertices ≤ length (now draft)) × (vertices ≤ length (now lows)) × (1536 ≤ length (now calls)) × (30000 ≤ length (now operands)) ⌝ }
-    ensures { λ r. ⌜ LastRead (now (s .entry)) at vertices nets blocks imbalance m r (now (weights .entry)) (now (draft .entry)) (now (lows .entry)) (now (calls .exit)) (now (operands .exit)) ⌝ }
-{
-    let n = vertices as usize + 1 + nets as usize;
-    if overfull(vertices, blocks, imbalance, weights, draft, lows) {
-        return Ended::Stop(6, n);
-    }
-    read_calls(s, at, n + 1, calls, operands)
-}
-
-// What follows the lot lines.
+// What follows the lot lines, of which the last is line `last`: 6 is tested on the catalogue's last line.
 fn after_vertices(
     s: &[u8],
     at: usize,
+    last: usize,
+    most: usize,
     vertices: u32,
     nets: u32,
     blocks: u32,
@@ -269,15 +253,15 @@ fn after_vertices(
     loadedsizes: &mut [u16],
     loadedpins: &mut [u16],
     stamps: &mut [u16; 1024],
-    calls: &mut [u32],
-    operands: &mut [u32],
-) -> Rest
-    requires { ⌜ Ready (now s) at vertices nets blocks imbalance (now weights) (now draft) (now netweights) (now lows) (now firsts) (now loadedsizes) (now loadedpins) (now stamps) (now calls) (now operands) ⌝ }
-    ensures { λ r. ⌜ NetsRead (now (s .entry)) at vertices nets blocks imbalance r (now (weights .entry)) (now (draft .entry)) (now (lows .entry)) (now (firsts .entry)) (now (loadedsizes .entry)) (now (loadedpins .entry)) (now (netweights .exit)) (now (firsts .exit)) (now (loadedsizes .exit)) (now (loadedpins .exit)) (now (calls .exit)) (now (operands .exit)) ⌝ }
+) -> Nets
+    requires { ⌜ (last ≤ 65535) × Ready (now s) at most vertices nets blocks imbalance (now weights) (now draft) (now netweights) (now lows) (now firsts) (now loadedsizes) (now loadedpins) (now stamps) ⌝ }
+    ensures { λ r. ⌜ NetsRead last (now (s .entry)) at most vertices nets blocks imbalance r (now (weights .entry)) (now (draft .entry)) (now (lows .entry)) (now (firsts .entry)) (now (loadedsizes .entry)) (now (loadedpins .entry)) (now (netweights .exit)) (now (firsts .exit)) (now (loadedsizes .exit)) (now (loadedpins .exit)) ⌝ }
 {
     match read_nets(
         s,
         at,
+        last,
+        most,
         vertices,
         nets as usize,
         netweights,
@@ -286,31 +270,22 @@ fn after_vertices(
         loadedpins,
         stamps,
     ) {
-        Nets::Cut(q, n) => Rest::Not(q, n),
-        Nets::All(i, m) => match finish(
-            s,
-            i,
-            vertices,
-            nets,
-            blocks,
-            imbalance,
-            m,
-            weights,
-            draft,
-            lows,
-            calls,
-            operands,
-        ) {
-            Ended::Stop(q, n) => Rest::Not(q, n),
-            Ended::Up(c) => Rest::Kept(m, c),
-        },
+        Nets::Cut(q, n) => Nets::Cut(q, n),
+        Nets::All(i, m) => {
+            if overfull(vertices, blocks, imbalance, weights, draft, lows) {
+                return Nets::Cut(6, last + nets as usize);
+            }
+            Nets::All(i, m)
+        }
     }
 }
 
-// What follows the first line.
+// What follows a catalogue's first line, which is the given one.
 fn after_head(
     s: &[u8],
     at: usize,
+    line: usize,
+    most: usize,
     vertices: u32,
     nets: u32,
     blocks: u32,
@@ -324,17 +299,16 @@ fn after_head(
     firsts: &mut [u16],
     loadedsizes: &mut [u16],
     loadedpins: &mut [u16],
-    calls: &mut [u32],
-    operands: &mut [u32],
-) -> Rest
-    requires { ⌜ (at ≤ length (now s)) × (length (now s) ≤ 60000) × InRange mainLimits vertices nets blocks imbalance
-        × (vertices ≤ length (now fixed)) × Long vertices (now weights) (now draft) (now netweights) (now lows) (now firsts) (now loadedsizes) (now loadedpins) (now calls) (now operands) ⌝ }
-    ensures { λ r. ⌜ CatalogueRead (now (s .entry)) at vertices nets blocks imbalance estimated r (now (weights .entry)) (now (draft .entry)) (now (fixed .entry)) (now (firsts .entry)) (now (loadedsizes .entry)) (now (loadedpins .entry)) (now (weights .exit)) (now (draft .exit)) (now (fixed .exit)) (now (netweights .exit)) (now (lows .exit)) (now (firsts .exit)) (now (loadedsizes .exit)) (now (loadedpins .exit)) (now (calls .exit)) (now (operands .exit)) ⌝ }
+) -> Nets
+    requires { ⌜ (at ≤ length (now s)) × (line ≤ 60001) × InRange mainLimits vertices nets blocks imbalance
+        × (vertices ≤ length (now fixed)) × Long vertices most (now weights) (now draft) (now netweights) (now lows) (now firsts) (now loadedsizes) (now loadedpins) ⌝ }
+    ensures { λ r. ⌜ BodyRead line (now (s .entry)) at most vertices nets blocks imbalance estimated r (now (weights .entry)) (now (draft .entry)) (now (fixed .entry)) (now (firsts .entry)) (now (loadedsizes .entry)) (now (loadedpins .entry)) (now (weights .exit)) (now (draft .exit)) (now (fixed .exit)) (now (netweights .exit)) (now (lows .exit)) (now (firsts .exit)) (now (loadedsizes .exit)) (now (loadedpins .exit)) ⌝ }
 {
     let mut stamps = [0u16; 1024];
     match read_vertices(
         s,
         at,
+        line,
         vertices as usize,
         blocks as u16,
         estimated,
@@ -343,10 +317,12 @@ fn after_head(
         fixed,
         lows,
     ) {
-        Ended::Stop(q, n) => Rest::Not(q, n),
+        Ended::Stop(q, n) => Nets::Cut(q, n),
         Ended::Up(i) => after_vertices(
             s,
             i,
+            line + vertices as usize,
+            most,
             vertices,
             nets,
             blocks,
@@ -359,17 +335,16 @@ fn after_head(
             loadedsizes,
             loadedpins,
             &mut stamps,
-            calls,
-            operands,
         ),
     }
 }
 
-// Reads a whole sale file into the tables.
-pub fn read(
+// Reads a catalogue into the tables: it begins at place `at`, and its first line is the given one.
+pub fn read_catalogue(
     s: &[u8],
-    vmax: u32,
-    bmax: u32,
+    at: usize,
+    line: usize,
+    limits: Limits,
     weights: &mut [u32],
     draft: &mut [u16],
     fixed: &mut [u16],
@@ -378,25 +353,24 @@ pub fn read(
     firsts: &mut [u16],
     loadedsizes: &mut [u16],
     loadedpins: &mut [u16],
-    calls: &mut [u32],
-    operands: &mut [u32],
-) -> Outcome
-    requires { ⌜ (bmax ≤ 16) × (vmax ≤ length (now fixed)) × Long vmax (now weights) (now draft) (now netweights) (now lows) (now firsts) (now loadedsizes) (now loadedpins) (now calls) (now operands) ⌝ }
-    ensures { λ r. ⌜ FileRead (limitsOf vmax bmax) (now (s .entry)) r (now (weights .entry)) (now (draft .entry)) (now (fixed .entry)) (now (firsts .entry)) (now (loadedsizes .entry)) (now (loadedpins .entry)) (now (weights .exit)) (now (draft .exit)) (now (fixed .exit)) (now (netweights .exit)) (now (lows .exit)) (now (firsts .exit)) (now (loadedsizes .exit)) (now (loadedpins .exit)) (now (calls .exit)) (now (operands .exit)) ⌝ }
+) -> Catalogue
+    requires { ⌜ (at ≤ length (now s)) × (line ≤ 60001) × Within (limitsOf limits) × (limits .lots ≤ length (now fixed))
+        × Long (limits .lots) (limits .marks) (now weights) (now draft) (now netweights) (now lows) (now firsts) (now loadedsizes) (now loadedpins) ⌝ }
+    ensures { λ r. ⌜ CatalogueRead (limitsOf limits) line (now (s .entry)) at r (now (weights .entry)) (now (draft .entry)) (now (fixed .entry)) (now (firsts .entry)) (now (loadedsizes .entry)) (now (loadedpins .entry)) (now (weights .exit)) (now (draft .exit)) (now (fixed .exit)) (now (netweights .exit)) (now (lows .exit)) (now (firsts .exit)) (now (loadedsizes .exit)) (now (loadedpins .exit)) ⌝ }
 {
     let len = s.len();
-    if 60000 < len {
-        return Outcome::Refused(1, 0);
-    }
-    let e = text::line_end(s, 0, len);
+    let most = limits.marks as usize;
+    let e = text::line_end(s, at, len);
     if e == len {
-        return Outcome::Refused(2, 1);
+        return Catalogue::Refused(2, line);
     }
-    match lines::sale_line(s, 0, e, vmax, bmax) {
-        Head::NoSale(q) => Outcome::Refused(q, 1),
+    match lines::sale_line(s, at, e, limits) {
+        Head::NoSale(q) => Catalogue::Refused(q, line),
         Head::Sale(vertices, nets, blocks, imbalance, estimated) => match after_head(
             s,
             e + 1,
+            line,
+            most,
             vertices,
             nets,
             blocks,
@@ -410,11 +384,9 @@ pub fn read(
             firsts,
             loadedsizes,
             loadedpins,
-            calls,
-            operands,
         ) {
-            Rest::Not(q, n) => Outcome::Refused(q, n),
-            Rest::Kept(m, c) => Outcome::Taken(vertices, nets, blocks, imbalance, m, c),
+            Nets::Cut(q, n) => Catalogue::Refused(q, n),
+            Nets::All(i, m) => Catalogue::Taken(vertices, nets, blocks, imbalance, m, i),
         },
     }
 }

@@ -41,13 +41,13 @@ no-estimate : (ns : List ℕ) → isLineOf "EST" 4 (bytes "SALE" ∷ numbers ns)
 unfolding isLine same bytes
 no-estimate ns = refl
 
-pub sale-line : (limits : Limits) (n l b k s : ℕ) → Short (limits .vertexLimit) → Short (limits .blockLimit) → 1 ≤ l → l ≤ limits .vertexLimit → b ≤ 1024 → 2 ≤ k → k ≤ limits .blockLimit → s ≤ 1000
+pub sale-line : (limits : Limits) (n l b k s : ℕ) → Short (limits .vertexLimit) → Short (limits .blockLimit) → 1 ≤ l → l ≤ limits .vertexLimit → b ≤ 1024 → b ≤ limits .netLimit → 2 ≤ k → k ≤ limits .blockLimit → s ≤ 1000
     → line limits n unread (joined (bytes "SALE") (numbers (l ∷ b ∷ k ∷ s ∷ []))) ≡ reading (blank false l b k s)
 unfolding line saleLine
-sale-line limits n l b k s small narrow ll lu bu kl ku su =
+sale-line limits n l b k s small narrow ll lu bs bu kl ku su =
     rw (fields-numbers "SALE" (l ∷ b ∷ k ∷ s ∷ []) (words .0), value-digits l, value-digits b, value-digits k, value-digits s, no-estimate (l ∷ b ∷ k ∷ s ∷ []))
     (passed _ _ _ (ap (λ (t : Bool). t || false) (both (is-line "SALE" (l ∷ b ∷ k ∷ s ∷ []) (omega arith)) refl))
-    (both (both (both (inside 1 (limits .vertexLimit) l ll lu) (inside 0 1024 b (omega arith) bu)) (inside 2 (limits .blockLimit) k kl ku)) (inside 0 1000 s (omega arith) su)))
+    (both (both (both (inside 1 (limits .vertexLimit) l ll lu) (inside 0 (limits .netLimit) b (omega arith) bu)) (inside 2 (limits .blockLimit) k kl ku)) (inside 0 1000 s (omega arith) su)))
 
 pub lot-line : (limits : Limits) (n : ℕ) (k : Book) (w b : ℕ) → k .estimated ≡ false → Short (k .graph .blocks) → vertices (k .graph) < k .lots → 1 ≤ w → w ≤ 65535 → 1 ≤ b → b ≤ k .graph .blocks
     → line limits n (reading k) (joined (bytes "LOT") (numbers (w ∷ b ∷ []))) ≡ grown n (lotted k w w b false)
@@ -68,7 +68,7 @@ size : (ns : List ℕ) → length (numbers ns) ≡ length ns
 size [] = refl
 size (n ∷ ns) = ap suc (size ns)
 
-pub buy-line : (limits : Limits) (n : ℕ) (k : Book) (e : Net) → Short (vertices (k .graph)) → k .lots ≤ vertices (k .graph) → length (k .graph .nets) < k .buyers → Buyer (vertices (k .graph)) e → k .marks + length (e .pins) ≤ 8192
+pub buy-line : (limits : Limits) (n : ℕ) (k : Book) (e : Net) → Short (vertices (k .graph)) → k .lots ≤ vertices (k .graph) → length (k .graph .nets) < k .buyers → Buyer (vertices (k .graph)) e → k .marks + length (e .pins) ≤ limits .pinLimit
     → line limits n (reading k) (joined (bytes "BUY") (numbers (e .weight ∷ e .pins))) ≡ grown n (netted k (e .weight) (e .pins) (k .marks + length (e .pins)))
 unfolding line buyLine netRead
 buy-line limits n k e small none more good few =
@@ -78,7 +78,7 @@ buy-line limits n k e small none more good few =
       lt-ltb (length (k .graph .nets)) (k .buyers) more,
       fields-numbers "BUY" (e .weight ∷ e .pins) (words .2),
       value-digits (e .weight),
-      marks-read (k .graph) [] (e .pins) (k .marks) (good .distinct) (good .in-range) few,
+      marks-read limits (k .graph) [] (e .pins) (k .marks) (good .distinct) (good .in-range) few,
     )
     (passed _ _ _
     (both (is-line "BUY" (e .weight ∷ e .pins) short) (le-leb 3 (suc (suc (length (numbers (e .pins))))) (omega (arith, size (e .pins), good .some))))

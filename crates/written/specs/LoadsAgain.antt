@@ -72,7 +72,7 @@ buyers : (n : ℕ) (es : List Net) → All es (Within n) → All es (λ e. Disti
 buyers n [] a b c d = tt
 buyers n (e ∷ es) a b c d = (record { weight-low = d .0 .0; weight-high = d .0 .1; some = c .0; in-range = a .0; distinct = b .0 }, buyers n es (a .1) (b .1) (c .1) (d .1))
 
-module _ (limits : Limits) (small : Short (limits .vertexLimit)) (narrow : Short (limits .blockLimit)) (h : Hypergraph) (r : Ranges limits h) (g : Loaded limits h) (free : All (h .fixed) (λ x. x ≡ 0)) (alike : h .lows ≡ h .weights) where
+module _ (limits : Limits) (small : Short (limits .vertexLimit)) (narrow : Short (limits .blockLimit)) (buyers-wide : 1024 ≤ limits .netLimit) (marks-wide : 8192 ≤ limits .pinLimit) (h : Hypergraph) (r : Ranges limits h) (g : Loaded limits h) (free : All (h .fixed) (λ x. x ≡ 0)) (alike : h .lows ≡ h .weights) where
   not-overfull : overfull h ≡ false
   unfolding overfull fresh
   not-overfull = none-over (h .blocks) (λ s. ltb (capacity h) (blockWeight h [] (drafted h) s)) (λ s l u. le-ltb (capacity h) _ (r .draft-within s l u))
@@ -123,7 +123,7 @@ module _ (limits : Limits) (small : Short (limits .vertexLimit)) (narrow : Short
       ap (λ (t : Bool). cond t (stopped 1 0) (lines limits 1 unread (parts 10 (row "SALE" (numbers first) ++ rest)))) (le-ltb 60000 _ fits)
       ∙ lines-row limits 1 unread "SALE" (numbers first) rest (words .0) (numbers-above first)
       ∙ ap (λ (x : Reading). lines limits 2 x (parts 10 rest))
-      (sale-line limits 1 (vertices h) (length (h .nets)) (h .blocks) (h .imbalance) small narrow (r .vertices-low) (r .vertices-high) (r .nets-high) (g .blocks-low) (g .blocks-high) (g .imbalance-high)
+      (sale-line limits 1 (vertices h) (length (h .nets)) (h .blocks) (h .imbalance) small narrow (r .vertices-low) (r .vertices-high) (r .nets-high) (omega (arith, r .nets-high, buyers-wide)) (g .blocks-low) (g .blocks-high) (g .imbalance-high)
       ∙ sym (partly (stage h 0 [] [] [] [] [] 0) (rw (ne-eqb 0 (vertices h) (λ q. omega (arith, r .vertices-low)))) 1))
       ∙ lots-lead 0 [] [] [] (h .weights) (h .draft) (h .fixed) (omega (arith, g .total-is, ap (λ (l : List ℕ). sumOver l (λ w. w)) alike)) refl refl refl (g .as-long) (g .fixed-long) (g .weights-in) (g .draft-in) free 1
 

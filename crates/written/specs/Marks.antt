@@ -12,7 +12,7 @@ use lib.ListN.{length, getD, length-append, List·getD-append}
 use lib.Seq.{getD-append-seam}
 use Rattle.laws.specs.Fold.{any, All, any-at}
 use Rattle.laws.specs.Occurrence.{Distinct}
-use Rattle.model.specs.Catalogue.{Hypergraph, vertices}
+use Rattle.model.specs.Catalogue.{Limits, Hypergraph, vertices}
 use Rattle.model.specs.Grammar.{value, Marking, marked, mark, marking}
 use Rattle.model.specs.Report.{digits}
 use Rattle.guarantees.specs.Numbers.{value-digits}
@@ -38,16 +38,16 @@ not-before us vs v d = go (any us (λ x. eqb x v)) refl
     go true e = absurd (twice e)
     go false e = refl
 
-module _ (h : Hypergraph) where
-  mark-one : (us vs : List ℕ) (v m : ℕ) → Apart (us ++ (v ∷ vs)) → 1 ≤ v → v ≤ vertices h → m < 8192 → mark h (marked us m) (value (digits v)) ≡ marked (us ++ (v ∷ [])) (suc m)
+module _ (limits : Limits) (h : Hypergraph) where
+  mark-one : (us vs : List ℕ) (v m : ℕ) → Apart (us ++ (v ∷ vs)) → 1 ≤ v → v ≤ vertices h → m < limits .pinLimit → mark limits h (marked us m) (value (digits v)) ≡ marked (us ++ (v ∷ [])) (suc m)
   unfolding mark
-  mark-one us vs v m d l u few = rw (value-digits v, inside 1 (vertices h) v l u, not-before us vs v d, lt-leb 8192 m few)
+  mark-one us vs v m d l u few = rw (value-digits v, inside 1 (vertices h) v l u, not-before us vs v d, lt-leb (limits .pinLimit) m few)
 
   -- us are marked already
-  pub marks-read : (us vs : List ℕ) (m : ℕ) → Apart (us ++ vs) → All vs (λ v. (1 ≤ v) × (v ≤ vertices h)) → m + length vs ≤ 8192 → marking h (marked us m) (numbers vs) ≡ marked (us ++ vs) (m + length vs)
+  pub marks-read : (us vs : List ℕ) (m : ℕ) → Apart (us ++ vs) → All vs (λ v. (1 ≤ v) × (v ≤ vertices h)) → m + length vs ≤ limits .pinLimit → marking limits h (marked us m) (numbers vs) ≡ marked (us ++ vs) (m + length vs)
   unfolding marking
   marks-read us [] m d a few = ap₂ marked (sym (append-nil us)) (omega arith)
   marks-read us (v ∷ vs) m d a few =
-      ap (λ (r : Marking). marking h r (numbers vs)) (mark-one us vs v m d (a .0 .0) (a .0 .1) (omega arith))
+      ap (λ (r : Marking). marking limits h r (numbers vs)) (mark-one us vs v m d (a .0 .0) (a .0 .1) (omega arith))
       ∙ marks-read (us ++ (v ∷ [])) vs (suc m) (subst Apart (sym (append-assoc us (v ∷ []) vs)) d) (a .1) (omega arith)
       ∙ ap₂ marked (append-assoc us (v ∷ []) vs) (omega arith)

@@ -18,7 +18,7 @@ returns c =
     let start = c .before .before .before .before in
     let a = c .before .before .before .before .args in
     let f = c .before .read-weight in
-    buy-bad (now (a .s)) (a .at) (a .end) (a .vertices) (a .j) (a .first) (now (a .loadedpins)) (now (a .stamps)) (start .pre .5) (f .result .value) (f .result .end) (f .ensures) (c .if1 .taken)
+    buy-bad (now (a .s)) (a .at) (a .end) (a .vertices) (a .most) (a .j) (a .first) (now (a .loadedpins)) (now (a .stamps)) (start .pre .5) (f .result .value) (f .result .end) (f .ensures) (c .if1 .taken)
 
 between-requires : tie.Need-between-requires
 between-requires c κs = search needs
@@ -37,7 +37,7 @@ returns-2 c =
     let start = at-read-weight .before .before .before in
     let a = c .before .before .before .before .before .before .before .args in
     let f = at-read-weight .read-weight in
-    buy-range (now (a .s)) (a .at) (a .end) (a .vertices) (a .j) (a .first) (now (a .loadedpins)) (now (a .stamps)) (start .pre .5) (f .result .value) (f .result .end) (f .ensures)
+    buy-range (now (a .s)) (a .at) (a .end) (a .vertices) (a .most) (a .j) (a .first) (now (a .loadedpins)) (now (a .stamps)) (start .pre .5) (f .result .value) (f .result .end) (f .ensures)
     (omega (arith, f .ensures .high)) (sym (c .before .before .between .ensures) ∙ not-true _ (c .before .if2 .taken)) (c .refusal .result) (c .refusal .ensures)
 
 add-read-pins : tie.Need-add-read-pins
@@ -52,8 +52,8 @@ read-pins-requires c κs =
 enum-known-m : tie.Need-enum-known-m
 enum-known-m c = search needs
 
-cast-t24 : tie.Need-cast-t24
-cast-t24 c =
+cast-t25 : tie.Need-cast-t25
+cast-t25 c =
     let at-if2 = c .before .before .before .before .before .before .before .before in
     let at-between = at-if2 .before in
     let at-read-weight = at-between .before .before in
@@ -76,8 +76,8 @@ returns-3 c =
     let a = c .before .before .before .before .before .before .before .before .before .before .before .before .before .before .args in
     let f = at-read-weight .read-weight in
     let r = at-read-pins .read-pins in
-    buy-read (now (a .s)) (a .at) (a .end) (a .vertices) (a .j) (a .first) (now (a .loadedpins)) (now (a .stamps)) (start .pre .5) (f .result .value) (f .result .end) (f .ensures)
-    (omega (arith, f .ensures .high)) (sym (at-between .between .ensures) ∙ not-false _ (at-if2 .if2 .left)) (r .result) (r .last .1 .1 .1 .1 .1 .1 .0) (r .last .1 .1 .1 .1 .1 .1 .1 .0) (r .ensures) (c .before .m .given .0 .0) (c .before .m .given .1)
+    buy-read (now (a .s)) (a .at) (a .end) (a .vertices) (a .most) (a .j) (a .first) (now (a .loadedpins)) (now (a .stamps)) (start .pre .5) (f .result .value) (f .result .end) (f .ensures)
+    (omega (arith, f .ensures .high)) (sym (at-between .between .ensures) ∙ not-false _ (at-if2 .if2 .left)) (r .result) (r .last .1 .1 .1 .1 .1 .1 .1 .0) (r .last .1 .1 .1 .1 .1 .1 .1 .1 .0) (r .ensures) (c .before .m .given .0 .0) (c .before .m .given .1)
 
 same-length-2 : tie.Need-same-length-2
 same-length-2 c = search needs
@@ -92,8 +92,8 @@ returns-4 c =
     let a = c .before .before .before .before .before .before .before .before .before .before .before .before .before .before .args in
     let f = at-read-weight .read-weight in
     let r = at-read-pins .read-pins in
-    buy-wrong (now (a .s)) (a .at) (a .end) (a .vertices) (a .j) (a .first) (now (a .loadedpins)) (now (a .stamps)) (start .pre .5) (f .result .value) (f .result .end) (f .ensures)
-    (omega (arith, f .ensures .high)) (sym (at-between .between .ensures) ∙ not-false _ (at-if2 .if2 .left)) (r .result) (r .last .1 .1 .1 .1 .1 .1 .0) (r .last .1 .1 .1 .1 .1 .1 .1 .0) (r .ensures) (c .before .q .given .0 .0) (c .before .q .given .1)
+    buy-wrong (now (a .s)) (a .at) (a .end) (a .vertices) (a .most) (a .j) (a .first) (now (a .loadedpins)) (now (a .stamps)) (start .pre .5) (f .result .value) (f .result .end) (f .ensures)
+    (omega (arith, f .ensures .high)) (sym (at-between .between .ensures) ∙ not-false _ (at-if2 .if2 .left)) (r .result) (r .last .1 .1 .1 .1 .1 .1 .1 .0) (r .last .1 .1 .1 .1 .1 .1 .1 .1 .0) (r .ensures) (c .before .q .given .0 .0) (c .before .q .given .1)
 
 pub buy-line-spec : {M : Type 1} → statement M
 buy-line-spec =
@@ -108,7 +108,7 @@ buy-line-spec =
     add-read-pins
     read-pins-requires
     enum-known-m
-    cast-t24
+    cast-t25
     enum-known-q
     same-length
     returns-3

@@ -7,10 +7,10 @@ use Rattle.lines.proofs.put_pin.Statement.{statement}
 use Rattle.lines.proofs.put_pin.Tie as tie
 
 returns : tie.Need-returns
-returns c = let a = c .before .args in mark-low (a .v) (a .vertices) (a .j) (a .m) (now (a .loadedpins)) (now (a .stamps)) (omega arith) (omega arith) (c .before .pre .2) (c .if1 .taken)
+returns c = let a = c .before .args in mark-low (a .v) (a .vertices) (a .most) (a .j) (a .m) (now (a .loadedpins)) (now (a .stamps)) (omega arith) (omega arith) (c .before .pre .2) (c .if1 .taken)
 
 returns-2 : tie.Need-returns-2
-returns-2 c = let a = c .before .before .args in mark-high (a .v) (a .vertices) (a .j) (a .m) (now (a .loadedpins)) (now (a .stamps)) (omega arith) (omega arith) (c .before .before .pre .2) (c .if2 .taken)
+returns-2 c = let a = c .before .before .args in mark-high (a .v) (a .vertices) (a .most) (a .j) (a .m) (now (a .loadedpins)) (now (a .stamps)) (omega arith) (omega arith) (c .before .before .pre .2) (c .if2 .taken)
 
 cast-x : tie.Need-cast-x
 cast-x c = search needs
@@ -24,12 +24,12 @@ element-copy-out-if3 c = search needs
 returns-3 : tie.Need-returns-3
 returns-3 c =
     let start = c .before .before .before .before in
-    let a = start .args in mark-twice (a .v) (a .vertices) (a .j) (a .m) (now (a .loadedpins)) (now (a .stamps)) (omega arith) (omega arith) (start .pre .2) (omega arith) (omega arith) (c .if3 .taken)
+    let a = start .args in mark-twice (a .v) (a .vertices) (a .most) (a .j) (a .m) (now (a .loadedpins)) (now (a .stamps)) (omega arith) (omega arith) (start .pre .2) (omega arith) (omega arith) (c .if3 .taken)
 
 returns-4 : tie.Need-returns-4
 returns-4 c =
     let start = c .before .before .before .before .before in
-    let a = start .args in mark-full (a .v) (a .vertices) (a .j) (a .m) (now (a .loadedpins)) (now (a .stamps)) (omega arith) (omega arith) (start .pre .2) (omega arith) (omega arith) (c .before .if3 .left) (omega arith)
+    let a = start .args in mark-full (a .v) (a .vertices) (a .most) (a .j) (a .m) (now (a .loadedpins)) (now (a .stamps)) (omega arith) (omega arith) (start .pre .2) (omega arith) (omega arith) (c .before .if3 .left) (omega arith)
 
 cast-loadedpins : tie.Need-cast-loadedpins
 cast-loadedpins c = search needs
@@ -52,7 +52,7 @@ same-length c = search needs
 returns-5 : tie.Need-returns-5
 returns-5 c =
     let start = c .before .before .before .before .before in
-    let a = start .args in mark-new (a .v) (a .vertices) (a .j) (a .m) (now (a .loadedpins)) (now (a .stamps)) (omega arith) (omega arith) (start .pre .2) (omega arith) (omega arith) (c .before .if3 .left) (omega arith)
+    let a = start .args in mark-new (a .v) (a .vertices) (a .most) (a .j) (a .m) (now (a .loadedpins)) (now (a .stamps)) (omega arith) (omega arith) (start .pre .2) (omega arith) (omega arith) (c .before .if3 .left) (omega arith)
 
 pub put-pin-spec : {M : Type 1} → statement M
 put-pin-spec =

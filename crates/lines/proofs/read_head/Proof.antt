@@ -38,7 +38,7 @@ returns c =
     let at-get = at-get2 .before in
     let start = at-get3 .before .before .before .before in
     let a = start .args in
-    record { says = λ n. sale-1 (limitsOf (a .vmax) (a .bmax)) n (fields (slice (a .at) (a .end) (now (a .s)))) (start .pre .2 .form) (at-get .get .result) (at-get2 .get2 .result) (at-get3 .get3 .result) (c .before .before .get4 .result) (at-get .get .ensures) (at-get2 .get2 .ensures) (at-get3 .get3 .ensures) (c .before .before .get4 .ensures) (sym (c .before .between .ensures) ∙ not-true _ (c .if1 .taken)); ranges = λ l b k t e z. absurd (no-sale z) }
+    record { says = λ n. sale-1 (limitsOf (a .limits)) n (fields (slice (a .at) (a .end) (now (a .s)))) (start .pre .2 .form) (at-get .get .result) (at-get2 .get2 .result) (at-get3 .get3 .result) (c .before .before .get4 .result) (at-get .get .ensures) (at-get2 .get2 .ensures) (at-get3 .get3 .ensures) (c .before .before .get4 .ensures) (sym (c .before .between .ensures) ∙ not-true _ (c .if1 .taken)); ranges = λ l b k t e z. absurd (no-sale z) }
 
 between-requires-2 : tie.Need-between-requires-2
 between-requires-2 c κs = search needs
@@ -52,7 +52,7 @@ returns-2 c =
     let at-get = at-get2 .before in
     let start = at-between .before .before .before .before .before .before in
     let a = start .args in
-    record { says = λ n. sale-2 (limitsOf (a .vmax) (a .bmax)) n (fields (slice (a .at) (a .end) (now (a .s)))) (start .pre .2 .form) (at-get .get .result) (at-get2 .get2 .result) (at-get3 .get3 .result) (at-get4 .get4 .result) (at-get .get .ensures) (at-get2 .get2 .ensures) (at-get3 .get3 .ensures) (at-get4 .get4 .ensures) (sym (at-between .between .ensures) ∙ not-false _ (c .before .before .if1 .left)) (sym (c .before .between2 .ensures) ∙ not-true _ (c .if2 .taken)); ranges = λ l b k t e z. absurd (no-sale z) }
+    record { says = λ n. sale-2 (limitsOf (a .limits)) n (fields (slice (a .at) (a .end) (now (a .s)))) (start .pre .2 .form) (at-get .get .result) (at-get2 .get2 .result) (at-get3 .get3 .result) (at-get4 .get4 .result) (at-get .get .ensures) (at-get2 .get2 .ensures) (at-get3 .get3 .ensures) (at-get4 .get4 .ensures) (sym (at-between .between .ensures) ∙ not-false _ (c .before .before .if1 .left)) (sym (c .before .between2 .ensures) ∙ not-true _ (c .if2 .taken)); ranges = λ l b k t e z. absurd (no-sale z) }
 
 between-requires-3 : tie.Need-between-requires-3
 between-requires-3 c κs = search needs
@@ -68,7 +68,7 @@ returns-3 c =
     let at-get = at-get2 .before in
     let start = at-between2 .before .before .before .before .before .before .before .before in
     let a = start .args in
-    record { says = λ n. sale-3 (limitsOf (a .vmax) (a .bmax)) n (fields (slice (a .at) (a .end) (now (a .s)))) (start .pre .2 .form) (at-get .get .result) (at-get2 .get2 .result) (at-get3 .get3 .result) (at-get4 .get4 .result) (at-get .get .ensures) (at-get2 .get2 .ensures) (at-get3 .get3 .ensures) (at-get4 .get4 .ensures) (sym (at-between .between .ensures) ∙ not-false _ (at-if1 .if1 .left)) (sym (at-between2 .between2 .ensures) ∙ not-false _ (c .before .before .if2 .left)) (sym (c .before .between3 .ensures) ∙ not-true _ (c .if3 .taken)); ranges = λ l b k t e z. absurd (no-sale z) }
+    record { says = λ n. sale-3 (limitsOf (a .limits)) n (fields (slice (a .at) (a .end) (now (a .s)))) (start .pre .2 .form) (at-get .get .result) (at-get2 .get2 .result) (at-get3 .get3 .result) (at-get4 .get4 .result) (at-get .get .ensures) (at-get2 .get2 .ensures) (at-get3 .get3 .ensures) (at-get4 .get4 .ensures) (sym (at-between .between .ensures) ∙ not-false _ (at-if1 .if1 .left)) (sym (at-between2 .between2 .ensures) ∙ not-false _ (c .before .before .if2 .left)) (sym (c .before .between3 .ensures) ∙ not-true _ (c .if3 .taken)); ranges = λ l b k t e z. absurd (no-sale z) }
 
 between-requires-4 : tie.Need-between-requires-4
 between-requires-4 c κs = search needs
@@ -86,7 +86,7 @@ returns-4 c =
     let at-get = at-get2 .before in
     let start = at-between3 .before .before .before .before .before .before .before .before .before .before in
     let a = start .args in
-    record { says = λ n. sale-4 (limitsOf (a .vmax) (a .bmax)) n (fields (slice (a .at) (a .end) (now (a .s)))) (start .pre .2 .form) (at-get .get .result) (at-get2 .get2 .result) (at-get3 .get3 .result) (at-get4 .get4 .result) (at-get .get .ensures) (at-get2 .get2 .ensures) (at-get3 .get3 .ensures) (at-get4 .get4 .ensures) (sym (at-between .between .ensures) ∙ not-false _ (at-if1 .if1 .left)) (sym (at-between2 .between2 .ensures) ∙ not-false _ (at-if2 .if2 .left)) (sym (at-between3 .between3 .ensures) ∙ not-false _ (c .before .before .if3 .left)) (sym (c .before .between4 .ensures) ∙ not-true _ (c .if4 .taken)); ranges = λ l b k t e z. absurd (no-sale z) }
+    record { says = λ n. sale-4 (limitsOf (a .limits)) n (fields (slice (a .at) (a .end) (now (a .s)))) (start .pre .2 .form) (at-get .get .result) (at-get2 .get2 .result) (at-get3 .get3 .result) (at-get4 .get4 .result) (at-get .get .ensures) (at-get2 .get2 .ensures) (at-get3 .get3 .ensures) (at-get4 .get4 .ensures) (sym (at-between .between .ensures) ∙ not-false _ (at-if1 .if1 .left)) (sym (at-between2 .between2 .ensures) ∙ not-false _ (at-if2 .if2 .left)) (sym (at-between3 .between3 .ensures) ∙ not-false _ (c .before .before .if3 .left)) (sym (c .before .between4 .ensures) ∙ not-true _ (c .if4 .taken)); ranges = λ l b k t e z. absurd (no-sale z) }
 
 returns-5 : tie.Need-returns-5
 returns-5 c =
@@ -105,7 +105,7 @@ returns-5 c =
     let e2 = sym (at-between2 .between2 .ensures) ∙ not-false _ (at-if2 .if2 .left) in
     let e3 = sym (at-between3 .between3 .ensures) ∙ not-false _ (c .before .before .if3 .left) in
     let e4 = sym (c .before .between4 .ensures) ∙ not-false _ (c .if4 .left) in
-    record { says = λ n. sale-read (limitsOf (a .vmax) (a .bmax)) n (fields (slice (a .at) (a .end) (now (a .s)))) (start .pre .2 .form) (at-get .get .result) (at-get2 .get2 .result) (at-get3 .get3 .result) (at-get4 .get4 .result) (at-get .get .ensures) (at-get2 .get2 .ensures) (at-get3 .get3 .ensures) (at-get4 .get4 .ensures) e1 e2 e3 (a .estimated) (start .pre .2 .kind) e4; ranges = λ l b k t e z. sale-ranges (limitsOf (a .vmax) (a .bmax)) z e1 e2 e3 e4 }
+    record { says = λ n. sale-read (limitsOf (a .limits)) n (fields (slice (a .at) (a .end) (now (a .s)))) (start .pre .2 .form) (at-get .get .result) (at-get2 .get2 .result) (at-get3 .get3 .result) (at-get4 .get4 .result) (at-get .get .ensures) (at-get2 .get2 .ensures) (at-get3 .get3 .ensures) (at-get4 .get4 .ensures) e1 e2 e3 (a .estimated) (start .pre .2 .kind) e4; ranges = λ l b k t e z. sale-ranges (limitsOf (a .limits)) z e1 e2 e3 e4 }
 
 pub read-head-spec : {M : Type 1} → statement M
 read-head-spec =

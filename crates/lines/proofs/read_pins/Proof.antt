@@ -8,16 +8,16 @@ use Rattle.lines.proofs.read_pins.Statement.{statement}
 use Rattle.lines.proofs.read_pins.Tie as tie
 
 abbrev Inv-loop : tie.InvT-loop
-Inv-loop s at end vertices j first pins₀ stamps₀ i₀ m₀ pins stamps i m = OnMarks s at end vertices j first pins₀ pins stamps i m
+Inv-loop s at end vertices most j first pins₀ stamps₀ i₀ m₀ pins stamps i m = OnMarks s at end vertices most j first pins₀ pins stamps i m
 
 abbrev μ-loop : tie.MeasureT-loop
-μ-loop s at end vertices j first pins₀ stamps₀ i₀ m₀ pins stamps i m = end - i
+μ-loop s at end vertices most j first pins₀ stamps₀ i₀ m₀ pins stamps i m = end - i
 
 loop-holds : tie.Need-loop-holds Inv-loop μ-loop
 loop-holds c =
     let a = c .before .before .args in
     let p = c .before .before .pre in
-    marks-start (now (a .s)) (a .at) (a .end) (a .vertices) (a .j) (a .first) (now (a .loadedpins)) (now (a .stamps)) (p .0) (p .1) (p .3) (p .4) (p .5) (p .6) (p .7)
+    marks-start (now (a .s)) (a .at) (a .end) (a .vertices) (a .most) (a .j) (a .first) (now (a .loadedpins)) (now (a .stamps)) (p .0) (p .1) (p .3) (p .4) (p .5) (p .6) (p .7)
 
 read-number-requires : tie.Need-read-number-requires Inv-loop μ-loop
 read-number-requires c κs = (c .loop .inv .high, omega arith)
@@ -30,7 +30,7 @@ returns c =
     let a = c .before .before .before .before .before .args in
     let l = c .before .before .loop in
     let f = c .before .read-number in
-    marks-bad (now (a .s)) (a .at) (a .end) (a .vertices) (a .j) (a .first) (now (a .loadedpins)) (l .loadedpins) (l .stamps) (l .i) (l .m) (l .inv) (omega arith)
+    marks-bad (now (a .s)) (a .at) (a .end) (a .vertices) (a .most) (a .j) (a .first) (now (a .loadedpins)) (l .loadedpins) (l .stamps) (l .i) (l .m) (l .inv) (omega arith)
     (f .result .end) (f .result .value) (f .ensures) (c .if1 .taken)
 
 put-pin-requires : tie.Need-put-pin-requires Inv-loop μ-loop
@@ -57,8 +57,8 @@ returns-2 c =
     let l = c .before .before .before .before .before .before .before .before .before .loop in
     let f = at-read-number .read-number in
     let q = at-put-pin .put-pin in
-    marks-stop (now (a .s)) (a .at) (a .end) (a .vertices) (a .j) (a .first) (now (a .loadedpins)) (l .loadedpins) (l .stamps) (l .i) (l .m) (l .inv) (omega arith)
-    (f .result .end) (f .result .value) (f .ensures) (omega (arith, f .ensures .ends .low)) (q .result) (q .last .1 .1 .1 .1 .0) (q .last .1 .1 .1 .1 .1 .0) (q .ensures)
+    marks-stop (now (a .s)) (a .at) (a .end) (a .vertices) (a .most) (a .j) (a .first) (now (a .loadedpins)) (l .loadedpins) (l .stamps) (l .i) (l .m) (l .inv) (omega arith)
+    (f .result .end) (f .result .value) (f .ensures) (omega (arith, f .ensures .ends .low)) (q .result) (q .last .1 .1 .1 .1 .1 .0) (q .last .1 .1 .1 .1 .1 .1 .0) (q .ensures)
     (c .before .if2 .taken) (c .refusal .result) (c .refusal .ensures)
 
 add-m : tie.Need-add-m Inv-loop μ-loop
@@ -80,8 +80,8 @@ returns-3 c =
     let l = c .before .before .before .before .before .before .before .before .before .loop in
     let f = at-read-number .read-number in
     let q = at-put-pin .put-pin in
-    marks-last (now (a .s)) (a .at) (a .end) (a .vertices) (a .j) (a .first) (now (a .loadedpins)) (l .loadedpins) (l .stamps) (l .i) (l .m) (l .inv) (omega arith)
-    (f .result .end) (f .result .value) (f .ensures) (omega (arith, f .ensures .ends .low)) (q .result) (q .last .1 .1 .1 .1 .0) (q .last .1 .1 .1 .1 .1 .0) (q .ensures)
+    marks-last (now (a .s)) (a .at) (a .end) (a .vertices) (a .most) (a .j) (a .first) (now (a .loadedpins)) (l .loadedpins) (l .stamps) (l .i) (l .m) (l .inv) (omega arith)
+    (f .result .end) (f .result .value) (f .ensures) (omega (arith, f .ensures .ends .low)) (q .result) (q .last .1 .1 .1 .1 .1 .0) (q .last .1 .1 .1 .1 .1 .1 .0) (q .ensures)
     (c .before .if2 .left) (c .if3 .taken)
 
 add-i : tie.Need-add-i Inv-loop μ-loop
@@ -102,8 +102,8 @@ loop-again c =
     let l = c .before .before .before .before .before .before .before .before .before .loop in
     let f = at-read-number .read-number in
     let q = at-put-pin .put-pin in
-    marks-on (now (a .s)) (a .at) (a .end) (a .vertices) (a .j) (a .first) (now (a .loadedpins)) (l .loadedpins) (l .stamps) (l .i) (l .m) (l .inv) (omega arith)
-    (f .result .end) (f .result .value) (f .ensures) (omega (arith, f .ensures .ends .low)) (q .result) (q .last .1 .1 .1 .1 .0) (q .last .1 .1 .1 .1 .1 .0) (q .ensures)
+    marks-on (now (a .s)) (a .at) (a .end) (a .vertices) (a .most) (a .j) (a .first) (now (a .loadedpins)) (l .loadedpins) (l .stamps) (l .i) (l .m) (l .inv) (omega arith)
+    (f .result .end) (f .result .value) (f .ensures) (omega (arith, f .ensures .ends .low)) (q .result) (q .last .1 .1 .1 .1 .1 .0) (q .last .1 .1 .1 .1 .1 .1 .0) (q .ensures)
     (c .before .if2 .left) (omega (arith, f .ensures .ends .high))
 
 pub read-pins-spec : {M : Type 1} → statement M

@@ -49,7 +49,7 @@ returns-3 c =
     let a = at-if1 .before .before .before .before .args in
     let x = slice (a .at) (a .end) (now (a .s)) in
     record {
-      says = λ n. sale-form (limitsOf (a .vmax) (a .bmax)) n (fields x) (line-no "SALE" (83 ∷ 65 ∷ 76 ∷ 69 ∷ []) 4 (c .before .form2 .result) x word-SALE (c .before .form2 .ensures) (c .if2 .left)) (line-no "EST" (69 ∷ 83 ∷ 84 ∷ []) 4 (at-form .form .result) x word-EST (at-form .form .ensures) (at-if1 .if1 .left));
+      says = λ n. sale-form (limitsOf (a .limits)) n (fields x) (line-no "SALE" (83 ∷ 65 ∷ 76 ∷ 69 ∷ []) 4 (c .before .form2 .result) x word-SALE (c .before .form2 .ensures) (c .if2 .left)) (line-no "EST" (69 ∷ 83 ∷ 84 ∷ []) 4 (at-form .form .result) x word-EST (at-form .form .ensures) (at-if1 .if1 .left));
       ranges = λ l b k t e z. absurd (no-sale z);
     }
 

@@ -19,11 +19,11 @@ average-weight-requires c κs = search needs
 capacity-requires : tie.Need-capacity-requires
 capacity-requires c κs = search needs
 
-cast-t11 : tie.Need-cast-t11
-cast-t11 c = search needs
+cast-t10 : tie.Need-cast-t10
+cast-t10 c = search needs
 
-cast-t12 : tie.Need-cast-t12
-cast-t12 c =
+cast-t11 : tie.Need-cast-t11
+cast-t11 c =
     let a = c .before .before .before .args in
     let e = c .before .average-weight .ensures .0 in
     let x = (1000 + a .imbalance) * c .before .average-weight .result in
@@ -34,9 +34,9 @@ returns c =
     let start = c .before .before .before in
     let a = start .args in
     let e = c .before .average-weight .ensures .0 in
-    ap (λ (x : ℕ). sizesOf (a .vertices) (a .nets) (a .blocks) (a .imbalance) (a .pins) (a .calls) x (c .capacity .result)) e
-    ∙ ap (sizesOf (a .vertices) (a .nets) (a .blocks) (a .imbalance) (a .pins) (a .calls) (averageOf (a .blocks) (take (a .vertices) (now (a .lows))))) (c .capacity .ensures ∙ ap (λ (x : ℕ). nearest ((1000 + a .imbalance) * x)) e)
+    ap (λ (x : ℕ). sizesOf (a .vertices) (a .nets) (a .blocks) (a .imbalance) (a .pins) x (c .capacity .result)) e
+    ∙ ap (sizesOf (a .vertices) (a .nets) (a .blocks) (a .imbalance) (a .pins) (averageOf (a .blocks) (take (a .vertices) (now (a .lows))))) (c .capacity .ensures ∙ ap (λ (x : ℕ). nearest ((1000 + a .imbalance) * x)) e)
 
 pub measure-spec : {M : Type 1} → statement M
 measure-spec =
-    tie.close (tie.spec average-weight-requires capacity-requires cast-t11 cast-t12 returns)
+    tie.close (tie.spec average-weight-requires capacity-requires cast-t10 cast-t11 returns)

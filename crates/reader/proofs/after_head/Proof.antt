@@ -12,8 +12,8 @@ cast-read-vertices c = search needs
 
 read-vertices-requires : tie.Need-read-vertices-requires
 read-vertices-requires c κs =
-    let start = c .before .before .before .before .before .before .before .before .before .before .before .before .before in
-    let p = start .pre in (p .0, p .2 .l-low, p .4 .l-le, p .4 .w-len, p .4 .d-len, p .3, p .4 .lo-len)
+    let start = c .before .before .before .before .before .before .before .before .before .before .before in
+    let p = start .pre in (p .0, p .2 .l-low, p .4 .l-le, p .4 .w-len, p .4 .d-len, p .3, p .4 .lo-len, p .1)
 
 enum-known-q : tie.Need-enum-known-q
 enum-known-q c = search needs
@@ -23,10 +23,12 @@ enum-known-i c = search needs
 
 after-vertices-requires : tie.Need-after-vertices-requires
 after-vertices-requires c κs =
-    let at-i = c .before .before .before .before .before .before .before .before .before .before .before .before in
+    let at-i = c .before .before .before .before .before .before .before .before .before .before in
     let at-read-vertices = at-i .before .before .before .before .before .before .before .before in
-    let start = at-read-vertices .before .before .before .before .before .before .before .before .before .before .before .before .before .before in
-    let p = start .pre in record { at-le = at-read-vertices .read-vertices .ensures .inside (at-i .i .given .0 .0) (at-i .i .given .1); short = p .1; range = p .2; long = record { l-le = p .4 .l-le; w-len = omega (arith, p .4 .w-len, at-read-vertices .read-vertices .kept .1 .1 .1 .1 .1 .0); d-len = omega (arith, p .4 .d-len, at-read-vertices .read-vertices .kept .1 .1 .1 .1 .1 .1 .0); nw-len = p .4 .nw-len; lo-len = at-read-vertices .read-vertices .ensures .lo-len; f-len = p .4 .f-len; c-len = p .4 .c-len; wide = p .4 .wide; calls-len = p .4 .calls-len; ops-len = p .4 .ops-len }; slen = refl; fresh = fresh-start }
+    let start = at-read-vertices .before .before .before .before .before .before .before .before .before .before .before .before in
+    let p = start .pre in
+    let kept = at-read-vertices .read-vertices .kept in
+    (omega (arith, p .1, p .4 .l-le), record { at-le = at-read-vertices .read-vertices .ensures .inside (at-i .i .given .0 .0) (at-i .i .given .1); range = p .2; long = record { l-le = p .4 .l-le; w-len = omega (arith, p .4 .w-len, kept .1 .1 .1 .1 .1 .1 .0); d-len = omega (arith, p .4 .d-len, kept .1 .1 .1 .1 .1 .1 .1 .0); nw-len = p .4 .nw-len; lo-len = at-read-vertices .read-vertices .ensures .lo-len; f-len = p .4 .f-len; c-len = p .4 .c-len; few = p .4 .few; wide = p .4 .wide }; slen = refl; fresh = fresh-start })
 
 same-length : tie.Need-same-length
 same-length c = search needs
@@ -40,8 +42,9 @@ same-length-3 c = search needs
 returns : tie.Need-returns
 returns c =
     let at-read-vertices = c .before .before .before .before .before .before .before .before .before in
-    let start = at-read-vertices .before .before .before .before .before .before .before .before .before .before .before .before .before .before in
-    let a = start .args in lots-cut (now (a .s)) (a .at) (a .vertices) (a .nets) (a .blocks) (a .imbalance) (a .estimated) (now (a .weights)) (now (a .draft)) (now (a .fixed)) (now (a .firsts)) (now (a .loadedsizes)) (now (a .loadedpins)) _ _ _ _ (at-read-vertices .read-vertices .result) (at-read-vertices .read-vertices .ensures) (c .before .q .given .0 .0) (c .before .q .given .0 .1 .0) (c .before .q .given .1) (now (a .netweights)) (now (a .firsts)) (now (a .loadedsizes)) (now (a .loadedpins)) (now (a .calls)) (now (a .operands))
+    let start = at-read-vertices .before .before .before .before .before .before .before .before .before .before .before .before in
+    let a = start .args in
+    lots-cut (a .line) (now (a .s)) (a .at) (a .most) (a .vertices) (a .nets) (a .blocks) (a .imbalance) (a .estimated) (now (a .weights)) (now (a .draft)) (now (a .fixed)) (now (a .firsts)) (now (a .loadedsizes)) (now (a .loadedpins)) _ _ _ _ (at-read-vertices .read-vertices .result) (at-read-vertices .read-vertices .ensures) (c .before .q .given .0 .0) (c .before .q .given .0 .1 .0) (c .before .q .given .1) (now (a .netweights)) (now (a .firsts)) (now (a .loadedsizes)) (now (a .loadedpins))
 
 same-length-4 : tie.Need-same-length-4
 same-length-4 c = search needs
@@ -61,19 +64,17 @@ same-length-8 c = search needs
 same-length-9 : tie.Need-same-length-9
 same-length-9 c = search needs
 
-same-length-10 : tie.Need-same-length-10
-same-length-10 c = search needs
-
 returns-2 : tie.Need-returns-2
 returns-2 c =
-    let at-after-vertices = c .before .before .before .before .before .before .before .before .before .before in
-    let at-i = at-after-vertices .before .before .before .before .before .before .before .before .before .before .before .before .before in
+    let at-after-vertices = c .before .before .before .before .before .before in
+    let at-i = at-after-vertices .before .before .before .before .before .before .before .before .before .before .before in
     let at-read-vertices = at-i .before .before .before .before .before .before .before .before in
-    let start = at-read-vertices .before .before .before .before .before .before .before .before .before .before .before .before .before .before in
-    let a = start .args in lots-go (now (a .s)) (a .at) (a .vertices) (a .nets) (a .blocks) (a .imbalance) (a .estimated) (now (a .weights)) (now (a .draft)) (now (a .fixed)) (now (a .firsts)) (now (a .loadedsizes)) (now (a .loadedpins)) _ _ _ _ (at-read-vertices .read-vertices .result) (at-read-vertices .read-vertices .ensures) (at-i .i .given .0 .0) (at-i .i .given .1) (at-after-vertices .after-vertices .result) _ _ _ _ _ _ (at-after-vertices .after-vertices .ensures)
+    let start = at-read-vertices .before .before .before .before .before .before .before .before .before .before .before .before in
+    let a = start .args in
+    lots-go (a .line) (now (a .s)) (a .at) (a .most) (a .vertices) (a .nets) (a .blocks) (a .imbalance) (a .estimated) (now (a .weights)) (now (a .draft)) (now (a .fixed)) (now (a .firsts)) (now (a .loadedsizes)) (now (a .loadedpins)) _ _ _ _ (at-read-vertices .read-vertices .result) (at-read-vertices .read-vertices .ensures) (at-i .i .given .0 .0) (at-i .i .given .1) (at-after-vertices .after-vertices .result) _ _ _ _ (at-after-vertices .after-vertices .ensures)
 
-same-length-11 : tie.Need-same-length-11
-same-length-11 c = search needs
+add-after-vertices : tie.Need-add-after-vertices
+add-after-vertices c = omega arith
 
 pub after-head-spec : {M : Type 1} → statement M
 after-head-spec =
@@ -83,6 +84,7 @@ after-head-spec =
     read-vertices-requires
     enum-known-q
     enum-known-i
+    add-after-vertices
     after-vertices-requires
     same-length
     same-length-2
@@ -94,6 +96,4 @@ after-head-spec =
     same-length-7
     same-length-8
     same-length-9
-    same-length-10
-    same-length-11
     returns-2)

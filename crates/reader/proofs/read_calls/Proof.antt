@@ -16,7 +16,9 @@ abbrev μ-loop : tie.MeasureT-loop
 μ-loop s at n calls₀ operands₀ len i₀ c₀ used₀ calls operands i c used = length s - i
 
 loop-holds : tie.Need-loop-holds Inv-loop μ-loop
-loop-holds c = let a = c .before .before .before .args in calls-start (now (a .s)) (a .at) (a .n) (now (a .calls)) (now (a .operands)) (omega arith) (omega arith) (omega arith) (omega arith) (omega arith)
+loop-holds c =
+    let start = c .before .before .before in
+    let a = start .args in calls-start (now (a .s)) (a .at) (a .n) (now (a .calls)) (now (a .operands)) (omega arith) (omega arith) (omega arith) (omega arith) (omega arith)
 
 add-t17 : tie.Need-add-t17 Inv-loop μ-loop
 add-t17 c = omega arith
@@ -40,10 +42,14 @@ add-t18 : tie.Need-add-t18 Inv-loop μ-loop
 add-t18 c = omega arith
 
 same-length-3 : tie.Need-same-length-3 Inv-loop μ-loop
-same-length-3 c = c .before .before .before .before .loop .inv .same
+same-length-3 c =
+    let at-loop = c .before .before .before .before in
+    at-loop .loop .inv .same
 
 same-length-4 : tie.Need-same-length-4 Inv-loop μ-loop
-same-length-4 c = c .before .before .before .before .loop .inv .ops-same
+same-length-4 c =
+    let at-loop = c .before .before .before .before in
+    at-loop .loop .inv .ops-same
 
 returns-2 : tie.Need-returns-2 Inv-loop μ-loop
 returns-2 c =
@@ -62,17 +68,24 @@ add-t22 : tie.Need-add-t22 Inv-loop μ-loop
 add-t22 c = omega arith
 
 same-length-5 : tie.Need-same-length-5 Inv-loop μ-loop
-same-length-5 c = c .before .before .before .before .before .before .before .before .before .before .loop .inv .same
+same-length-5 c =
+    let at-loop = c .before .before .before .before .before .before .before .before .before .before in
+    at-loop .loop .inv .same
 
 same-length-6 : tie.Need-same-length-6 Inv-loop μ-loop
-same-length-6 c = c .before .before .before .before .call-line .ensures .len ∙ c .before .before .before .before .before .before .before .before .before .before .loop .inv .ops-same
+same-length-6 c =
+    let at-call-line = c .before .before .before .before in
+    let at-loop = at-call-line .before .before .before .before .before .before in
+    at-call-line .call-line .ensures .len ∙ at-loop .loop .inv .ops-same
 
 returns-3 : tie.Need-returns-3 Inv-loop μ-loop
 returns-3 c =
+    let at-call-line = c .before .before .before .before in
+    let at-line-end = at-call-line .before .before .before in
     let a = c .before .before .before .before .before .before .before .before .before .before .before .before .before .before .args in
     let l = c .before .before .before .before .before .before .before .before .before .before .loop in
-    let e = c .before .before .before .before .before .before .before .line-end in
-    let r = c .before .before .before .before .call-line in
+    let e = at-line-end .line-end in
+    let r = at-call-line .call-line in
     calls-bad (now (a .s)) (a .at) (a .n) (now (a .calls)) (now (a .operands)) (l .calls) (l .operands) (l .i) (l .c) (l .used) (l .inv) (omega arith) (e .result) (e .ensures) (omega arith) (omega arith) (r .result) _ (r .ensures) (c .enum-told .given .1)
 
 enum-known-k : tie.Need-enum-known-k Inv-loop μ-loop
@@ -116,10 +129,12 @@ loop-less c = omega arith
 
 loop-again : tie.Need-loop-again Inv-loop μ-loop
 loop-again c =
+    let at-call-line = c .before .before .before .before .before in
+    let at-line-end = at-call-line .before .before .before in
     let a = c .before .before .before .before .before .before .before .before .before .before .before .before .before .before .before .args in
     let l = c .before .before .before .before .before .before .before .before .before .before .before .loop in
-    let e = c .before .before .before .before .before .before .before .before .line-end in
-    let r = c .before .before .before .before .before .call-line in
+    let e = at-line-end .line-end in
+    let r = at-call-line .call-line in
     let k = c .before .k in
     calls-on (now (a .s)) (a .at) (a .n) (now (a .calls)) (now (a .operands)) (l .calls) (l .operands) (l .i) (l .c) (l .used) (l .inv) (omega arith) (e .result) (e .ensures) (omega arith) (omega arith) (r .result) _ (r .ensures) (k .given .0 .0) (k .given .0 .1 .0) (k .given .0 .1 .1 .0) (k .given .0 .1 .1 .1 .0) (k .given .1)
 

@@ -9,18 +9,15 @@ use Rattle.reader.proofs.read_nets.Statement.{statement}
 use Rattle.reader.proofs.read_nets.Tie as tie
 
 abbrev Inv-loop : tie.InvT-loop
-Inv-loop s at vertices nets costs₀ firsts₀ sizes₀ pins₀ stamps₀ len base i₀ j₀ m₀ costs firsts sizes pins stamps i j m = OnBuys s at vertices nets firsts₀ sizes₀ pins₀ costs firsts sizes pins stamps i j m
+Inv-loop s at last most vertices nets costs₀ firsts₀ sizes₀ pins₀ stamps₀ len i₀ j₀ m₀ costs firsts sizes pins stamps i j m = OnBuys last s at most vertices nets firsts₀ sizes₀ pins₀ costs firsts sizes pins stamps i j m
 
 abbrev μ-loop : tie.MeasureT-loop
-μ-loop s at vertices nets costs₀ firsts₀ sizes₀ pins₀ stamps₀ len base i₀ j₀ m₀ costs firsts sizes pins stamps i j m = nets - j
-
-add-base : tie.Need-add-base Inv-loop μ-loop
-add-base c = omega arith
+μ-loop s at last most vertices nets costs₀ firsts₀ sizes₀ pins₀ stamps₀ len i₀ j₀ m₀ costs firsts sizes pins stamps i j m = nets - j
 
 loop-holds : tie.Need-loop-holds Inv-loop μ-loop
 loop-holds c =
     let start = c .before .before .before .before in
-    let a = start .args in buys-start (now (a .s)) (a .at) (a .vertices) (a .nets) (now (a .netweights)) (now (a .firsts)) (now (a .loadedsizes)) (now (a .loadedpins)) (now (a .stamps)) (start .pre)
+    let a = start .args in buys-start (a .last) (now (a .s)) (a .at) (a .most) (a .vertices) (a .nets) (now (a .netweights)) (now (a .firsts)) (now (a .loadedsizes)) (now (a .loadedpins)) (now (a .stamps)) (start .pre .1)
 
 line-end-requires : tie.Need-line-end-requires Inv-loop μ-loop
 line-end-requires c κs = (omega arith, omega arith)
@@ -47,7 +44,7 @@ returns : tie.Need-returns Inv-loop μ-loop
 returns c =
     let at-loop = c .before .before .before in
     let start = at-loop .before .before .before .before .before in
-    let a = start .args in let l = at-loop .loop in buys-none (now (a .s)) (a .at) (a .vertices) (a .nets) (now (a .firsts)) (now (a .loadedsizes)) (now (a .loadedpins)) (l .netweights) (l .firsts) (l .loadedsizes) (l .loadedpins) (l .stamps) (l .i) (l .j) (l .m) (l .inv) (omega arith) (c .before .line-end .result) (c .before .line-end .ensures) (omega arith)
+    let a = start .args in let l = at-loop .loop in buys-none (a .last) (now (a .s)) (a .at) (a .most) (a .vertices) (a .nets) (now (a .firsts)) (now (a .loadedsizes)) (now (a .loadedpins)) (l .netweights) (l .firsts) (l .loadedsizes) (l .loadedpins) (l .stamps) (l .i) (l .j) (l .m) (l .inv) (omega arith) (c .before .line-end .result) (c .before .line-end .ensures) (omega arith)
 
 add-buy-line : tie.Need-add-buy-line Inv-loop μ-loop
 add-buy-line c = omega arith
@@ -64,8 +61,8 @@ buy-line-requires c κs =
 enum-known-q : tie.Need-enum-known-q Inv-loop μ-loop
 enum-known-q c = search needs
 
-add-t28 : tie.Need-add-t28 Inv-loop μ-loop
-add-t28 c = omega arith
+add-t22 : tie.Need-add-t22 Inv-loop μ-loop
+add-t22 c = omega arith
 
 same-length-4 : tie.Need-same-length-4 Inv-loop μ-loop
 same-length-4 c =
@@ -89,7 +86,7 @@ returns-2 c =
     let at-line-end = at-buy-line .before .before .before .before in
     let at-loop = at-line-end .before .before in
     let start = at-loop .before .before .before .before .before in
-    let a = start .args in let l = at-loop .loop in buys-stop (now (a .s)) (a .at) (a .vertices) (a .nets) (now (a .firsts)) (now (a .loadedsizes)) (now (a .loadedpins)) (l .netweights) (l .firsts) (l .loadedsizes) (l .loadedpins) (l .stamps) (l .i) (l .j) (l .m) (l .inv) (omega arith) (at-line-end .line-end .result) (at-line-end .line-end .ensures) (omega arith) (at-buy-line .buy-line .result) (at-buy-line .buy-line .last .1 .1 .1 .1 .1 .1 .0) (at-buy-line .buy-line .last .1 .1 .1 .1 .1 .1 .1 .0) (at-buy-line .buy-line .ensures) (c .before .q .given .0 .0) (c .before .q .given .1)
+    let a = start .args in let l = at-loop .loop in buys-stop (a .last) (now (a .s)) (a .at) (a .most) (a .vertices) (a .nets) (now (a .firsts)) (now (a .loadedsizes)) (now (a .loadedpins)) (l .netweights) (l .firsts) (l .loadedsizes) (l .loadedpins) (l .stamps) (l .i) (l .j) (l .m) (l .inv) (omega arith) (at-line-end .line-end .result) (at-line-end .line-end .ensures) (omega arith) (at-buy-line .buy-line .result) (at-buy-line .buy-line .last .1 .1 .1 .1 .1 .1 .1 .0) (at-buy-line .buy-line .last .1 .1 .1 .1 .1 .1 .1 .1 .0) (at-buy-line .buy-line .ensures) (c .before .q .given .0 .0) (c .before .q .given .1)
 
 enum-known-w : tie.Need-enum-known-w Inv-loop μ-loop
 enum-known-w c = search needs
@@ -103,7 +100,7 @@ element-write-netweights c = omega arith
 cast-firsts : tie.Need-cast-firsts Inv-loop μ-loop
 cast-firsts c =
     let at-loop = c .before .before .before .before .before .before .before .before .before .before .before in
-    omega (arith, at-loop .loop .inv .m-le)
+    omega (arith, at-loop .loop .inv .m-le, at-loop .loop .inv .most-le)
 
 mul-firsts : tie.Need-mul-firsts Inv-loop μ-loop
 mul-firsts c = omega arith
@@ -121,7 +118,8 @@ sub-loadedsizes c =
 cast-loadedsizes : tie.Need-cast-loadedsizes Inv-loop μ-loop
 cast-loadedsizes c =
     let at-buy-line = c .before .before .before .before .before in
-    omega (arith, (let g = at-buy-line .buy-line .ensures .next (c .before .w .given .0 .0) (c .before .w .given .0 .1 .0) (c .before .w .given .1) in g .f-le), (let g = at-buy-line .buy-line .ensures .next (c .before .w .given .0 .0) (c .before .w .given .0 .1 .0) (c .before .w .given .1) in g .m-le))
+    let at-loop = at-buy-line .before .before .before .before .before .before in
+    omega (arith, (let g = at-buy-line .buy-line .ensures .next (c .before .w .given .0 .0) (c .before .w .given .0 .1 .0) (c .before .w .given .1) in g .f-le), (let g = at-buy-line .buy-line .ensures .next (c .before .w .given .0 .0) (c .before .w .given .0 .1 .0) (c .before .w .given .1) in g .m-le), at-loop .loop .inv .most-le)
 
 mul-loadedsizes : tie.Need-mul-loadedsizes Inv-loop μ-loop
 mul-loadedsizes c = omega arith
@@ -146,7 +144,7 @@ loop-again c =
     let at-line-end = at-buy-line .before .before .before .before in
     let at-loop = at-line-end .before .before in
     let start = at-loop .before .before .before .before .before in
-    let a = start .args in let l = at-loop .loop in buys-on (now (a .s)) (a .at) (a .vertices) (a .nets) (now (a .firsts)) (now (a .loadedsizes)) (now (a .loadedpins)) (l .netweights) (l .firsts) (l .loadedsizes) (l .loadedpins) (l .stamps) (l .i) (l .j) (l .m) (l .inv) (omega arith) (at-line-end .line-end .result) (at-line-end .line-end .ensures) (omega arith) (at-buy-line .buy-line .result) (at-buy-line .buy-line .last .1 .1 .1 .1 .1 .1 .0) (at-buy-line .buy-line .last .1 .1 .1 .1 .1 .1 .1 .0) (at-buy-line .buy-line .ensures) (c .before .w .given .0 .0) (c .before .w .given .0 .1 .0) (c .before .w .given .1)
+    let a = start .args in let l = at-loop .loop in buys-on (a .last) (now (a .s)) (a .at) (a .most) (a .vertices) (a .nets) (now (a .firsts)) (now (a .loadedsizes)) (now (a .loadedpins)) (l .netweights) (l .firsts) (l .loadedsizes) (l .loadedpins) (l .stamps) (l .i) (l .j) (l .m) (l .inv) (omega arith) (at-line-end .line-end .result) (at-line-end .line-end .ensures) (omega arith) (at-buy-line .buy-line .result) (at-buy-line .buy-line .last .1 .1 .1 .1 .1 .1 .1 .0) (at-buy-line .buy-line .last .1 .1 .1 .1 .1 .1 .1 .1 .0) (at-buy-line .buy-line .ensures) (c .before .w .given .0 .0) (c .before .w .given .0 .1 .0) (c .before .w .given .1)
 
 same-length-7 : tie.Need-same-length-7 Inv-loop μ-loop
 same-length-7 c = c .before .loop .inv .f-same
@@ -160,7 +158,13 @@ same-length-9 c = c .before .loop .inv .m-same
 returns-3 : tie.Need-returns-3 Inv-loop μ-loop
 returns-3 c =
     let start = c .before .before .before .before .before .before in
-    let a = start .args in let l = c .before .loop in buys-done (now (a .s)) (a .at) (a .vertices) (a .nets) (now (a .firsts)) (now (a .loadedsizes)) (now (a .loadedpins)) (l .netweights) (l .firsts) (l .loadedsizes) (l .loadedpins) (l .stamps) (l .i) (l .j) (l .m) (l .inv) (omega arith)
+    let a = start .args in let l = c .before .loop in buys-done (a .last) (now (a .s)) (a .at) (a .most) (a .vertices) (a .nets) (now (a .firsts)) (now (a .loadedsizes)) (now (a .loadedpins)) (l .netweights) (l .firsts) (l .loadedsizes) (l .loadedpins) (l .stamps) (l .i) (l .j) (l .m) (l .inv) (omega arith)
+
+add-t29 : tie.Need-add-t29 Inv-loop μ-loop
+add-t29 c = omega arith
+
+add-t30 : tie.Need-add-t30 Inv-loop μ-loop
+add-t30 c = omega arith
 
 pub read-nets-spec : {M : Type 1} → statement M
 read-nets-spec =
@@ -168,10 +172,10 @@ read-nets-spec =
     (tie.spec
     Inv-loop
     μ-loop
-    add-base
     loop-holds
     line-end-requires
     add-t21
+    add-t22
     same-length
     same-length-2
     same-length-3
@@ -180,7 +184,8 @@ read-nets-spec =
     cast-buy-line
     buy-line-requires
     enum-known-q
-    add-t28
+    add-t29
+    add-t30
     same-length-4
     same-length-5
     same-length-6

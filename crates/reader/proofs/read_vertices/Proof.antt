@@ -8,21 +8,21 @@ use Rattle.reader.proofs.read_vertices.Statement.{statement}
 use Rattle.reader.proofs.read_vertices.Tie as tie
 
 abbrev Inv-loop : tie.InvT-loop
-Inv-loop s at vertices blocks estimated weights₀ draft₀ fixed₀ lows₀ len i₀ k₀ weights draft fixed lows i k = OnLots s at vertices blocks estimated weights₀ draft₀ fixed₀ weights draft fixed lows i k
+Inv-loop s at line vertices blocks estimated weights₀ draft₀ fixed₀ lows₀ len i₀ k₀ weights draft fixed lows i k = OnLots line s at vertices blocks estimated weights₀ draft₀ fixed₀ weights draft fixed lows i k
 
 abbrev μ-loop : tie.MeasureT-loop
-μ-loop s at vertices blocks estimated weights₀ draft₀ fixed₀ lows₀ len i₀ k₀ weights draft fixed lows i k = vertices - k
+μ-loop s at line vertices blocks estimated weights₀ draft₀ fixed₀ lows₀ len i₀ k₀ weights draft fixed lows i k = vertices - k
 
 loop-holds : tie.Need-loop-holds Inv-loop μ-loop
 loop-holds c =
     let start = c .before .before .before .before in
-    let a = start .args in lots-start (now (a .s)) (a .at) (a .vertices) (a .blocks) (a .estimated) (now (a .weights)) (now (a .draft)) (now (a .fixed)) (now (a .lows)) (omega arith) (omega arith) (omega arith) (start .pre .3) (start .pre .4) (start .pre .5) (start .pre .6)
+    let a = start .args in lots-start (a .line) (now (a .s)) (a .at) (a .vertices) (a .blocks) (a .estimated) (now (a .weights)) (now (a .draft)) (now (a .fixed)) (now (a .lows)) (omega arith) (omega arith) (omega arith) (start .pre .3) (start .pre .4) (start .pre .5) (start .pre .6)
 
 line-end-requires : tie.Need-line-end-requires Inv-loop μ-loop
 line-end-requires c κs = search needs
 
-add-t20 : tie.Need-add-t20 Inv-loop μ-loop
-add-t20 c = omega arith
+add-t21 : tie.Need-add-t21 Inv-loop μ-loop
+add-t21 c = omega arith
 
 same-length : tie.Need-same-length Inv-loop μ-loop
 same-length c =
@@ -43,7 +43,7 @@ returns : tie.Need-returns Inv-loop μ-loop
 returns c =
     let at-loop = c .before .before .before in
     let start = at-loop .before .before .before .before .before in
-    let a = start .args in let l = at-loop .loop in lots-none (now (a .s)) (a .at) (a .vertices) (a .blocks) (a .estimated) (now (a .weights)) (now (a .draft)) (now (a .fixed)) (l .weights) (l .draft) (l .fixed) (l .lows) (l .i) (l .k) (l .inv) (omega arith) (c .before .line-end .result) (c .before .line-end .ensures) (omega arith)
+    let a = start .args in let l = at-loop .loop in lots-none (a .line) (now (a .s)) (a .at) (a .vertices) (a .blocks) (a .estimated) (now (a .weights)) (now (a .draft)) (now (a .fixed)) (l .weights) (l .draft) (l .fixed) (l .lows) (l .i) (l .k) (l .inv) (omega arith) (c .before .line-end .result) (c .before .line-end .ensures) (omega arith)
 
 lot-line-requires : tie.Need-lot-line-requires Inv-loop μ-loop
 lot-line-requires c κs = search needs
@@ -75,7 +75,7 @@ returns-2 c =
     let at-line-end = at-lot-line .before .before in
     let at-loop = at-line-end .before .before in
     let start = at-loop .before .before .before .before .before in
-    let a = start .args in let l = at-loop .loop in lots-stop (now (a .s)) (a .at) (a .vertices) (a .blocks) (a .estimated) (now (a .weights)) (now (a .draft)) (now (a .fixed)) (l .weights) (l .draft) (l .fixed) (l .lows) (l .i) (l .k) (l .inv) (omega arith) (at-line-end .line-end .result) (at-line-end .line-end .ensures) (omega arith) (at-lot-line .lot-line .result) (at-lot-line .lot-line .ensures) (c .before .q .given .0 .0) (c .before .q .given .1)
+    let a = start .args in let l = at-loop .loop in lots-stop (a .line) (now (a .s)) (a .at) (a .vertices) (a .blocks) (a .estimated) (now (a .weights)) (now (a .draft)) (now (a .fixed)) (l .weights) (l .draft) (l .fixed) (l .lows) (l .i) (l .k) (l .inv) (omega arith) (at-line-end .line-end .result) (at-line-end .line-end .ensures) (omega arith) (at-lot-line .lot-line .result) (at-lot-line .lot-line .ensures) (c .before .q .given .0 .0) (c .before .q .given .1)
 
 enum-known-low : tie.Need-enum-known-low Inv-loop μ-loop
 enum-known-low c = search needs
@@ -122,7 +122,7 @@ loop-again c =
     let at-line-end = at-lot-line .before .before in
     let at-loop = at-line-end .before .before in
     let start = at-loop .before .before .before .before .before in
-    let a = start .args in let l = at-loop .loop in lots-on (now (a .s)) (a .at) (a .vertices) (a .blocks) (a .estimated) (now (a .weights)) (now (a .draft)) (now (a .fixed)) (l .weights) (l .draft) (l .fixed) (l .lows) (l .i) (l .k) (l .inv) (omega arith) (at-line-end .line-end .result) (at-line-end .line-end .ensures) (omega arith) (at-lot-line .lot-line .result) (at-lot-line .lot-line .ensures) (c .before .low .given .0 .0) (c .before .low .given .0 .1 .0) (c .before .low .given .0 .1 .1 .0) (c .before .low .given .0 .1 .1 .1 .0) (c .before .low .given .1)
+    let a = start .args in let l = at-loop .loop in lots-on (a .line) (now (a .s)) (a .at) (a .vertices) (a .blocks) (a .estimated) (now (a .weights)) (now (a .draft)) (now (a .fixed)) (l .weights) (l .draft) (l .fixed) (l .lows) (l .i) (l .k) (l .inv) (omega arith) (at-line-end .line-end .result) (at-line-end .line-end .ensures) (omega arith) (at-lot-line .lot-line .result) (at-lot-line .lot-line .ensures) (c .before .low .given .0 .0) (c .before .low .given .0 .1 .0) (c .before .low .given .0 .1 .1 .0) (c .before .low .given .0 .1 .1 .1 .0) (c .before .low .given .1)
 
 same-length-7 : tie.Need-same-length-7 Inv-loop μ-loop
 same-length-7 c = c .before .loop .inv .w-same
@@ -136,7 +136,13 @@ same-length-9 c = c .before .loop .inv .fx-same
 returns-3 : tie.Need-returns-3 Inv-loop μ-loop
 returns-3 c =
     let start = c .before .before .before .before .before .before in
-    let a = start .args in let l = c .before .loop in lots-done (now (a .s)) (a .at) (a .vertices) (a .blocks) (a .estimated) (now (a .weights)) (now (a .draft)) (now (a .fixed)) (l .weights) (l .draft) (l .fixed) (l .lows) (l .i) (l .k) (l .inv) (omega arith)
+    let a = start .args in let l = c .before .loop in lots-done (a .line) (now (a .s)) (a .at) (a .vertices) (a .blocks) (a .estimated) (now (a .weights)) (now (a .draft)) (now (a .fixed)) (l .weights) (l .draft) (l .fixed) (l .lows) (l .i) (l .k) (l .inv) (omega arith)
+
+add-t24 : tie.Need-add-t24 Inv-loop μ-loop
+add-t24 c = omega arith
+
+add-t25 : tie.Need-add-t25 Inv-loop μ-loop
+add-t25 c = omega arith
 
 pub read-vertices-spec : {M : Type 1} → statement M
 read-vertices-spec =
@@ -146,14 +152,16 @@ read-vertices-spec =
     μ-loop
     loop-holds
     line-end-requires
-    add-t20
+    add-t21
+    add-t22
     same-length
     same-length-2
     same-length-3
     returns
     lot-line-requires
     enum-known-q
-    add-t22
+    add-t24
+    add-t25
     same-length-4
     same-length-5
     same-length-6
