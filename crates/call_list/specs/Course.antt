@@ -18,6 +18,7 @@ use Rattle.model.specs.Memory.{Tables as MemoryTables}
 use Rattle.model.specs.Lent.{callsOf, Two}
 use Rattle.model.specs.ListEntry.{entriesTo}
 use Rattle.model.specs.Demand.{Accepted}
+use Rattle.guarantees.specs.Ranges.{Few}
 use Rattle.guarantees.specs.Reached.{turned-keeps}
 use Rattle.fields.specs.Wrote.{Wrote}
 use Rattle.fields.proofs.Laws.{wrote-none, wrote-length, wrote-append}
@@ -42,6 +43,7 @@ pub record Listed (calls operands : List ℕ) (count : ℕ) : Type 0 where
 pub record Begins (limits : Limits) (h : Hypergraph) (old : MemoryTables) (average lots : ℕ) (ceilings calls operands : List ℕ) (count room : ℕ) (p : Point) : Type 0 where
   pub narrow : limits .blockLimit ≤ 16
   pub short : limits .vertexLimit ≤ 1024
+  pub few : Few limits
   pub accepted : Accepted limits h
   pub goes : GoesOn limits (opened h) old p
   pub under : Under limits h average lots ceilings
@@ -119,7 +121,7 @@ module _ {limits : Limits} {h : Hypergraph} {old : MemoryTables} {average lots c
   asked-is = request-is operands letter x y (more .1 .next) stretch (ap₂ (callOf operands letter) qx qy ∙ more .1 .asked)
 
   line-fits : length (answers limits (opened h) before) + length (answerRow (turn limits here asked .answer)) ≤ 60000
-  line-fits = answer-fits (b .narrow) (b .short) (b .accepted) before asked (omega (arith, more .0, b .listed .count-le))
+  line-fits = answer-fits (b .narrow) (b .short) (b .few) (b .accepted) before asked (omega (arith, more .0, b .listed .count-le))
 
   out-length : length out ≡ length out₀
   out-length = wrote-length (d .wrote) (omega (arith, line-fits, b .spacious))

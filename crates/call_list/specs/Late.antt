@@ -18,7 +18,7 @@ use Rattle.model.specs.Report.{refusal, answerRow}
 use Rattle.model.specs.Memory.{Tables as MemoryTables, pastMarks}
 use Rattle.model.specs.Lent.{Two}
 use Rattle.laws.specs.Fold.{All}
-use Rattle.guarantees.specs.Reached.{Healthy, turned-keeps}
+use Rattle.guarantees.specs.Reached.{Valid, turned-keeps}
 use Rattle.index.specs.Indexed.{AllRight, kept-then, kept-wide}
 use Rattle.fixed.specs.Starting.{FixedMarked}
 use Rattle.connectivity.specs.Matrix.{KeptGains}
@@ -113,7 +113,7 @@ pub record Changes (limits : Limits) (t : Turn) (p p′ : Point) (no : ℕ) (x :
       → AllRight (p′ .stock .tables .gains) (p′ .stock .tables .blocks) (p′ .stock .tables .n) (p′ .stock .tables .k) (p′ .stock .index)
   pub marks : FixedMarked (p′ .stock .fixed) (p′ .stock .tables .n) (p′ .fixedmarks)
 
-goes-changed : {limits : Limits} {a : Sale} {old : MemoryTables} {p p′ : Point} {no : ℕ} {x : Answer} → GoesOn limits a old p → (q : ℕ) (done : Turn) → refusal (done .answer) ≡ 0 → done .sale .changed ≡ true
+pub goes-changed : {limits : Limits} {a : Sale} {old : MemoryTables} {p p′ : Point} {no : ℕ} {x : Answer} → GoesOn limits a old p → (q : ℕ) (done : Turn) → refusal (done .answer) ≡ 0 → done .sale .changed ≡ true
     → Changes limits (turned q a done) p p′ no x → GoesOn limits (turned q a done .sale) old p′
 goes-changed {limits} {a} {old} {p} {p′} {no} {x} g q done r c d = record {
   stands = subst (λ (S : Two). Stands limits (turned q a done .sale) S (p′ .stock)) (sym (d .same-stack)) (d .turns .stands);
@@ -191,15 +191,21 @@ lot-of (saysX t) = 0
 lot-of (saysN v t) = v
 lot-of (saysNO q) = 0
 
-pub lot-small : {limits : Limits} {a : Sale} {S : Two} {K : Stock} (no′ lot total bales session : ℕ) (buyers : List ℕ) → Healthy limits a → limits .vertexLimit ≤ 1024 → Turns limits (turn limits a (callN bales session buyers)) S K (told no′ (saysN lot total))
+-- whatever the number q of its refusal
+pub lot-told : {limits : Limits} {a : Sale} (no′ lot total bales session : ℕ) (buyers : List ℕ) (q : ℕ) → Valid limits a → limits .vertexLimit ≤ 1024 → told no′ (saysN lot total) ≡ turned q a (doesN a bales session buyers) .answer
     → no′ ≡ 0 → lot ≤ 1025
-unfolding turnUnder turned doesN lot-of
-lot-small {limits} {a} no′ lot total bales session buyers k few t z =
-    go (refusesN (spaceOf limits) (a .graph) (capacities (a .graph)) (a .state) bales session buyers) (told-none no′ (saysN lot total) z ∙ t .says)
+unfolding turned doesN lot-of
+lot-told {limits} {a} no′ lot total bales session buyers q k few t z = go q (told-none no′ (saysN lot total) z ∙ t)
   where
     go : (q : ℕ) → saysN lot total ≡ turned q a (doesN a bales session buyers) .answer → lot ≤ 1025
     go zero e = omega (arith, ap lot-of e, number-small (a .graph) (a .free) (omega (arith, k .ranges .vertices-high)) (k .free-in))
     go (suc q) e = omega (arith, ap lot-of e)
+
+pub lot-small : {limits : Limits} {a : Sale} {S : Two} {K : Stock} (no′ lot total bales session : ℕ) (buyers : List ℕ) → Valid limits a → limits .vertexLimit ≤ 1024 → Turns limits (turn limits a (callN bales session buyers)) S K (told no′ (saysN lot total))
+    → no′ ≡ 0 → lot ≤ 1025
+unfolding turnUnder
+lot-small {limits} {a} no′ lot total bales session buyers k few t z =
+    lot-told no′ lot total bales session buyers (refusesN (spaceOf limits) (a .graph) (capacities (a .graph)) (a .state) bales session buyers) k few (t .says) z
 
 -- what `call_add` is told of the sale
 pub asks-add : {limits : Limits} {a : Sale} {old : MemoryTables} {p : Point} {average lots : ℕ} {ceilings buyers : List ℕ} → GoesOn limits a old p → Under limits (a .graph) average lots ceilings
@@ -213,11 +219,14 @@ put-longer [] i x = omega arith
 put-longer (y ∷ l) zero x = omega arith
 put-longer (y ∷ l) (suc i) x = omega (arith, put-longer l i x)
 
+pub lots-turned : (limits : Limits) (a : Sale) (bales session : ℕ) (buyers : List ℕ) (q : ℕ) → vertices (a .graph) ≤ vertices (turned q a (doesN a bales session buyers) .sale .graph)
+unfolding doesN added changedAt
+lots-turned limits a bales session buyers q =
+    turned-keeps limits (λ b. vertices (a .graph) ≤ vertices (b .graph)) q a (doesN a bales session buyers) (omega arith) (λ q. put-longer (a .graph .weights) (numberFor (a .graph) (a .free) - 1) bales)
+
 lots-grow : (limits : Limits) (a : Sale) (bales session : ℕ) (buyers : List ℕ) → vertices (a .graph) ≤ vertices (turn limits a (callN bales session buyers) .sale .graph)
-unfolding turnUnder doesN added changedAt
-lots-grow limits a bales session buyers =
-    turned-keeps limits (λ b. vertices (a .graph) ≤ vertices (b .graph)) (refusesN (spaceOf limits) (a .graph) (capacities (a .graph)) (a .state) bales session buyers) a (doesN a bales session buyers) (omega arith)
-    (λ q. put-longer (a .graph .weights) (numberFor (a .graph) (a .free) - 1) bales)
+unfolding turnUnder
+lots-grow limits a bales session buyers = lots-turned limits a bales session buyers (refusesN (spaceOf limits) (a .graph) (capacities (a .graph)) (a .state) bales session buyers)
 
 pub added-lots : {limits : Limits} {a : Sale} {S S′ : Two} {K K′ : Stock} {x : Answer} (bales session : ℕ) (buyers : List ℕ) → Stands limits a S K → Turns limits (turn limits a (callN bales session buyers)) S′ K′ x → K .tables .n ≤ K′ .tables .n
 added-lots {limits} {a} bales session buyers w t = omega (arith, all-lots w, all-lots (t .stands), lots-grow limits a bales session buyers)

@@ -6,13 +6,13 @@ use mathlib.Core.Path.{_≡_, sym, ap, subst}
 use mathlib.Core.List.{List}
 use lib.ListN.{length, getD}
 use Rattle.model.specs.Catalogue.{Limits, capacities}
-use Rattle.model.specs.Machine.{Call, Answer}
+use Rattle.model.specs.Machine.{Call, Answer, State}
 use Rattle.model.specs.Sale.{Request, runs, Sale, ran, turnUnder, turn}
 use Rattle.model.specs.Report.{answerRow}
 use Rattle.model.specs.Memory.{Tables as MemoryTables}
 use Rattle.model.specs.Lent.{Two}
 use Rattle.index.specs.Indexed.{KeepsRight}
-use Rattle.operations.specs.Tables.{Tables}
+use Rattle.operations.specs.Tables.{Tables, Keeps}
 use Rattle.fields.specs.Wrote.{Wrote}
 use Rattle.edit_calls.specs.Called.{Called}
 use Rattle.search_calls.specs.Cycling.{ReadyA}
@@ -29,6 +29,22 @@ stretch-ends {a = a} {K = K} w e l =
     let u : e < length (a .graph .nets) = omega (arith, w .runs .sound .follows .says .all-nets) in
     omega (arith, w .stored .first-is e u, w .stored .size-is e u, stretch-fit (w .stored) e u, w .marks-are)
 
+-- the machine goes over to the state s: what stood for the sale stands for the sale in that state
+pub goes-kept : {limits : Limits} {a : Sale} {old : MemoryTables} {p : Point} {T′ : Tables} {index′ : List ℕ} {S′ J′ : Two} {s : State} → GoesOn limits a old p
+    → Stands limits (record { graph = a .graph; free = a .free; changed = a .changed; state = s }) S′ (stock T′ (p .stock .fixed) index′ (p .stock .pins) (p .stock .numbers) (p .stock .len) (p .stock .marks) J′)
+    → Keeps (p .stock .tables) T′ → T′ .n ≡ p .stock .tables .n → T′ .m ≡ p .stock .tables .m → T′ .k ≡ p .stock .tables .k → T′ .firsts ≡ p .stock .tables .firsts → T′ .loaded ≡ p .stock .tables .loaded
+    → KeepsRight (p .stock .tables .gains) (p .stock .tables .blocks) (T′ .gains) (T′ .blocks) (p .stock .tables .n) (p .stock .tables .k) (p .stock .index) index′
+    → GoesOn limits (record { graph = a .graph; free = a .free; changed = a .changed; state = s }) old
+    (record { stock = stock T′ (p .stock .fixed) index′ (p .stock .pins) (p .stock .numbers) (p .stock .len) (p .stock .marks) J′; stack = S′; fixedmarks = p .fixedmarks })
+goes-kept g stands keeps n m k f l w =
+    let u = unused-runs (g .unused) keeps (w .kept) f l (stretch-ends (g .stands)) in
+    record {
+      stands = stands;
+      marked = g .marked;
+      right = rw (n, k) (w .right (g .right));
+      unused = rw (n, m, k) u;
+    }
+
 goes-machine : {limits : Limits} {a : Sale} {old : MemoryTables} {p : Point} {T′ : Tables} {index′ : List ℕ} {S′ J′ : Two} {x : Answer} → GoesOn limits a old p → (c : Call)
     → Called (a .graph) (capacities (a .graph)) (p .stock .tables) T′ (p .stack) S′ (p .stock .journal) J′ c x → T′ .n ≡ p .stock .tables .n → T′ .m ≡ p .stock .tables .m → T′ .k ≡ p .stock .tables .k
     → T′ .firsts ≡ p .stock .tables .firsts → T′ .loaded ≡ p .stock .tables .loaded
@@ -37,14 +53,7 @@ goes-machine : {limits : Limits} {a : Sale} {old : MemoryTables} {p : Point} {T�
     → GoesOn limits (turn limits a (runs c) .sale) old
     (record { stock = stock T′ (p .stock .fixed) index′ (p .stock .pins) (p .stock .numbers) (p .stock .len) (p .stock .marks) J′; stack = S′; fixedmarks = p .fixedmarks })
 unfolding turnUnder ran
-goes-machine {limits} {a} {old} {p} g c d n m k f l w long =
-    let u = unused-runs (g .unused) (d .keeps (a .state) (g .stands .runs)) (w .kept) f l (stretch-ends (g .stands)) in
-    record {
-      stands = runs-turns (g .stands) c d n (sym f) (sym l) long .stands;
-      marked = g .marked;
-      right = rw (n, k) (w .right (g .right));
-      unused = rw (n, m, k) u;
-    }
+goes-machine {a = a} g c d n m k f l w long = goes-kept g (runs-turns (g .stands) c d n (sym f) (sym l) long .stands) (d .keeps (a .state) (g .stands .runs)) n m k f l w
 
 -- what `perform` needs
 pub can-perform : {average lots room at : ℕ} {ceilings : List ℕ} {c : Request} {p : Point} → CanStep average lots ceilings room at c p → ReadyA (p .stock .tables) (p .stack) (p .stock .journal) average (p .fixedmarks) × (16 * p .stock .tables .n ≤ length (p .stock .index))
@@ -54,7 +63,7 @@ can-perform {p = p} k = (
     average-is = k .under .average-is;
     fixed = k .goes .marked;
   },
-  omega (arith, k .goes .stands .long .index-long, all-lots (k .goes .stands), k .goes .stands .healthy .ranges .vertices-high),
+  omega (arith, k .goes .stands .long .index-long, all-lots (k .goes .stands), k .goes .stands .valid .ranges .vertices-high),
 )
 
 -- tables that are as long as they were have room

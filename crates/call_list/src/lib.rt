@@ -10,7 +10,7 @@ ghost use Rattle.call_list.specs.Asked.{lateAt, requestOf};
 ghost use Rattle.call_list.specs.Course.{Begins, CanRun, Done};
 
 pub mod course;
-mod stepping;
+pub mod stepping;
 
 use course::Course;
 use course::Frame;
@@ -19,28 +19,28 @@ use stepping::run_machine;
 use stepping::withdraw;
 
 // A number of a call as code works with it.
-fn wide(x: u32) -> usize
+pub fn wide(x: u32) -> usize
     ensures { λ r. ⌜ r ≡ x ⌝ }
 {
     x as usize
 }
 
 // The bales, the session and the buyers of an N whose numbers are `y` operands from `x` on.
-fn bales_of(operands: &[u32], x: usize) -> u32
+pub fn bales_of(operands: &[u32], x: usize) -> u32
     requires { ⌜ x < length (now operands) ⌝ }
     ensures { λ r. ⌜ r ≡ getD (now (operands .entry)) x 0 ⌝ }
 {
     operands[x]
 }
 
-fn session_of(operands: &[u32], x: usize) -> usize
+pub fn session_of(operands: &[u32], x: usize) -> usize
     requires { ⌜ x + 1 < length (now operands) ⌝ }
     ensures { λ r. ⌜ r ≡ getD (now (operands .entry)) (x + 1) 0 ⌝ }
 {
     wide(operands[x + 1])
 }
 
-fn buyers_of(operands: &[u32], x: usize, y: usize) -> &[u32]
+pub fn buyers_of(operands: &[u32], x: usize, y: usize) -> &[u32]
     requires { ⌜ (2 ≤ y) × (x + y ≤ length (now operands)) ⌝ }
     ensures { λ r. ⌜ now r ≡ take (y - 2) (drop (x + 2) (now (operands .entry))) ⌝ }
 {

@@ -191,7 +191,7 @@ pub fn withdraw(
 }
 
 // N's answer, by its refusal.
-fn added(no: u32, lot: usize, total: u32) -> Answer
+pub fn added(no: u32, lot: usize, total: u32) -> Answer
     requires { ⌜ (no ≡ 0 → lot ≤ 1025) ⌝ }
     ensures { λ r. ⌜ answerOf r ≡ told no (saysN lot total) ⌝ }
 {

@@ -20,7 +20,7 @@ use Rattle.guarantees.specs.Caps.{CeilingIs}
 use Rattle.guarantees.specs.Ranges.{Ranges}
 use Rattle.guarantees.specs.Changed.{vertices-same, vertices-more}
 use Rattle.guarantees.specs.Changes.{with-length}
-use Rattle.guarantees.specs.Reached.{Healthy, accepts-N, N-told, number-le}
+use Rattle.guarantees.specs.Reached.{Valid, accepts-N, N-told, number-le}
 use Rattle.levels.specs.Running.{netAt}
 use Rattle.operations.specs.Tables.{Tables, tables}
 use Rattle.edit_calls.specs.Steps.{told}
@@ -106,21 +106,21 @@ module _ {limits : Limits} {a : Sale} {S : Two} {K : Stock} (w : Stands limits a
   nets = netsWith v buyers 1 (h .nets)
 
   none : a .state .stack ≡ []
-  none = N-told limits a (w .healthy) bales session buyers q .0
+  none = N-told limits a (w .valid) bales session buyers q .0
 
   vl : 1 ≤ v
-  vl = N-told limits a (w .healthy) bales session buyers q .1
+  vl = N-told limits a (w .valid) bales session buyers q .1
 
   vu : v ≤ suc (vertices h)
-  vu = N-told limits a (w .healthy) bales session buyers q .2
+  vu = N-told limits a (w .valid) bales session buyers q .2
 
   there : v ≤ vertices (changedAt h p v bales session nets)
   unfolding doesN added
-  there = number-le limits a (w .healthy) bales session buyers q
+  there = number-le limits a (w .valid) bales session buyers q
 
   ranges : Ranges limits (changedAt h p v bales session nets)
   unfolding doesN added
-  ranges = accepts-N limits a (w .healthy) bales session buyers q .ranges
+  ranges = accepts-N limits a (w .valid) bales session buyers q .ranges
 
   -- the lot's place lies within the columns
   pub place-in : (1 ≤ x) × (x - 1 < length (T .weights)) × (x - 1 < length (T .blocks)) × (x - 1 < length (T .aboves)) × (x - 1 < length (K .fixed)) × (x - 1 < 1024)
@@ -132,7 +132,7 @@ module _ {limits : Limits} {a : Sale} {S : Two} {K : Stock} (w : Stands limits a
   seat-in =
       let t = cond-zero (not (leb 1 bales && leb bales 65535 && isBlock h session && all buyers (isNet h))) 9 _ (omega arith) q in
       let b = and-right (leb 1 bales && leb bales 65535) _ (and-left _ _ (not-false _ (t .0))) in
-      omega (arith, leb-true session (h .blocks) (and-right (leb 1 session) (leb session (h .blocks)) b), w .healthy .ranges .loaded .blocks-high, w .narrow)
+      omega (arith, leb-true session (h .blocks) (and-right (leb 1 session) (leb session (h .blocks)) b), w .valid .ranges .loaded .blocks-high, w .narrow)
 
   as-many : length nets ≡ length (h .nets)
   as-many = with-length v buyers 1 (h .nets)
@@ -149,7 +149,7 @@ module _ {limits : Limits} {a : Sale} {S : Two} {K : Stock} (w : Stands limits a
 
   module _ {named : List ℕ} (t : Named named buyers) where
     few-nets : length (h .nets) ≤ 1024
-    few-nets = w .healthy .ranges .nets-high
+    few-nets = w .valid .ranges .nets-high
 
     put-nets : {u : ℕ} → u ≡ v → putNets named u (h .nets) ≡ nets
     put-nets uv = ap (λ (y : ℕ). putNets named y (h .nets)) uv ∙ with-is v buyers named (h .nets) (λ e l. t .told e (omega (arith, few-nets)))
@@ -211,7 +211,7 @@ module _ {limits : Limits} {a : Sale} {S : Two} {K : Stock} (w : Stands limits a
           put-stands {numbers′} {len′} e l ej = record {
             narrow = w .narrow;
             short = w .short;
-            healthy = accepts-N limits a (w .healthy) bales session buyers q;
+            valid = accepts-N limits a (w .valid) bales session buyers q;
             runs = left-runs w none v bales session nets vl vu ranges there c (n-next n-is) stored total-all as-many costs (o .pins-len) r ej;
             stored = subst (λ (ns : List Net). Stored ns lp′ firsts′ loaded′) (sym (nets-left h p v bales session nets)) stored;
             fixed-is = left-fixed w none v bales session nets vl vu ranges there c (n-next n-is) stored total-all as-many costs (o .pins-len) r;
@@ -226,7 +226,7 @@ module _ {limits : Limits} {a : Sale} {S : Two} {K : Stock} (w : Stands limits a
 module _ {limits : Limits} {a : Sale} {S : Two} {ceiling : ℕ → ℕ} {joins : ℕ} {ceilings buyers : List ℕ} {lotRoom markRoom : ℕ} {K : Stock} (g : AskN limits a S ceiling joins ceilings buyers lotRoom markRoom K) where
   -- how many lots are there
   pub lots-are : (K .len ≤ K .tables .n) × (K .tables .n ≤ 1024) × (K .marks ≤ 8192)
-  lots-are = let w = g .stands in omega (arith, w .healthy .counted, all-lots w, free-length (K .numbers) (K .len), ap length (w .free-is), w .healthy .ranges .vertices-high, w .short, w .marks-are, marks-is (a .graph .nets), w .healthy .ranges .marks-high)
+  lots-are = let w = g .stands in omega (arith, w .valid .counted, all-lots w, free-length (K .numbers) (K .len), ap length (w .free-is), w .valid .ranges .vertices-high, w .short, w .marks-are, marks-is (a .graph .nets), w .valid .ranges .marks-high)
 
   abbrev space : Space
   space = record { lots = lotRoom; marks = markRoom }
@@ -237,7 +237,7 @@ module _ {limits : Limits} {a : Sale} {S : Two} {ceiling : ℕ → ℕ} {joins :
     same-no = let w = g .stands in
         r ∙ ap (λ (b : ℕ). refusalN (K .tables .loads) ceilings buyers (K .tables .m) (K .tables .k) joins lots lotRoom (K .marks) markRoom b session) wb
         ∙ refusalN-is (a .state) (w .runs .sound) ceiling ceilings buyers (g .ceiling-is) joins lots lotRoom (K .marks) markRoom bales session (g .joins-are ∙ joins-length w)
-        (omega (arith, ql, w .healthy .counted, all-lots w, free-length (K .numbers) (K .len), ap length (w .free-is))) (w .marks-are ∙ sym (marks-in (a .graph)))
+        (omega (arith, ql, w .valid .counted, all-lots w, free-length (K .numbers) (K .len), ap length (w .free-is))) (w .marks-are ∙ sym (marks-in (a .graph)))
 
     pub accepted-N : no ≡ 0 → refusesN (spaceOf limits) (a .graph) (capacities (a .graph)) (a .state) bales session buyers ≡ 0
     accepted-N z = wider-N limits (a .graph) (a .state) space ceiling bales session buyers (g .lots-low) (g .marks-low) (g .ceiling-low) (sym same-no ∙ z)

@@ -8,7 +8,7 @@ use Rattle.model.specs.Catalogue.{Limits, capacities}
 use Rattle.model.specs.Machine.{Call, Answer}
 use Rattle.model.specs.Sale.{runs, Sale, ran, turnUnder, turn}
 use Rattle.model.specs.Lent.{Two}
-use Rattle.guarantees.specs.Reached.{healthy-turn}
+use Rattle.guarantees.specs.Reached.{valid-turn}
 use Rattle.operations.specs.Tables.{Tables}
 use Rattle.edit_calls.specs.Called.{Called}
 use Rattle.renewal.specs.Nets.{Stored}
@@ -26,7 +26,7 @@ runs-turns {limits} {a} {K = K} {T′ = T′} w c d n f l long =
       stands = record {
         narrow = w .narrow;
         short = w .short;
-        healthy = healthy-turn limits a (w .healthy) (runs c);
+        valid = valid-turn limits a (w .valid) (runs c);
         runs = s .runs;
         stored = subst (λ (z : List ℕ). Stored (a .graph .nets) (K .pins) (T′ .firsts) z) l (subst (λ (y : List ℕ). Stored (a .graph .nets) (K .pins) y (K .tables .loaded)) f (w .stored));
         fixed-is = λ y q. w .fixed-is y (omega (arith, n));

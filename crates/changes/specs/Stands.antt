@@ -14,7 +14,7 @@ use Rattle.model.specs.Memory.{noNet, allPins}
 use Rattle.model.specs.Sale.{Sale, Turn, changedAt}
 use Rattle.model.specs.Lent.{Two}
 use Rattle.guarantees.specs.Ranges.{Ranges}
-use Rattle.guarantees.specs.Reached.{Healthy}
+use Rattle.guarantees.specs.Reached.{Valid}
 use Rattle.index.specs.Indexed.{TablesOk, Indexed}
 use Rattle.levels.specs.Running.{netAt}
 use Rattle.operations.specs.Pairs.{pairs-length}
@@ -49,7 +49,7 @@ stock T fixed index pins numbers len marks J = record { tables = T; fixed = fixe
 pub record Stands (limits : Limits) (a : Sale) (S : Two) (K : Stock) : Type 0 where
   pub narrow : limits .blockLimit ≤ 16
   pub short : limits .vertexLimit ≤ 1024
-  pub healthy : Healthy limits a
+  pub valid : Valid limits a
   pub runs : Runs (a .graph) (a .state) (K .tables) S (K .journal)
   pub stored : Stored (a .graph .nets) (K .pins) (K .tables .firsts) (K .tables .loaded)
   pub fixed-is : (x : ℕ) → x < K .tables .n → getD (K .fixed) x 0 ≡ fixedEntry (a .graph) (x + 1)
@@ -102,7 +102,7 @@ module _ {limits : Limits} {a : Sale} {S : Two} {K : Stock} (w : Stands limits a
   all-lots = w .runs .sound .follows .says .all-vertices
 
   pub marks-few : K .marks ≤ 8192
-  marks-few = omega (arith, w .marks-are, marks-is (h .nets), w .healthy .ranges .marks-high)
+  marks-few = omega (arith, w .marks-are, marks-is (h .nets), w .valid .ranges .marks-high)
 
   -- the tables hold the nets
   pub holding : Holding (K .pins) (T .firsts) (T .loaded) (T .m)
@@ -151,7 +151,7 @@ module _ {limits : Limits} {a : Sale} {S : Two} {K : Stock} (w : Stands limits a
         left-runs e = runs-fresh left-sound stack-empty e
 
         pub left-fixed : (x : ℕ) → x < n′ → getD fixed′ x 0 ≡ fixedEntry left (x + 1)
-        left-fixed x l = new-fixed sound-now v bales session nets vl vu c (omega (arith, there, r .vertices-high, w .long .fixed-long)) (w .healthy .ranges .loaded .fixed-long) (w .fixed-is) x (omega (arith, n-is))
+        left-fixed x l = new-fixed sound-now v bales session nets vl vu c (omega (arith, there, r .vertices-high, w .long .fixed-long)) (w .valid .ranges .loaded .fixed-long) (w .fixed-is) x (omega (arith, n-is))
 
         pub left-long : Long (limits .vertexLimit) T′ fixed′ index′ lp′
         left-long = let g = w .long in let o = t .reopened in record {

@@ -13,7 +13,7 @@ use Rattle.model.specs.Lent.{Two, two}
 use Rattle.guarantees.specs.Ranges.{Ranges}
 use Rattle.guarantees.specs.Changed.{vertices-same}
 use Rattle.guarantees.specs.Changes.{without-length}
-use Rattle.guarantees.specs.Reached.{Healthy, accepts-X, X-told}
+use Rattle.guarantees.specs.Reached.{Valid, accepts-X, X-told}
 use Rattle.levels.specs.Running.{netAt}
 use Rattle.operations.specs.Tables.{Tables, tables, Sound}
 use Rattle.edit_calls.specs.Steps.{Whole, Runs, told}
@@ -72,24 +72,24 @@ module _ {limits : Limits} {a : Sale} {S : Two} {K : Stock} (w : Stands limits a
   nets = netsWithout v (h .nets)
 
   none : a .state .stack ≡ []
-  none = X-told limits a (w .healthy) v q .0
+  none = X-told limits a (w .valid) v q .0
 
   vl : 1 ≤ v
-  vl = X-told limits a (w .healthy) v q .1
+  vl = X-told limits a (w .valid) v q .1
 
   vk : v ≤ vertices h
-  vk = X-told limits a (w .healthy) v q .2
+  vk = X-told limits a (w .valid) v q .2
 
   later : v ≤ suc (vertices h)
   later = omega (arith, vk)
 
   -- the lot's place lies within the columns
   pub lot-in : (1 ≤ v) × (v - 1 < length (T .weights)) × (v - 1 < length (T .blocks)) × (v - 1 < length (T .aboves)) × (v - 1 < length (K .fixed)) × (v - 1 < 1024)
-  lot-in = omega (arith, vl, vk, w .healthy .ranges .vertices-high, w .short, w .long .weights-long, w .long .blocks-long, w .long .aboves-long, w .long .fixed-long)
+  lot-in = omega (arith, vl, vk, w .valid .ranges .vertices-high, w .short, w .long .weights-long, w .long .blocks-long, w .long .aboves-long, w .long .fixed-long)
 
   ranges : Ranges limits (changedAt h p v 0 0 nets)
   unfolding doesX withdrawn
-  ranges = accepts-X limits a (w .healthy) v q .ranges
+  ranges = accepts-X limits a (w .valid) v q .ranges
 
   as-many : length nets ≡ length (h .nets)
   as-many = without-length v (h .nets)
@@ -137,7 +137,7 @@ module _ {limits : Limits} {a : Sale} {S : Two} {K : Stock} (w : Stands limits a
       take-stands {numbers′} {len′} e l short ej = record {
         narrow = w .narrow;
         short = w .short;
-        healthy = accepts-X limits a (w .healthy) v q;
+        valid = accepts-X limits a (w .valid) v q;
         runs = left-runs w none v 0 0 nets vl later ranges there c n-is stored total-is as-many costs (t .pins-len) o ej;
         stored = stored-now;
         fixed-is = left-fixed w none v 0 0 nets vl later ranges there c n-is stored total-is as-many costs (t .pins-len) o;

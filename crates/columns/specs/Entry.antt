@@ -15,6 +15,7 @@ use Rattle.model.specs.Grammar.{Reading, parse}
 use Rattle.model.specs.Engine.{outcome}
 use Rattle.model.specs.Memory.{Tables as Lent, Memory, longLists, longTables, longMemory, Worked, Served, Serves}
 use Rattle.model.specs.Lent.{Lists, lent, memory}
+use Rattle.lines.specs.Line.{Within}
 use Rattle.sale.specs.Files.{lotsKnown, Long}
 
 -- ---- the lots of a file
@@ -42,10 +43,10 @@ lists-of t q =
     let p = cut (leb 8192 (length (t .loadedPins))) 8192 (length (t .presentPins)) (f .0) in
     (leb-true 8192 (length (t .loadedPins)) (p .0), p .1, f .1, z .1, s .1)
 
-pub long-is : (limits : Limits) (out : List ℕ) (t : Lists) (counts : List ℕ) (gains : List ℤ) (index visited : List ℕ) {r : Bool} → limits .vertexLimit ≤ 1024 → limits .blockLimit ≤ 16
+pub long-is : (limits : Limits) (out : List ℕ) (t : Lists) (counts : List ℕ) (gains : List ℤ) (index visited : List ℕ) {r : Bool} → Within limits
     → r ≡ longMemory limits (memory out (lent t counts gains index visited)) → r ≡ true → Long limits out t counts gains index visited
 unfolding longMemory longTables
-long-is limits out t counts gains index visited short narrow e q =
+long-is limits out t counts gains index visited within e q =
     let m : Lent = lent t counts gains index visited in
     let n : ℕ = limits .vertexLimit in
     let vs : Bool = leb n (length (t .weights)) && leb n (length (t .blocks)) && leb n (length (t .aboves)) && leb n (length (t .fixed)) in
@@ -59,8 +60,7 @@ long-is limits out t counts gains index visited short narrow e q =
     let a = cut (leb n (length (t .weights)) && leb n (length (t .blocks))) n (length (t .aboves)) (x .0) in
     let b = cut (leb n (length (t .weights))) n (length (t .blocks)) (a .0) in
     record {
-      narrow = narrow;
-      short = short;
+      within = within;
       spacious = leb-true 60000 (length out) (and-left (leb 60000 (length out)) _ all);
       lists-long = record {
         weights = leb-true n (length (t .weights)) (b .0);

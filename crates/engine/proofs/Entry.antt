@@ -43,7 +43,7 @@ use denote.Triple.Walked.{says, Stay, Stays, walkOf, AllGo, Walks, ends-at, walk
 use denote.Exit.{Kept, left}
 use Rattle.records.specs.Over.{over}
 use Rattle.model.specs.Catalogue.{Limits}
-use Rattle.model.specs.Memory.{Serves}
+use Rattle.model.specs.Promises.{FileServes}
 use Rattle.model.specs.Lent.{others}
 use Rattle.records.specs.Lent.{lentRecords}
 use Rattle.records.specs.Entry.{Answers, served}
@@ -132,7 +132,7 @@ module _ {M : Type 1} (𝓤 : URA M) (limits : Limits) where
     ghost = Unit {0};
     requires = λ _. emp 𝓤;
     ensures = λ _ r z. fact 𝓤 (
-        Serves limits (a .0 .now)
+        FileServes limits (a .0 .now)
         (lentRecords (a .1 .1 .0 .now) (a .1 .0 .now) (others (a .1 .1 .1 .0 .now) (a .1 .1 .1 .1 .0 .now) (a .1 .1 .1 .1 .1 .0 .now) (a .1 .1 .1 .1 .1 .1 .0 .now) (a .1 .1 .1 .1 .1 .1 .1 .0 .now) (a .1 .1 .1 .1 .1 .1 .1 .1 .0 .now) (a .1 .1 .1 .1 .1 .1 .1 .1 .1 .0 .now) (a .1 .1 .1 .1 .1 .1 .1 .1 .1 .1 .0 .now) (a .1 .1 .1 .1 .1 .1 .1 .1 .1 .1 .1 .0 .now)))
         (lentRecords (z .1 .1 .0 .now) (z .1 .0 .now) (others (z .1 .1 .1 .0 .now) (z .1 .1 .1 .1 .0 .now) (z .1 .1 .1 .1 .1 .0 .now) (z .1 .1 .1 .1 .1 .1 .0 .now) (z .1 .1 .1 .1 .1 .1 .1 .0 .now) (z .1 .1 .1 .1 .1 .1 .1 .1 .0 .now) (z .1 .1 .1 .1 .1 .1 .1 .1 .1 .0 .now) (z .1 .1 .1 .1 .1 .1 .1 .1 .1 .1 .0 .now) (z .1 .1 .1 .1 .1 .1 .1 .1 .1 .1 .1 .0 .now)))
         (r .code) (r .written)

@@ -4,6 +4,7 @@ ghost use Rattle.model.specs.Catalogue.{mainLimits};
 ghost use Rattle.model.specs.Lent.{lists, lent, memory, two};
 ghost use Rattle.model.specs.ListEntry.{returned, Idle, ListServes};
 use lengths::is_long;
+use lines::Limits;
 use operations::pairs::LongJournal;
 use operations::pairs::LongStack;
 use sale_list::ListRan;
@@ -74,12 +75,17 @@ pub extern "C" fn kapokdrill_list(
     if no != 0 {
         return refused_list(no);
     }
+    let limits = Limits {
+        lots: 1024,
+        sessions: 16,
+        buyers: 1024,
+        marks: 8192,
+    };
     work_list(
         file,
         list,
         operands,
-        1024,
-        16,
+        limits,
         output,
         weights,
         blocks,

@@ -1,7 +1,7 @@
 // The entries that customers call: a sale file and lent memory, the lots as a lent slice of records. The engine works on four tables of its
 // own, and each lot's record is then written. The two differ in their limits alone. Rests on records.
 ghost use Rattle.model.specs.Catalogue.{mainLimits, fineLimits};
-ghost use Rattle.model.specs.Memory.{Serves};
+ghost use Rattle.model.specs.Promises.{FileServes};
 ghost use Rattle.model.specs.Lent.{others, inRecords};
 ghost use Rattle.records.specs.declared.Lot.{Lot};
 use records::Lot;
@@ -33,7 +33,7 @@ pub extern "C" fn kapokdrill_run(
     index: &mut [u16],
     visited: &mut [u16],
 ) -> Ran
-    ensures { λ r. ⌜ Serves mainLimits (now (file .entry)) (inRecords (λ (l : Lot). l .bales) (λ (l : Lot). l .session) (λ (l : Lot). l .above) (λ (l : Lot). l .kept) (now (output .entry)) (now (lots .entry)) (others (now (loadedpins .entry)) (now (presentpins .entry)) (now (firsts .entry)) (now (loadedsizes .entry)) (now (presentsizes .entry)) (now (counts .entry)) (now (gains .entry)) (now (index .entry)) (now (visited .entry)))) (inRecords (λ (l : Lot). l .bales) (λ (l : Lot). l .session) (λ (l : Lot). l .above) (λ (l : Lot). l .kept) (now (output .exit)) (now (lots .exit)) (others (now (loadedpins .exit)) (now (presentpins .exit)) (now (firsts .exit)) (now (loadedsizes .exit)) (now (presentsizes .exit)) (now (counts .exit)) (now (gains .exit)) (now (index .exit)) (now (visited .exit)))) (r .code) (r .written) ⌝ }
+    ensures { λ r. ⌜ FileServes mainLimits (now (file .entry)) (inRecords (λ (l : Lot). l .bales) (λ (l : Lot). l .session) (λ (l : Lot). l .above) (λ (l : Lot). l .kept) (now (output .entry)) (now (lots .entry)) (others (now (loadedpins .entry)) (now (presentpins .entry)) (now (firsts .entry)) (now (loadedsizes .entry)) (now (presentsizes .entry)) (now (counts .entry)) (now (gains .entry)) (now (index .entry)) (now (visited .entry)))) (inRecords (λ (l : Lot). l .bales) (λ (l : Lot). l .session) (λ (l : Lot). l .above) (λ (l : Lot). l .kept) (now (output .exit)) (now (lots .exit)) (others (now (loadedpins .exit)) (now (presentpins .exit)) (now (firsts .exit)) (now (loadedsizes .exit)) (now (presentsizes .exit)) (now (counts .exit)) (now (gains .exit)) (now (index .exit)) (now (visited .exit)))) (r .code) (r .written) ⌝ }
 {
     let answer = at_main(
         file,
@@ -74,7 +74,7 @@ pub extern "C" fn kapokdrill_run_fine(
     index: &mut [u16],
     visited: &mut [u16],
 ) -> Ran
-    ensures { λ r. ⌜ Serves fineLimits (now (file .entry)) (inRecords (λ (l : Lot). l .bales) (λ (l : Lot). l .session) (λ (l : Lot). l .above) (λ (l : Lot). l .kept) (now (output .entry)) (now (lots .entry)) (others (now (loadedpins .entry)) (now (presentpins .entry)) (now (firsts .entry)) (now (loadedsizes .entry)) (now (presentsizes .entry)) (now (counts .entry)) (now (gains .entry)) (now (index .entry)) (now (visited .entry)))) (inRecords (λ (l : Lot). l .bales) (λ (l : Lot). l .session) (λ (l : Lot). l .above) (λ (l : Lot). l .kept) (now (output .exit)) (now (lots .exit)) (others (now (loadedpins .exit)) (now (presentpins .exit)) (now (firsts .exit)) (now (loadedsizes .exit)) (now (presentsizes .exit)) (now (counts .exit)) (now (gains .exit)) (now (index .exit)) (now (visited .exit)))) (r .code) (r .written) ⌝ }
+    ensures { λ r. ⌜ FileServes fineLimits (now (file .entry)) (inRecords (λ (l : Lot). l .bales) (λ (l : Lot). l .session) (λ (l : Lot). l .above) (λ (l : Lot). l .kept) (now (output .entry)) (now (lots .entry)) (others (now (loadedpins .entry)) (now (presentpins .entry)) (now (firsts .entry)) (now (loadedsizes .entry)) (now (presentsizes .entry)) (now (counts .entry)) (now (gains .entry)) (now (index .entry)) (now (visited .entry)))) (inRecords (λ (l : Lot). l .bales) (λ (l : Lot). l .session) (λ (l : Lot). l .above) (λ (l : Lot). l .kept) (now (output .exit)) (now (lots .exit)) (others (now (loadedpins .exit)) (now (presentpins .exit)) (now (firsts .exit)) (now (loadedsizes .exit)) (now (presentsizes .exit)) (now (counts .exit)) (now (gains .exit)) (now (index .exit)) (now (visited .exit)))) (r .code) (r .written) ⌝ }
 {
     let answer = at_fine(
         file,

@@ -4,9 +4,9 @@ ghost use Rattle.model.specs.Catalogue.{Limits};
 ghost use Rattle.model.specs.Memory.{longMemory};
 ghost use Rattle.model.specs.Lent.{lists, lent, memory};
 
-// The output and all tables: those of the lots, the gains and the index go by the entry's limit of lots, vmax.
+// The output and all tables: those of the lots, the gains and the index go by the entry's limit of lots.
 pub fn is_long(
-    vmax: u32,
+    limit: u32,
     output: &[u8],
     weights: &[u32],
     blocks: &[u16],
@@ -22,10 +22,10 @@ pub fn is_long(
     index: &[u16],
     visited: &[u16],
 ) -> bool
-    ensures { λ r. ⌜ ((limits : Limits) → limits .vertexLimit ≡ vmax → r ≡ longMemory limits
+    ensures { λ r. ⌜ ((limits : Limits) → limits .vertexLimit ≡ limit → r ≡ longMemory limits
         (memory (now (output .entry)) (lent (lists (now (weights .entry)) (now (blocks .entry)) (now (aboves .entry)) (now (fixed .entry)) (now (loadedpins .entry)) (now (presentpins .entry)) (now (firsts .entry)) (now (loadedsizes .entry)) (now (presentsizes .entry))) (now (counts .entry)) (now (gains .entry)) (now (index .entry)) (now (visited .entry))))) ⌝ }
 {
-    let lots = vmax as usize;
+    let lots = limit as usize;
     if output.len() < 60000 {
         return false;
     }

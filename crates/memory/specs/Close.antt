@@ -13,6 +13,7 @@ use Rattle.model.specs.Report.{answerRow, closing}
 use Rattle.model.specs.Engine.{after, answers, draftTotal, run}
 use Rattle.model.specs.Lent.{Two}
 use Rattle.model.specs.Demand.{Accepted}
+use Rattle.guarantees.specs.Ranges.{Few}
 use Rattle.guarantees.specs.ReportFits.{report-fits}
 use Rattle.operations.specs.Tables.{Tables, tables, Sound}
 use Rattle.edit_calls.specs.Steps.{Runs}
@@ -55,16 +56,16 @@ module _ {counts visited pins sizes bits blocks weights aboves loads netWeights 
   }
 
 -- the answers to at most 512 calls and the closing report fit
-pub report-length : {limits : Limits} {h : Hypergraph} → limits .blockLimit ≤ 16 → limits .vertexLimit ≤ 1024 → Accepted limits h → (calls : List Request) → length calls ≤ 512
+pub report-length : {limits : Limits} {h : Hypergraph} → limits .blockLimit ≤ 16 → limits .vertexLimit ≤ 1024 → Few limits → Accepted limits h → (calls : List Request) → length calls ≤ 512
     → length (answers limits (opened h) calls) + length (closingOf h (after limits (opened h) calls)) ≤ 60000
-report-length {limits} {h} narrow short accepted calls few = omega (arith, run-length limits h calls, report-fits limits short narrow h accepted calls few)
+report-length {limits} {h} narrow short few accepted calls le = omega (arith, run-length limits h calls, report-fits limits short narrow few h accepted calls le)
 
 -- after the answers to fewer than 512 calls one answer more fits
-pub answer-fits : {limits : Limits} {h : Hypergraph} → limits .blockLimit ≤ 16 → limits .vertexLimit ≤ 1024 → Accepted limits h → (before : List Request) (c : Request) → length before < 512
+pub answer-fits : {limits : Limits} {h : Hypergraph} → limits .blockLimit ≤ 16 → limits .vertexLimit ≤ 1024 → Few limits → Accepted limits h → (before : List Request) (c : Request) → length before < 512
     → length (answers limits (opened h) before) + length (answerRow (turn limits (after limits (opened h) before) c .answer)) ≤ 60000
-answer-fits {limits} {h} narrow short accepted before c few = omega (
+answer-fits {limits} {h} narrow short few accepted before c le = omega (
   arith,
-  report-fits limits short narrow h accepted (before ++ (c ∷ [])) (omega (arith, length-append before (c ∷ []))),
+  report-fits limits short narrow few h accepted (before ++ (c ∷ [])) (omega (arith, length-append before (c ∷ []))),
   run-length limits h (before ++ (c ∷ [])),
   ap length (answers-more limits (opened h) before c),
   length-append (answers limits (opened h) before) (answerRow (turn limits (after limits (opened h) before) c .answer)),

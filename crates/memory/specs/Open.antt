@@ -1,5 +1,5 @@
--- What the loader promises of an accepted file is what opening needs: the tables of a catalogue before any call. Rests on loader's Tables, on opening's
--- Opening and on guarantees' laws of accepted catalogues. Assumes nothing.
+-- What the loader promises of an accepted catalogue, a sale's or one of a hall's, is what opening needs: the tables of a catalogue before any call. Rests on
+-- loader's Tables, on opening's Opening and on guarantees' laws of catalogues. Assumes nothing.
 use Prim.Native.Nat.{ℕ, suc, _+_, _*_, _-_, _/_, _%_, _<_, _≤_}
 use native.Mathlib.Decide.{decLt}
 use native.Mathlib.Numerals.{add-one}
@@ -17,13 +17,11 @@ use Rattle.laws.specs.Sum.{sumTo, sumTo-suc, sumTo-prefix}
 use Rattle.laws.specs.Occurrence.{occ, Distinct}
 use Rattle.model.specs.Catalogue.{Limits, Net, Hypergraph, vertices, fixedEntry, loaded, drafted}
 use Rattle.model.specs.Measure.{size}
-use Rattle.model.specs.Grammar.{Book, parse, reading}
 use Rattle.model.specs.Memory.{Filled, noNet, net, allPins, firstPlace}
-use Rattle.model.specs.Lent.{callsOf, Lists}
-use Rattle.model.specs.Demand.{Accepted as ModelAccepted}
+use Rattle.model.specs.Lent.{Lists}
 use Rattle.guarantees.specs.Clumps.{Within}
 use Rattle.guarantees.specs.Splits.{above-none, pin-none}
-use Rattle.guarantees.specs.Ranges.{Ranges, InBook, accepted-ranges, accepted-book}
+use Rattle.guarantees.specs.Ranges.{Few, Ranges}
 use Rattle.guarantees.specs.Stretches.{size-fresh, stretch-le, marks-le}
 use Rattle.incidence.specs.Word.{bit-of-zero}
 use Rattle.incidence.specs.On.{on-is}
@@ -31,10 +29,8 @@ use Rattle.fixed.specs.Starting.{FixedIs, FixedMarked}
 use Rattle.laws.specs.Rising.{Rising}
 use Rattle.pins.specs.Stack.{loadedPin}
 use Rattle.levels.specs.Running.{netAt}
-use Rattle.lines.specs.Line.{book}
-use Rattle.loader.specs.Tables.{LongLists, graph, Accepts, Loads}
+use Rattle.loader.specs.Tables.{LongLists, graph, Accepts}
 use Rattle.loader.specs.declared.Sizes.{Sizes}
-use Rattle.loader.specs.declared.Loaded.the-variants.{Accepted}
 use Rattle.loader.proofs.Fill.{filled-in}
 use Rattle.loader.proofs.Stretches.{nets-at}
 use Rattle.opening.specs.Opening.{Opens}
@@ -53,42 +49,29 @@ stretch-before h d e l =
     down : (n : ℕ) → suc n - 1 ≡ n
     down n = omega arith
 
-module _ {limits : Limits} {file : List ℕ} {z : Sizes} {old new : Lists} {nw lo calls ops : List ℕ} (narrow : limits .blockLimit ≤ 16) (short : limits .vertexLimit ≤ 1024)
-    (long : LongLists (limits .vertexLimit) old) (l : Loads limits file (Accepted z) old new nw lo calls ops) where
+module _ {limits : Limits} {z : Sizes} {old new : Lists} {nw lo : List ℕ} (narrow : limits .blockLimit ≤ 16) (short : limits .vertexLimit ≤ 1024) (few : Few limits)
+    (long : LongLists (limits .vertexLimit) old) (told : Accepts limits z old new nw lo) where
   abbrev h : Hypergraph
   h = graph z new nw lo
 
-  abbrev read : Book
-  read = book (l .estimated) (z .vertices) (z .nets) h (z .pins) (callsOf ops (z .calls) calls)
-
-  pub parsed-as : parse limits file ≡ reading read
-  parsed-as = sym (l .says)
-
-  told : Accepts limits z old new nw lo calls ops
-  told = l .accepts z refl
-
-  -- the catalogue is accepted
-  pub is-accepted : ModelAccepted limits h
-  is-accepted = record { file = file; book = read; loads = parsed-as; graph-is = refl }
-
-  in-book : InBook limits file read
-  in-book = accepted-book limits file read parsed-as
-
   ranges : Ranges limits h
-  ranges = accepted-ranges limits h is-accepted
+  ranges = told .ranges
 
   pub all-vertices : z .vertices ≡ vertices h
-  all-vertices = sym (in-book .vertices-are)
+  all-vertices = sym (told .vertices-are)
 
   pub all-nets : z .nets ≡ length (h .nets)
-  all-nets = sym (in-book .nets-are)
+  all-nets = sym (told .nets-are)
+
+  few-nets : z .nets ≤ 1024
+  few-nets = omega (arith, told .range .b-high, few .nets-few)
 
   net-number : (e : ℕ) → net h (suc e) ≡ netAt h e
   net-number e = let q : suc e - 1 ≡ e = omega arith in ap (λ (i : ℕ). getD (h .nets) i noNet) q
 
   -- ---- the entries in use
   net-entry : {value : ℕ → ℕ} {before now : List ℕ} → Filled 0 (λ i. ltb i (length (h .nets))) value before now → 1024 ≤ length before → (e : ℕ) → e < z .nets → getD now e 0 ≡ value e
-  net-entry {value} {before} {now} f fits e le = filled-in (length (h .nets)) value before now f e (omega (arith, all-nets)) (omega (arith, told .range .b-high))
+  net-entry {value} {before} {now} f fits e le = filled-in (length (h .nets)) value before now f e (omega (arith, all-nets)) (omega (arith, few-nets))
 
   first-at : (e : ℕ) → e < z .nets → getD (new .firsts) e 0 ≡ firstPlace h (suc e)
   first-at = net-entry (told .started .firsts) (long .firsts)
@@ -128,11 +111,11 @@ module _ {limits : Limits} {file : List ℕ} {z : Sizes} {old new : Lists} {nw l
     fit = record { limits = limits; narrow = narrow; short = short; ranges = ranges };
     made = record { listed = listed-at; rising = rising-at; all-vertices = all-vertices; all-nets = all-nets; all-blocks = refl; weighs = weight-at; sits = sits };
     room = record {
-      firsts-fit = omega (arith, told .range .b-high, long .firsts, told .started .firsts .as-long);
-      sizes-fit = omega (arith, told .range .b-high, long .presentSizes, told .started .presentSizes .as-long);
-      loaded-fit = omega (arith, told .range .b-high, long .loadedSizes, told .started .loadedSizes .as-long);
+      firsts-fit = omega (arith, few-nets, long .firsts, told .started .firsts .as-long);
+      sizes-fit = omega (arith, few-nets, long .presentSizes, told .started .presentSizes .as-long);
+      loaded-fit = omega (arith, few-nets, long .loadedSizes, told .started .loadedSizes .as-long);
       bits-fit = omega (arith, told .range .l-high);
-      few-nets = told .range .b-high;
+      few-nets = few-nets;
       few-vertices = omega (arith, told .range .l-high);
       pins-fit = λ e le. omega (
         arith,
@@ -149,12 +132,12 @@ module _ {limits : Limits} {file : List ℕ} {z : Sizes} {old new : Lists} {nw l
     bare = λ x e _ _. on-is bits x e ∙ bit-of-zero (getD bits (16 * x + e / 64) 0) (e % 64) (blank (16 * x + e / 64));
     weighs = weighs;
     frame = record {
-      counts-fit = omega (arith, told .range .b-high);
-      masks-fit = omega (arith, told .range .b-high);
+      counts-fit = omega (arith, few-nets);
+      masks-fit = omega (arith, few-nets);
       gains-fit = omega (arith, told .range .l-high);
-      weights-fit = omega (arith, told .range .b-high, told .costs);
+      weights-fit = omega (arith, few-nets, told .costs);
       few = omega (arith, told .range .k-high);
-      few-nets = told .range .b-high;
+      few-nets = few-nets;
       few-vertices = omega (arith, told .range .l-high);
       weight = λ e le. omega (arith, weight-at e le, all-get (h .nets) _ noNet (ranges .loaded .net-weights) e (omega (arith, all-nets)) .1);
     };
@@ -188,21 +171,21 @@ module _ {limits : Limits} {file : List ℕ} {z : Sizes} {old new : Lists} {nw l
     pins-are = ext-getD 0 (take marks (new .loadedPins)) (allPins (h .nets)) long-enough (λ i l. mark i (omega (arith, long-enough)));
     first-is = λ e l. first-at e (omega (arith, all-nets)) ∙ first-place h e (omega arith);
     size-is = λ e l. loaded-at e (omega (arith, all-nets)) ∙ ap (λ (n : Net). length (n .pins)) (net-number e);
-    firsts-fit = omega (arith, all-nets, told .range .b-high, long .firsts, told .started .firsts .as-long);
-    sizes-fit = omega (arith, all-nets, told .range .b-high, long .loadedSizes, told .started .loadedSizes .as-long);
+    firsts-fit = omega (arith, all-nets, few-nets, long .firsts, told .started .firsts .as-long);
+    sizes-fit = omega (arith, all-nets, few-nets, long .loadedSizes, told .started .loadedSizes .as-long);
   }
     where
       marks : ℕ
       marks = length (allPins (h .nets))
 
-      few : length (allPins (h .nets)) ≤ length (old .loadedPins)
-      few = omega (arith, marks-le limits h ranges, long .loadedPins)
+      in-table : length (allPins (h .nets)) ≤ length (old .loadedPins)
+      in-table = omega (arith, marks-le limits h ranges, long .loadedPins)
 
       long-enough : length (take marks (new .loadedPins)) ≡ length (allPins (h .nets))
-      long-enough = length-take-le marks (new .loadedPins) (omega (arith, few, told .started .loadedPins .as-long))
+      long-enough = length-take-le marks (new .loadedPins) (omega (arith, in-table, told .started .loadedPins .as-long))
 
       mark : (i : ℕ) → i < length (allPins (h .nets)) → getD (take marks (new .loadedPins)) i 0 ≡ getD (allPins (h .nets)) i 0
-      mark i l = getD-take marks (new .loadedPins) i 0 l ∙ filled-in (length (allPins (h .nets))) (λ i. getD (allPins (h .nets)) i 0) (old .loadedPins) (new .loadedPins) (told .started .loadedPins) i l (omega (arith, few))
+      mark i l = getD-take marks (new .loadedPins) i 0 l ∙ filled-in (length (allPins (h .nets))) (λ i. getD (allPins (h .nets)) i 0) (old .loadedPins) (new .loadedPins) (told .started .loadedPins) i l (omega (arith, in-table))
 
   pub fixed-at : (x : ℕ) → x < z .vertices → getD (new .fixed) x 0 ≡ fixedEntry h (x + 1)
   fixed-at x l = filled-in (vertices h) (λ i. fixedEntry h (suc i)) (old .fixed) (new .fixed) (told .started .fixed) x (omega (arith, all-vertices)) (omega (arith, told .range .l-high, long .fixed)) ∙ sym (ap (fixedEntry h) (add-one x))

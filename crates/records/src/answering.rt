@@ -1,11 +1,11 @@
 // The engine on four tables of its own for the lots, and the records that are then to be written.
-ghost use Prim.Native.Nat.{_≤_};
 ghost use Rattle.model.specs.Lent.{others};
-ghost use Rattle.lines.specs.Line.{limitsOf};
+ghost use Rattle.lines.specs.Line.{limitsOf, Within};
 ghost use Rattle.records.specs.Entry.{Answers};
 use crate::Lot;
 use crate::gather;
 use columns::serve;
+use lines::Limits;
 
 // The engine's answer, and the records of the first n lots: those to write.
 pub struct Answer {
@@ -15,11 +15,10 @@ pub struct Answer {
     pub written: usize,
 }
 
-// The engine on tables of its own for the lots, at an entry's limits of vmax lots and bmax sessions. It is told how many records there is space for.
+// The engine on tables of its own for the lots, at an entry's limits. It is told how many records there is space for.
 pub fn core(
     file: &[u8],
-    vmax: u32,
-    bmax: u32,
+    limits: Limits,
     room: usize,
     output: &mut [u8],
     loadedpins: &mut [u16],
@@ -32,10 +31,10 @@ pub fn core(
     index: &mut [u16],
     visited: &mut [u16],
 ) -> Answer
-    requires { ⌜ (vmax ≤ 1024) × (bmax ≤ 16) ⌝ }
-    ensures { λ r. ⌜ Answers (limitsOf vmax bmax) (now (file .entry)) room (now (output .entry)) (others (now (loadedpins .entry)) (now (presentpins .entry)) (now (firsts .entry)) (now (loadedsizes .entry)) (now (presentsizes .entry)) (now (counts .entry)) (now (gains .entry)) (now (index .entry)) (now (visited .entry))) (now (output .exit)) (others (now (loadedpins .exit)) (now (presentpins .exit)) (now (firsts .exit)) (now (loadedsizes .exit)) (now (presentsizes .exit)) (now (counts .exit)) (now (gains .exit)) (now (index .exit)) (now (visited .exit))) r ⌝ }
+    requires { ⌜ Within (limitsOf limits) ⌝ }
+    ensures { λ r. ⌜ Answers (limitsOf limits) (now (file .entry)) room (now (output .entry)) (others (now (loadedpins .entry)) (now (presentpins .entry)) (now (firsts .entry)) (now (loadedsizes .entry)) (now (presentsizes .entry)) (now (counts .entry)) (now (gains .entry)) (now (index .entry)) (now (visited .entry))) (now (output .exit)) (others (now (loadedpins .exit)) (now (presentpins .exit)) (now (firsts .exit)) (now (loadedsizes .exit)) (now (presentsizes .exit)) (now (counts .exit)) (now (gains .exit)) (now (index .exit)) (now (visited .exit))) r ⌝ }
 {
-    let least = vmax as usize;
+    let least = limits.lots as usize;
     if room < least {
         let blank = Lot {
             bales: 0,
@@ -57,8 +56,7 @@ pub fn core(
     let mut fixed = [0u16; 1024];
     let served = serve(
         file,
-        vmax,
-        bmax,
+        limits,
         output,
         &mut weights,
         &mut blocks,

@@ -4,8 +4,9 @@ ghost use Rattle.model.specs.Lent.{others};
 ghost use Rattle.records.specs.Entry.{Answers};
 use crate::answering::Answer;
 use crate::answering::core;
+use lines::Limits;
 
-// The main entry's: 1,024 lots, 16 sessions.
+// The main entry's: 1,024 lots, 16 sessions, 1,024 buyers, 8,192 marks.
 pub fn at_main(
     file: &[u8],
     room: usize,
@@ -22,10 +23,15 @@ pub fn at_main(
 ) -> Answer
     ensures { λ r. ⌜ Answers mainLimits (now (file .entry)) room (now (output .entry)) (others (now (loadedpins .entry)) (now (presentpins .entry)) (now (firsts .entry)) (now (loadedsizes .entry)) (now (presentsizes .entry)) (now (counts .entry)) (now (gains .entry)) (now (index .entry)) (now (visited .entry))) (now (output .exit)) (others (now (loadedpins .exit)) (now (presentpins .exit)) (now (firsts .exit)) (now (loadedsizes .exit)) (now (presentsizes .exit)) (now (counts .exit)) (now (gains .exit)) (now (index .exit)) (now (visited .exit))) r ⌝ }
 {
+    let limits = Limits {
+        lots: 1024,
+        sessions: 16,
+        buyers: 1024,
+        marks: 8192,
+    };
     core(
         file,
-        1024,
-        16,
+        limits,
         room,
         output,
         loadedpins,
@@ -40,7 +46,7 @@ pub fn at_main(
     )
 }
 
-// The superfine desk's: 256 lots, 8 sessions.
+// The superfine desk's: 256 lots, 8 sessions, 1,024 buyers, 8,192 marks.
 pub fn at_fine(
     file: &[u8],
     room: usize,
@@ -57,10 +63,15 @@ pub fn at_fine(
 ) -> Answer
     ensures { λ r. ⌜ Answers fineLimits (now (file .entry)) room (now (output .entry)) (others (now (loadedpins .entry)) (now (presentpins .entry)) (now (firsts .entry)) (now (loadedsizes .entry)) (now (presentsizes .entry)) (now (counts .entry)) (now (gains .entry)) (now (index .entry)) (now (visited .entry))) (now (output .exit)) (others (now (loadedpins .exit)) (now (presentpins .exit)) (now (firsts .exit)) (now (loadedsizes .exit)) (now (presentsizes .exit)) (now (counts .exit)) (now (gains .exit)) (now (index .exit)) (now (visited .exit))) r ⌝ }
 {
+    let limits = Limits {
+        lots: 256,
+        sessions: 8,
+        buyers: 1024,
+        marks: 8192,
+    };
     core(
         file,
-        256,
-        8,
+        limits,
         room,
         output,
         loadedpins,

@@ -13,7 +13,10 @@ use Rattle.model.specs.Sale.{opened}
 use Rattle.model.specs.Engine.{after, outcome, engine}
 use Rattle.model.specs.Memory.{Tables as Lent, Memory, Worked}
 use Rattle.model.specs.Lent.{callsOf, Lists, lent, memory}
+use Rattle.model.specs.Demand.{Accepted as ModelAccepted}
+use Rattle.guarantees.specs.Reached.{reached}
 use Rattle.guarantees.specs.Refusals.{refused-in, engine-fits}
+use Rattle.lines.specs.Line.{Within}
 use Rattle.loader.specs.declared.Sizes.{Sizes}
 use Rattle.loader.specs.declared.Loaded.{Loaded}
 use Rattle.loader.specs.declared.Loaded.the-variants.{Accepted, Refused}
@@ -32,8 +35,7 @@ lotsKnown limits unread = 0
 
 -- ---- lengths
 pub record Long (limits : Limits) (out : List ℕ) (t : Lists) (counts : List ℕ) (gains : List ℤ) (index visited : List ℕ) : Type 0 where
-  pub narrow : limits .blockLimit ≤ 16
-  pub short : limits .vertexLimit ≤ 1024
+  pub within : Within limits
   pub spacious : 60000 ≤ length out
   pub lists-long : LongLists (limits .vertexLimit) t
   pub counts-long : 16384 ≤ length counts
@@ -44,29 +46,36 @@ pub record Long (limits : Limits) (out : List ℕ) (t : Lists) (counts : List �
 module _ {limits : Limits} {file out : List ℕ} {old new : Lists} {nw lo calls ops counts : List ℕ} {gains : List ℤ} {index visited : List ℕ} (g : Long limits out old counts gains index visited) where
   -- ---- the two answers of the loader
   module _ {r : Loaded} (l : Loads limits file r old new nw lo calls ops) where
-    module _ {z : Sizes} (e : r ≡ Accepted z) where
-      here : Loads limits file (Accepted z) old new nw lo calls ops
+    module _ {z : Sizes} {count : ℕ} (e : r ≡ Accepted z count) where
+      here : Loads limits file (Accepted z count) old new nw lo calls ops
       here = subst (λ (x : Loaded). Loads limits file x old new nw lo calls ops) e l
 
-      pub catalogued : Catalogued limits file (limits .vertexLimit) z old new nw lo counts gains index visited
+      accepted : ModelAccepted limits (graph z new nw lo)
+      accepted = record { file = file; book = _; loads = sym (here .says); graph-is = refl }
+
+      pub catalogued : Catalogued limits (limits .vertexLimit) z old new nw lo counts gains index visited
+      unfolding after
       catalogued = record {
-        narrow = g .narrow;
-        short = g .short;
+        prepared = record {
+          narrow = g .within .sessions-few;
+          short = g .within .lots-few;
+          few = g .within .few;
+          long = g .lists-long;
+          counts-long = g .counts-long;
+          gains-long = g .gains-long;
+          index-long = g .index-long;
+          visited-long = g .visited-long;
+          accepts = here .accepts z count refl;
+          valid = reached limits (g .within .few) _ accepted [];
+        };
         lots-are = refl;
-        long = g .lists-long;
-        counts-long = g .counts-long;
-        gains-long = g .gains-long;
-        index-long = g .index-long;
-        visited-long = g .visited-long;
-        fileCalls = calls;
-        fileOperands = ops;
-        loads = here;
+        accepted = accepted;
       }
 
-      pub listed : 1536 ≤ length calls → Listed calls ops (z .calls)
-      listed q = let a = here .accepts z refl in record { count-le = a .calls-le; known = a .known; entries = a .entries; calls-fit = omega (arith, a .calls-le) }
+      pub listed : 1536 ≤ length calls → Listed calls ops count
+      listed q = let a = here .calls-known z count refl in record { count-le = a .calls-le; known = a .known; entries = a .entries; calls-fit = omega (arith, a .calls-le) }
 
-      module _ {new′ : Lent} {out′ : List ℕ} {bytes n : ℕ} (p : Reported limits (graph z new nw lo) (callsOf ops (z .calls) calls) (lent old counts gains index visited) new′ out out′ bytes n) where
+      module _ {new′ : Lent} {out′ : List ℕ} {bytes n : ℕ} (p : Reported limits (graph z new nw lo) (callsOf ops count calls) (lent old counts gains index visited) new′ out out′ bytes n) where
         pub worked : Worked limits (parse limits file) (memory out (lent old counts gains index visited)) (memory out′ new′) 0 bytes
         unfolding outcome
         worked = subst (λ (x : Reading). Worked limits x (memory out (lent old counts gains index visited)) (memory out′ new′) 0 bytes) (here .says) (record { code-is = refl; output = p .output; tables = p .tables })
@@ -86,7 +95,7 @@ module _ {limits : Limits} {file out : List ℕ} {old new : Lists} {nw lo calls 
 
       pub line-fits : length (row "NO" (digits q ∷ digits n ∷ [])) ≤ 60000
       unfolding engine outcome
-      line-fits = omega (arith, engine-fits limits (g .short) (g .narrow) file, ap (λ (x : Reading). length (outcome limits x .report)) stops)
+      line-fits = omega (arith, engine-fits limits (g .within .lots-few) (g .within .sessions-few) (g .within .few) file, ap (λ (x : Reading). length (outcome limits x .report)) stops)
 
       pub turned-down : {new′ : Lent} {out′ : List ℕ} {code bytes : ℕ} → code ≡ q → Wrote out out′ 0 (row "NO" (digits q ∷ digits n ∷ [])) bytes
           → Worked limits (parse limits file) (memory out (lent old counts gains index visited)) (memory out′ new′) code bytes

@@ -29,7 +29,7 @@ pub struct Closed {
     pub n: usize,
 }
 
-// Runs the file's calls and writes their answers and the closing report.
+// Runs a file's `count` calls and writes their answers and the closing report.
 pub fn report_sale(
     output: &mut [u8],
     weights: &mut [u32],
@@ -48,23 +48,23 @@ pub fn report_sale(
     netweights: &[u16],
     calls: &[u32],
     operands: &[u32],
-    vmax: u32,
+    count: usize,
+    lots: u32,
     z: Sizes,
 ) -> Closed
-    requires { ⌜ CanSell vmax z
+    requires { ⌜ CanSell lots z
         (lists (now weights) (now blocks) (now aboves) (now fixed) (now loadedpins) (now presentpins) (now firsts) (now loadedsizes) (now presentsizes))
-        (now netweights) (now counts) (now gains) (now index) (now visited) (now calls) (now operands) (z .calls) (now output) ⌝ }
-    ensures { λ r. ⌜ ((limits : Limits) (file lows : List ℕ) (old : Lists) → Catalogued limits file vmax z old
+        (now netweights) (now counts) (now gains) (now index) (now visited) (now calls) (now operands) count (now output) ⌝ }
+    ensures { λ r. ⌜ ((limits : Limits) (lows : List ℕ) (old : Lists) → Catalogued limits lots z old
         (lists (now (weights .entry)) (now (blocks .entry)) (now (aboves .entry)) (now (fixed .entry)) (now (loadedpins .entry)) (now (presentpins .entry)) (now (firsts .entry)) (now (loadedsizes .entry)) (now (presentsizes .entry)))
-        (now (netweights .entry)) lows (now (counts .entry)) (now (gains .entry)) (now (index .entry)) (now (visited .entry)) → Listed (now (calls .entry)) (now (operands .entry)) (z .calls) → 60000 ≤ length (now (output .entry))
+        (now (netweights .entry)) lows (now (counts .entry)) (now (gains .entry)) (now (index .entry)) (now (visited .entry)) → Listed (now (calls .entry)) (now (operands .entry)) count → 60000 ≤ length (now (output .entry))
         → Reported limits (graph z
         (lists (now (weights .entry)) (now (blocks .entry)) (now (aboves .entry)) (now (fixed .entry)) (now (loadedpins .entry)) (now (presentpins .entry)) (now (firsts .entry)) (now (loadedsizes .entry)) (now (presentsizes .entry)))
-        (now (netweights .entry)) lows) (callsOf (now (operands .entry)) (z .calls) (now (calls .entry))) (lent old (now (counts .entry)) (now (gains .entry)) (now (index .entry)) (now (visited .entry)))
+        (now (netweights .entry)) lows) (callsOf (now (operands .entry)) count (now (calls .entry))) (lent old (now (counts .entry)) (now (gains .entry)) (now (index .entry)) (now (visited .entry)))
         (lent (lists (now (weights .exit)) (now (blocks .exit)) (now (aboves .exit)) (now (fixed .exit)) (now (loadedpins .exit)) (now (presentpins .exit)) (now (firsts .exit)) (now (loadedsizes .exit)) (now (presentsizes .exit))) (now (counts .exit)) (now (gains .exit)) (now (index .exit)) (now (visited .exit)))
         (now (output .entry)) (now (output .exit)) (r .at) (r .n)) ⌝ }
 {
     let m = z.nets as usize;
-    let count = z.calls;
     let s = sell(
         output,
         weights,
@@ -84,7 +84,7 @@ pub fn report_sale(
         calls,
         operands,
         count,
-        vmax,
+        lots,
         z,
     );
     let stack = s.stack;

@@ -29,7 +29,7 @@ pub struct Sale {
     pub at: usize,
 }
 
-// The first `count` call lines of a table, three numbers each, with their operands, on tables as loading left them at an entry of `vmax` vertices.
+// The first `count` call lines of a table, three numbers each, with their operands, on tables as loading left them at an entry of so many lots.
 pub fn sell(
     output: &mut [u8],
     weights: &mut [u32],
@@ -49,13 +49,13 @@ pub fn sell(
     calls: &[u32],
     operands: &[u32],
     count: usize,
-    vmax: u32,
+    lots: u32,
     z: Sizes,
 ) -> Sale
-    requires { ⌜ CanSell vmax z
+    requires { ⌜ CanSell lots z
         (lists (now weights) (now blocks) (now aboves) (now fixed) (now loadedpins) (now presentpins) (now firsts) (now loadedsizes) (now presentsizes))
         (now netweights) (now counts) (now gains) (now index) (now visited) (now calls) (now operands) count (now output) ⌝ }
-    ensures { λ r. ⌜ ((limits : Limits) (file lows : List ℕ) (old : Lists) → Catalogued limits file vmax z old
+    ensures { λ r. ⌜ ((limits : Limits) (lows : List ℕ) (old : Lists) → Catalogued limits lots z old
         (lists (now (weights .entry)) (now (blocks .entry)) (now (aboves .entry)) (now (fixed .entry)) (now (loadedpins .entry)) (now (presentpins .entry)) (now (firsts .entry)) (now (loadedsizes .entry)) (now (presentsizes .entry)))
         (now (netweights .entry)) lows (now (counts .entry)) (now (gains .entry)) (now (index .entry)) (now (visited .entry)) → Listed (now (calls .entry)) (now (operands .entry)) count → 60000 ≤ length (now (output .entry))
         → Sold limits (graph z
@@ -93,7 +93,7 @@ pub fn sell(
         m: m,
         k: k,
         average: z.average as u64,
-        lots: vmax as usize,
+        lots: lots as usize,
     };
     let course = run_calls(
         output,

@@ -5,6 +5,7 @@ ghost use Rattle.model.specs.Memory.{Worked};
 ghost use Rattle.model.specs.Lent.{lists, lent, memory};
 ghost use Rattle.lines.specs.Line.{limitsOf};
 ghost use Rattle.sale.specs.Files.{lotsKnown, Long};
+use lines::Limits;
 use loader::Loaded;
 use sale::closing::refuse;
 use sale::closing::report_sale;
@@ -16,11 +17,10 @@ pub struct Served {
     pub lots: usize,
 }
 
-// The file, in memory that is long enough for an entry whose limits are vmax lots and bmax sessions.
+// The file, in memory that is long enough for an entry of these limits.
 pub fn work_file(
     file: &[u8],
-    vmax: u32,
-    bmax: u32,
+    limits: Limits,
     output: &mut [u8],
     weights: &mut [u32],
     blocks: &mut [u16],
@@ -36,13 +36,13 @@ pub fn work_file(
     index: &mut [u16],
     visited: &mut [u16],
 ) -> Served
-    requires { ⌜ Long (limitsOf vmax bmax) (now output)
+    requires { ⌜ Long (limitsOf limits) (now output)
         (lists (now weights) (now blocks) (now aboves) (now fixed) (now loadedpins) (now presentpins) (now firsts) (now loadedsizes) (now presentsizes))
         (now counts) (now gains) (now index) (now visited) ⌝ }
-    ensures { λ r. ⌜ Worked (limitsOf vmax bmax) (parse (limitsOf vmax bmax) (now (file .entry)))
+    ensures { λ r. ⌜ Worked (limitsOf limits) (parse (limitsOf limits) (now (file .entry)))
         (memory (now (output .entry)) (lent (lists (now (weights .entry)) (now (blocks .entry)) (now (aboves .entry)) (now (fixed .entry)) (now (loadedpins .entry)) (now (presentpins .entry)) (now (firsts .entry)) (now (loadedsizes .entry)) (now (presentsizes .entry))) (now (counts .entry)) (now (gains .entry)) (now (index .entry)) (now (visited .entry))))
         (memory (now (output .exit)) (lent (lists (now (weights .exit)) (now (blocks .exit)) (now (aboves .exit)) (now (fixed .exit)) (now (loadedpins .exit)) (now (presentpins .exit)) (now (firsts .exit)) (now (loadedsizes .exit)) (now (presentsizes .exit))) (now (counts .exit)) (now (gains .exit)) (now (index .exit)) (now (visited .exit))))
-        (r .code) (r .written) × (r .lots ≡ lotsKnown (limitsOf vmax bmax) (parse (limitsOf vmax bmax) (now (file .entry)))) ⌝ }
+        (r .code) (r .written) × (r .lots ≡ lotsKnown (limitsOf limits) (parse (limitsOf limits) (now (file .entry)))) ⌝ }
 {
     let mut netweights = [0u16; 1024];
     let mut lows = [0u32; 1024];
@@ -50,8 +50,7 @@ pub fn work_file(
     let mut operands = [0u32; 30000];
     match loader::load(
         file,
-        vmax,
-        bmax,
+        limits,
         weights,
         blocks,
         aboves,
@@ -75,7 +74,7 @@ pub fn work_file(
                 lots: 0,
             }
         }
-        Loaded::Accepted(z) => {
+        Loaded::Accepted(z, count) => {
             let end = report_sale(
                 output,
                 weights,
@@ -94,7 +93,8 @@ pub fn work_file(
                 &netweights,
                 &calls,
                 &operands,
-                vmax,
+                count,
+                limits.lots,
                 z,
             );
             Served {

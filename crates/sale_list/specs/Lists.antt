@@ -1,5 +1,5 @@
 -- A catalogue's bytes and a list of calls apart from each other, in memory that is long enough: the tests of a list, and what is left, are
--- model's. Rests on sale, model's ListEntry and guarantees' Counts. Assumes nothing.
+-- model's. Rests on sale and model's ListEntry. Assumes nothing.
 use Prim.Native.Nat.{ℕ, zero, suc, _+_, _*_, _/_, _%_, _<_, _≤_}
 use native.Mathlib.Decide.{ℕ-discrete}
 use native.Mathlib.Numerals.{add-one}
@@ -20,9 +20,9 @@ use Rattle.model.specs.Report.{digits, row}
 use Rattle.model.specs.Engine.{outcome}
 use Rattle.model.specs.Memory.{Tables as Lent}
 use Rattle.model.specs.Lent.{Lists, lent, memory, Two}
-use Rattle.model.specs.Demand.{Standing, standing, Demand3}
+use Rattle.model.specs.Demand.{Standing, standing}
+use Rattle.model.specs.Promises.{Demand3}
 use Rattle.model.specs.ListEntry.{isLetter, isEntry, entriesTo, listRefusal, listCalls, Returned, returned, Idle, ListWorked}
-use Rattle.guarantees.specs.Counts.{every-count}
 use Rattle.loader.specs.declared.Sizes.{Sizes}
 use Rattle.loader.specs.declared.Loaded.{Loaded}
 use Rattle.loader.specs.declared.Loaded.the-variants.{Accepted, Refused}
@@ -136,11 +136,11 @@ idle {S = S} {J = J} s sx sy j jx jy t = record { no-joins = s; no-moves = j; ze
 
 module _ (list operands out : List ℕ) (counts : List ℕ) (gains : List ℤ) (index visited : List ℕ) {limits : Limits} {file : List ℕ} {old new : Lists} {nw lo calls ops : List ℕ} {r : Loaded} (l : Loads limits file r old new nw lo calls ops) where
   -- the catalogue is accepted; the stack and the journal are returned with zeros past their lengths
-  pub list-worked : {z : Sizes} (e : r ≡ Accepted z) {new′ : Lent} {out′ : List ℕ} {S S′ J J′ : Two} {n m draft total at : ℕ} → Sold limits (graph z new nw lo) (listCalls list operands) (lent old counts gains index visited) new′ out out′ S J n m draft total at
+  pub list-worked : {z : Sizes} {count : ℕ} (e : r ≡ Accepted z count) {new′ : Lent} {out′ : List ℕ} {S S′ J J′ : Two} {n m draft total at : ℕ} → Sold limits (graph z new nw lo) (listCalls list operands) (lent old counts gains index visited) new′ out out′ S J n m draft total at
       → Lengthened (S .len) (S .xs) (S′ .xs) × Lengthened (S .len) (S .ys) (S′ .ys) × (S′ .len ≡ S .len)
       → Lengthened (J .len) (J .xs) (J′ .xs) × Lengthened (J .len) (J .ys) (J′ .ys) × (J′ .len ≡ J .len)
       → ListWorked limits (parse limits file) (listCalls list operands) (memory out (lent old counts gains index visited)) (memory out′ new′) (returned 0 at total S′ J′)
-  list-worked {z} e {new′} {out′} {S} {S′} {J} {J′} {total = total} {at = at} s zs zj =
+  list-worked {z} {count} e {new′} {out′} {S} {S′} {J} {J′} {total = total} {at = at} s zs zj =
       let stack-same = sym (long-pairs {A = Contraction} (λ u v. record { into = u; gone = v }) {S = S} {S′ = S′} (zs .0) (zs .1) (zs .2)) in
       let journal-same = sym (long-pairs {A = Move} (λ v b. record { vertex = v; from = b }) {S = J} {S′ = J′} (zj .0) (zj .1) (zj .2)) in
       subst (λ (x : Reading). ListWorked limits x (listCalls list operands) (memory out (lent old counts gains index visited)) (memory out′ new′) (returned 0 at total S′ J′)) (ap (λ (x : Loaded). seen (l .estimated) x new nw lo calls ops) (sym e) ∙ l .says)
@@ -148,10 +148,6 @@ module _ (list operands out : List ℕ) (counts : List ℕ) (gains : List ℤ) (
         code-is = refl;
         lines = s .lines;
         demand = subst (λ (x : Standing). Demand3 limits (graph z new nw lo) (listCalls list operands) (lent old counts gains index visited) x (s .lines) total) (λ k. standing new′ (stack-same k) (journal-same k)) (s .demand);
-        clump-gains = s .clump-gains;
-        each-pair-once = s .each-pair-once;
-        first-is-best = s .first-is-best;
-        every-count = every-count limits (graph z new nw lo) (s .demand .accepted) (listCalls list operands);
         output = written-all (s .wrote);
         stack-whole = zero-past {S = S} {S′ = S′} (zs .0) (zs .1) (zs .2);
         journal-whole = zero-past {S = J} {S′ = J′} (zj .0) (zj .1) (zj .2);

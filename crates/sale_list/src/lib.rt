@@ -12,6 +12,7 @@ ghost use Rattle.lines.specs.Line.{limitsOf};
 ghost use Rattle.sale.specs.Files.{Long};
 use any_call::kinds::is_contracting;
 use any_call::kinds::is_moving;
+use lines::Limits;
 use loader::Loaded;
 use operations::pairs::LongJournal;
 use operations::pairs::LongStack;
@@ -110,13 +111,12 @@ pub fn list_refusal(list: &[u32], operands: &[u32]) -> u32
     0
 }
 
-// A list that is not refused, in memory that is long enough for an entry whose limits are vmax lots and bmax sessions.
+// A list that is not refused, in memory that is long enough for an entry of these limits.
 pub fn work_list(
     file: &[u8],
     list: &[u32],
     operands: &[u32],
-    vmax: u32,
-    bmax: u32,
+    limits: Limits,
     output: &mut [u8],
     weights: &mut [u32],
     blocks: &mut [u16],
@@ -132,10 +132,10 @@ pub fn work_list(
     index: &mut [u16],
     visited: &mut [u16],
 ) -> ListRan
-    requires { ⌜ Long (limitsOf vmax bmax) (now output)
+    requires { ⌜ Long (limitsOf limits) (now output)
         (lists (now weights) (now blocks) (now aboves) (now fixed) (now loadedpins) (now presentpins) (now firsts) (now loadedsizes) (now presentsizes))
         (now counts) (now gains) (now index) (now visited) × (listRefusal (now list) (now operands) ≡ 0) ⌝ }
-    ensures { λ r. ⌜ ListWorked (limitsOf vmax bmax) (parse (limitsOf vmax bmax) (now (file .entry))) (listCalls (now (list .entry)) (now (operands .entry)))
+    ensures { λ r. ⌜ ListWorked (limitsOf limits) (parse (limitsOf limits) (now (file .entry))) (listCalls (now (list .entry)) (now (operands .entry)))
         (memory (now (output .entry)) (lent (lists (now (weights .entry)) (now (blocks .entry)) (now (aboves .entry)) (now (fixed .entry)) (now (loadedpins .entry)) (now (presentpins .entry)) (now (firsts .entry)) (now (loadedsizes .entry)) (now (presentsizes .entry))) (now (counts .entry)) (now (gains .entry)) (now (index .entry)) (now (visited .entry))))
         (memory (now (output .exit)) (lent (lists (now (weights .exit)) (now (blocks .exit)) (now (aboves .exit)) (now (fixed .exit)) (now (loadedpins .exit)) (now (presentpins .exit)) (now (firsts .exit)) (now (loadedsizes .exit)) (now (presentsizes .exit))) (now (counts .exit)) (now (gains .exit)) (now (index .exit)) (now (visited .exit))))
         (returned (r .code) (r .written) (r .total) (two (r .stack .into) (r .stack .gone) (r .stack .len)) (two (r .journal .vertices) (r .journal .blocks) (r .journal .len))) ⌝ }
@@ -146,8 +146,7 @@ pub fn work_list(
     let mut unused = [0u32; 30000];
     match loader::load(
         file,
-        vmax,
-        bmax,
+        limits,
         weights,
         blocks,
         aboves,
@@ -175,7 +174,7 @@ pub fn work_list(
                 journal: unmoved,
             }
         }
-        Loaded::Accepted(z) => {
+        Loaded::Accepted(z, unasked) => {
             let count = list.len() / 3;
             let s = sell(
                 output,
@@ -196,7 +195,7 @@ pub fn work_list(
                 list,
                 operands,
                 count,
-                vmax,
+                limits.lots,
                 z,
             );
             let joins = s.stack;

@@ -1,5 +1,5 @@
 // The program: a sale file from standard input through the engine, on memory of its own, and the report to standard output.
-use columns::serve;
+use engine::columns_entry::run_columns;
 
 fn main() {
     // one byte more than a file may have, so that a longer one is seen to be longer
@@ -19,10 +19,8 @@ fn main() {
     let mut index = [0u16; 16384];
     let mut visited = [0u16; 1024];
     let n = io::read_full(0, &mut file);
-    let served = serve(
+    let ran = run_columns(
         &file[..n],
-        1024,
-        16,
         &mut output,
         &mut weights,
         &mut blocks,
@@ -38,6 +36,6 @@ fn main() {
         &mut index,
         &mut visited,
     );
-    let written = served.written;
+    let written = ran.written;
     io::write_all(1, &output[..written]);
 }

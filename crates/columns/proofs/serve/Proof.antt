@@ -59,7 +59,7 @@ work-file-requires c κs =
     let at-if1 = c .before .before .before .before .before .before .before .before .before .before .before .before .before .before in
     let at-is-long = at-if1 .before in
     let start = at-is-long .before .before .before .before .before .before .before .before .before .before .before .before .before .before .before .before .before .before .before .before .before .before .before .before .before .before .before .before .before in
-    long-is _ _ _ _ _ _ _ (start .pre .0) (start .pre .1) (at-is-long .is-long .ensures _ refl) (not-false _ (at-if1 .if1 .left))
+    long-is _ _ _ _ _ _ _ (start .pre) (at-is-long .is-long .ensures _ refl) (not-false _ (at-if1 .if1 .left))
 
 same-length-15 : tie.Need-same-length-15
 same-length-15 c =

@@ -4,7 +4,8 @@ use native.Mathlib.Omega.{arith}
 use mathlib.Core.Path.{refl, _∙_}
 use denote.Ref.{now}
 use lib.ListN.{length-replicate}
-use Rattle.sale.specs.Sale.{blank, can-begin, can-open, rows-fit, begins, can-run, sold}
+use Rattle.call_list.specs.Opened.{blank, can-begin, can-open, rows-fit}
+use Rattle.sale.specs.Sale.{begins, can-run, sold}
 use Rattle.sale.proofs.sell.Statement.{statement}
 use Rattle.sale.proofs.sell.Tie as tie
 
@@ -24,13 +25,13 @@ slice-aggregate-open : tie.Need-slice-aggregate-open
 slice-aggregate-open c = search needs
 
 open-requires : tie.Need-open-requires
-open-requires c κs = can-open (c .before .before .before .before .before .before .before .before .before .before .before .before .before .before .before .before .before .before .before .before .before .before .before .before .before .before .before .before .before .before .pre .catalogued) (blank 16384 refl) (length-replicate {A = ℕ} 16 0)
+open-requires c κs = can-open (c .before .before .before .before .before .before .before .before .before .before .before .before .before .before .before .before .before .before .before .before .before .before .before .before .before .before .before .before .before .before .pre .catalogued .prepared) (blank 16384 refl) (length-replicate {A = ℕ} 16 0)
 
 put-all-right-requires : tie.Need-put-all-right-requires
-put-all-right-requires c κs = rows-fit (c .before .before .before .before .before .before .before .before .before .before .before .before .before .before .before .before .before .before .before .before .before .before .before .before .before .before .before .before .before .before .before .before .before .before .before .before .before .before .before .before .pre .catalogued) (blank 16384 refl) (c .before .before .before .before .before .before .before .before .before .«open» .ensures)
+put-all-right-requires c κs = rows-fit (c .before .before .before .before .before .before .before .before .before .before .before .before .before .before .before .before .before .before .before .before .before .before .before .before .before .before .before .before .before .before .before .before .before .before .before .before .before .before .before .before .pre .catalogued .prepared) (blank 16384 refl) (c .before .before .before .before .before .before .before .before .before .«open» .ensures)
 
 begin-requires : tie.Need-begin-requires
-begin-requires c κs = can-begin (c .before .before .before .before .before .before .before .before .before .before .before .before .before .before .before .before .before .before .before .before .before .before .before .before .before .before .before .before .before .before .before .before .before .before .before .before .before .before .before .before .before .before .before .before .pre .catalogued)
+begin-requires c κs = can-begin (c .before .before .before .before .before .before .before .before .before .before .before .before .before .before .before .before .before .before .before .before .before .before .before .before .before .before .before .before .before .before .before .before .before .before .before .before .before .before .before .before .before .before .before .before .pre .catalogued .prepared)
 
 cast-t62 : tie.Need-cast-t62
 cast-t62 c = search needs
@@ -94,7 +95,7 @@ returns c =
     let begun = c .before .before .before .before .before .before .before .before .before .before .before .before .before .before .before .before .before .before .before .before .before .before .before .before .before .before .before .before .before .before .before .before .before .before .before .before .before .before .before .before .before .before .before .before .before .before .before .before .before in
     let run = c .before .before .before .before .before .before .before .before .before .before .before .before .before .before .before .before .before .before .before .before .before .before .before .before .before .before .before .before .before .before in
     let out = now (c .before .before .before .before .before .before .before .before .before .before .before .before .before .before .before .before .before .before .before .before .before .before .before .before .before .before .before .before .before .before .before .before .before .before .before .before .before .before .before .before .before .before .before .before .before .before .before .before .before .before .before .before .before .before .before .before .before .before .before .before .before .before .before .before .before .before .before .before .before .before .before .before .before .before .before .before .before .before .before .before .before .before .before .before .before .before .before .before .before .before .before .before .before .before .args .output) in
-    λ limits file lows old g l spacious.
+    λ limits lows old g l spacious.
     sold g (blank 16384 refl) (opened .«open» .ensures) (ranked .put-all-right .ensures) (begun .begin .ensures) l out spacious
     (run .run-calls .ensures limits _ _ (begins g (blank 16384 refl) (opened .«open» .ensures) (ranked .put-all-right .ensures) (begun .begin .ensures) l out spacious))
 

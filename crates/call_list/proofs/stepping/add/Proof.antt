@@ -16,7 +16,7 @@ call-add-requires c κs =
 added-requires : tie.Need-added-requires
 added-requires c κs =
     let can = c .before .before .before .before .before .before .before .before .before .before .before .before .before .before .before .before .before .before .before .before .before .before .before .before .before .before .before .before .before .before .before .before .before .before .before .before .before .before .before .before .before .before .before .before .before .before .before .before .before .before .before .before .before .before .before .before .before .before .before .before .before .before .before .pre in
-    lot-small _ _ _ _ _ _ (can .goes .stands .healthy) (can .goes .stands .short) (at-limit (can .a) (callN _ _ _) (can .under .lots-are) (c .before .before .before .before .before .before .before .before .before .before .before .before .before .before .before .before .before .before .before .before .before .before .before .before .before .before .before .before .call-add .ensures .0 (can .limits) (can .a) _ (capacities (can .a .graph)) (asks-add (can .goes) (can .under))))
+    lot-small _ _ _ _ _ _ (can .goes .stands .valid) (can .goes .stands .short) (at-limit (can .a) (callN _ _ _) (can .under .lots-are) (c .before .before .before .before .before .before .before .before .before .before .before .before .before .before .before .before .before .before .before .before .before .before .before .before .before .before .before .before .call-add .ensures .0 (can .limits) (can .a) _ (capacities (can .a .graph)) (asks-add (can .goes) (can .under))))
 
 put-answer-requires : tie.Need-put-answer-requires
 put-answer-requires c κs =
@@ -27,7 +27,7 @@ mark-fixed-requires : tie.Need-mark-fixed-requires
 mark-fixed-requires c κs =
     let can = c .before .before .before .before .before .before .before .before .before .before .before .before .before .before .before .before .before .before .before .before .before .before .before .before .before .before .before .before .before .before .before .before .before .before .before .before .before .before .before .before .before .before .before .before .before .before .before .before .before .before .before .before .before .before .before .before .before .before .before .before .before .before .before .before .before .before .before .before .pre in
     let w = at-limit (can .a) (callN _ _ _) (can .under .lots-are) (c .before .before .before .before .before .before .before .before .before .before .before .before .before .before .before .before .before .before .before .before .before .before .before .before .before .before .before .before .before .before .before .before .before .call-add .ensures .0 (can .limits) (can .a) _ (capacities (can .a .graph)) (asks-add (can .goes) (can .under))) .stands in
-    (omega (arith, all-lots w, w .healthy .ranges .vertices-high, w .short), omega (arith, all-lots w, w .healthy .ranges .vertices-high, w .long .fixed-long))
+    (omega (arith, all-lots w, w .valid .ranges .vertices-high, w .short), omega (arith, all-lots w, w .valid .ranges .vertices-high, w .long .fixed-long))
 
 same-length : tie.Need-same-length
 same-length c = search needs

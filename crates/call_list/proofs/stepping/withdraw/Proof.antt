@@ -25,7 +25,7 @@ mark-fixed-requires : tie.Need-mark-fixed-requires
 mark-fixed-requires c κs =
     let w = c .before .before .before .before .before .before .before .before .before .before .before .before .before .before .before .before .before .before .before .before .before .before .before .before .before .before .before .before .before .before .before .before .before .before .before .before .before .before .before .before .before .before .before .before .before .before .before .before .before .before .before .before .before .before .before .before .before .before .before .before .before .before .before .before .before .before .before .pre .goes .stands in
     let fixed-same = c .before .before .before .before .before .before .before .before .before .before .before .before .before .before .before .before .before .before .before .before .before .before .before .before .before .before .before .before .before .before .before .before .before .call-withdraw .kept .1 .1 .1 .1 .1 .1 .1 .1 .1 .1 .0 in
-    (omega (arith, all-lots w, w .healthy .ranges .vertices-high, w .short), omega (arith, all-lots w, w .healthy .ranges .vertices-high, w .long .fixed-long, fixed-same))
+    (omega (arith, all-lots w, w .valid .ranges .vertices-high, w .short), omega (arith, all-lots w, w .valid .ranges .vertices-high, w .long .fixed-long, fixed-same))
 
 same-length : tie.Need-same-length
 same-length c = search needs

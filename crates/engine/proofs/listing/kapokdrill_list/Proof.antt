@@ -119,7 +119,7 @@ work-list-requires c κs =
     let at-list-refusal = at-if2 .before in
     let at-if1 = at-list-refusal .before in
     let at-is-long = at-if1 .before in
-    (long-is mainLimits _ _ _ _ _ _ (omega arith) (omega arith) (at-is-long .is-long .ensures _ refl) (not-false _ (at-if1 .if1 .left)), sym (at-list-refusal .list-refusal .ensures) ∙ at-if2 .if2 .left)
+    (long-is mainLimits _ _ _ _ _ _ (record { lots-few = omega arith; sessions-few = omega arith; few = record { nets-few = omega arith; pins-few = omega arith } }) (at-is-long .is-long .ensures _ refl) (not-false _ (at-if1 .if1 .left)), sym (at-list-refusal .list-refusal .ensures) ∙ at-if2 .if2 .left)
 
 same-length-29 : tie.Need-same-length-29
 same-length-29 c =

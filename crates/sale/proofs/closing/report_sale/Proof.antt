@@ -13,7 +13,7 @@ sell-requires c κs = c .before .before .before .before .before .before .before 
 put-closing-requires : tie.Need-put-closing-requires
 put-closing-requires c κs =
     let can = c .before .before .before .before .before .before .before .before .before .before .before .before .before .before .before .before .before .before .before .before .before .before .before .before .before .before .before .before .before .before .before .before .before .before .before .before .before .before .before .before .before .before .before .before .before .before .before .before .before .before .before .before .before .before .before .before .before .before .before .before .before .before .before .before .before .before .pre in
-    closes (c .before .before .before .before .before .before .before .before .before .before .before .before .before .before .before .before .before .before .before .before .before .before .before .before .before .before .before .before .before .before .before .before .before .before .sell .ensures (can .limits) (can .file) (can .lows) (can .old) (can .catalogued) (can .listed) (can .spacious))
+    closes (c .before .before .before .before .before .before .before .before .before .before .before .before .before .before .before .before .before .before .before .before .before .before .before .before .before .before .before .before .before .before .before .before .before .before .sell .ensures (can .limits) (can .lows) (can .old) (can .catalogued) (can .listed) (can .spacious))
 
 same-length : tie.Need-same-length
 same-length c = c .before .before .put-closing .kept .0 ∙ c .before .before .before .before .before .before .before .before .before .before .before .before .before .before .before .before .before .before .before .before .before .before .before .before .before .before .before .before .before .before .before .before .before .before .before .before .before .sell .kept .0
@@ -61,7 +61,7 @@ returns : tie.Need-returns
 returns c =
     let sold = c .before .before .before .before .before .before .before .before .before .before .before .before .before .before .before .before .before .before .before .before .before .before .before .before .before .before .before .before .before .before .before .before .before .before .before .before .before in
     let closed = c .before .before in
-    λ limits file lows old g l spacious. let s = sold .sell .ensures limits file lows old g l spacious in reported s (closed .put-closing .ensures _ _ (s .ended))
+    λ limits lows old g l spacious. let s = sold .sell .ensures limits lows old g l spacious in reported s (closed .put-closing .ensures _ _ (s .ended))
 
 pub report-sale-spec : {M : Type 1} → statement M
 report-sale-spec =
