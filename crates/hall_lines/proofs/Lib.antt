@@ -1,0 +1,4 @@
+pub mod Headings
+pub mod Leads
+pub mod LedTables
+pub mod LedTurns
