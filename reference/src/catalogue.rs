@@ -15,6 +15,12 @@ pub const MAX_SLACK: u64 = 1_000;
 pub const MAX_BALES: u64 = 65_535;
 /// The highest weight of a buyer.
 pub const MAX_WEIGHT: u64 = 1_000;
+/// The fewest catalogues of a hall.
+pub const MIN_CATALOGUES: u64 = 2;
+/// The most catalogues of a hall.
+pub const MAX_CATALOGUES: u64 = 4;
+/// The highest hall limit, in bales.
+pub const MAX_HALL_LIMIT: u64 = 999_999_999;
 
 /// The two limits that the size of the lent tables follows from.
 #[derive(Clone, Copy, Debug, PartialEq, Eq)]
@@ -186,4 +192,20 @@ pub enum Call {
 pub struct Sale {
     pub catalogue: Catalogue,
     pub calls: Vec<Call>,
+}
+
+/// A call of a hall: the number of the catalogue that it is led by, counted from 1, and the call.
+#[derive(Clone, Debug, PartialEq, Eq)]
+pub struct LedCall {
+    pub catalogue: usize,
+    pub call: Call,
+}
+
+/// A whole hall file: the bales that a session may have over all catalogues, the catalogues in turn
+/// and the calls after them.
+#[derive(Clone, Debug, PartialEq, Eq)]
+pub struct Hall {
+    pub limit: u64,
+    pub catalogues: Vec<Catalogue>,
+    pub calls: Vec<LedCall>,
 }

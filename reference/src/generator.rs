@@ -230,26 +230,31 @@ pub fn write_sale(sale: &Sale) -> Vec<u8> {
         text.push('\n');
     }
     for call in &sale.calls {
-        text.push_str(&match call {
-            Call::J { u, v } => format!("J,{u},{v}\n"),
-            Call::S => "S\n".to_string(),
-            Call::M { u, t } => format!("M,{u},{t}\n"),
-            Call::B => "B\n".to_string(),
-            Call::W { u, v } => format!("W,{u},{v}\n"),
-            Call::P => "P\n".to_string(),
-            Call::A => "A\n".to_string(),
-            Call::X { lot } => format!("X,{lot}\n"),
-            Call::N {
-                bales,
-                session,
-                buyers,
-            } => {
-                let named: String = buyers.iter().map(|buyer| format!(",{buyer}")).collect();
-                format!("N,{bales},{session}{named}\n")
-            }
-        });
+        text.push_str(&call_line(call));
     }
     text.into_bytes()
+}
+
+/// The line of a call, as a sale file has it.
+pub(crate) fn call_line(call: &Call) -> String {
+    match call {
+        Call::J { u, v } => format!("J,{u},{v}\n"),
+        Call::S => "S\n".to_string(),
+        Call::M { u, t } => format!("M,{u},{t}\n"),
+        Call::B => "B\n".to_string(),
+        Call::W { u, v } => format!("W,{u},{v}\n"),
+        Call::P => "P\n".to_string(),
+        Call::A => "A\n".to_string(),
+        Call::X { lot } => format!("X,{lot}\n"),
+        Call::N {
+            bales,
+            session,
+            buyers,
+        } => {
+            let named: String = buyers.iter().map(|buyer| format!(",{buyer}")).collect();
+            format!("N,{bales},{session}{named}\n")
+        }
+    }
 }
 
 fn catalogue(random: &mut Random, kind: Kind) -> Catalogue {
@@ -333,7 +338,7 @@ fn heavier(random: &mut Random, made: &mut Catalogue) {
 
 /// Lows below the bales that the draft was settled with, which are the highs. The slack, and then
 /// the lows, rise until the draft is within the cap.
-fn estimate(random: &mut Random, made: &mut Catalogue) {
+pub(crate) fn estimate(random: &mut Random, made: &mut Catalogue) {
     made.estimated = true;
     heavier(random, made);
     let counted = *random.pick(&[0, 0, 30, 80]);
@@ -356,7 +361,7 @@ fn estimate(random: &mut Random, made: &mut Catalogue) {
 }
 
 /// Some lots kept, one at least: few, many or all of them.
-fn keep_some(random: &mut Random, made: &mut Catalogue) {
+pub(crate) fn keep_some(random: &mut Random, made: &mut Catalogue) {
     let chances = *random.pick(&[30, 10, 30, 60, 100]);
     for lot in &mut made.lots {
         lot.kept = random.in_hundred(chances);
@@ -438,7 +443,7 @@ pub(crate) fn settle_draft(made: &mut Catalogue) {
 }
 
 /// Lists of all lots, or nearly all, up to 8,192 marks or some less; or few marks.
-fn full_lists(random: &mut Random, lots: usize) -> Vec<Buyer> {
+pub(crate) fn full_lists(random: &mut Random, lots: usize) -> Vec<Buyer> {
     let mut left = match random.between(0, 3) {
         0 => random.between(0, 300) as usize,
         _ => 8_192 - random.between(0, 6) as usize,
@@ -614,12 +619,11 @@ fn calls_of_kind(random: &mut Random, catalogue: &Catalogue, kind: Kind) -> Vec<
     }
 }
 
-/// Chances, as `steered_calls` takes them, of lists with lots withdrawn and added.
-const LATE: [u64; 11] = [10, 10, 16, 8, 10, 4, 5, 2, 14, 18, 3];
+/// Chances, as `steered_call` takes them, of lists with lots withdrawn and added.
+pub(crate) const LATE: [u64; 11] = [10, 10, 16, 8, 10, 4, 5, 2, 14, 18, 3];
 
-/// Random calls with the given chances of J, S, M, B, W, P, A and of a call with any numbers
-/// at all, and then, where there are so many, of X, of N and of one of these with any numbers.
-/// A machine runs along, so that most calls find what they need.
+/// Random calls with the given chances, as `steered_call` takes them. A machine runs along, so that
+/// most calls find what they need.
 fn steered_calls(
     random: &mut Random,
     catalogue: &Catalogue,
@@ -628,49 +632,55 @@ fn steered_calls(
 ) -> Vec<Call> {
     let mut machine = Machine::fresh(catalogue);
     let mut calls = Vec::new();
-    let all: u64 = chances.iter().sum();
     for _ in 0..count {
-        let mut drawn = random.between(0, all - 1);
-        let mut choice = 0;
-        while drawn >= chances[choice] {
-            drawn -= chances[choice];
-            choice += 1;
-        }
-        let nothing_to_undo = match choice {
-            1 => machine.joins.is_empty(),
-            3 => machine.record.is_empty(),
-            _ => false,
-        };
-        if nothing_to_undo && random.in_hundred(90) {
-            // Something to undo later: a join in place of S, a move in place of B.
-            choice -= 1;
-        }
-        let call = match choice {
-            0 => steered_join(random, &machine),
-            1 => Call::S,
-            2 => steered_move(random, &machine),
-            3 => Call::B,
-            4 => {
-                let board = machine.standing().board();
-                let u = one_of(random, &board) as u64;
-                let v = one_of(random, &board) as u64;
-                let v = if random.in_hundred(30) { u } else { v };
-                Call::W { u, v }
-            }
-            5 => Call::P,
-            6 => Call::A,
-            7 => any_call(random, catalogue),
-            // No lot is withdrawn or added while a join stands.
-            8 | 9 if !machine.joins.is_empty() && random.in_hundred(85) => Call::S,
-            8 => steered_withdrawal(random, &machine),
-            9 => steered_addition(random, &machine),
-            _ => any_late_call(random, &machine),
-        };
+        let call = steered_call(random, &machine, chances);
         // An answer or a refusal serves alike: only the state after the call is used.
         let _ = machine.call(&call);
         calls.push(call);
     }
     calls
+}
+
+/// A random call for a machine with the given chances of J, S, M, B, W, P, A and of a call with any
+/// numbers at all, and then, where there are so many, of X, of N and of one of these with any numbers.
+pub(crate) fn steered_call(random: &mut Random, machine: &Machine, chances: &[u64]) -> Call {
+    let all: u64 = chances.iter().sum();
+    let mut drawn = random.between(0, all - 1);
+    let mut choice = 0;
+    while drawn >= chances[choice] {
+        drawn -= chances[choice];
+        choice += 1;
+    }
+    let nothing_to_undo = match choice {
+        1 => machine.joins.is_empty(),
+        3 => machine.record.is_empty(),
+        _ => false,
+    };
+    if nothing_to_undo && random.in_hundred(90) {
+        // Something to undo later: a join in place of S, a move in place of B.
+        choice -= 1;
+    }
+    match choice {
+        0 => steered_join(random, machine),
+        1 => Call::S,
+        2 => steered_move(random, machine),
+        3 => Call::B,
+        4 => {
+            let board = machine.standing().board();
+            let u = one_of(random, &board) as u64;
+            let v = one_of(random, &board) as u64;
+            let v = if random.in_hundred(30) { u } else { v };
+            Call::W { u, v }
+        }
+        5 => Call::P,
+        6 => Call::A,
+        7 => any_call(random, machine.loaded),
+        // No lot is withdrawn or added while a join stands.
+        8 | 9 if !machine.joins.is_empty() && random.in_hundred(85) => Call::S,
+        8 => steered_withdrawal(random, machine),
+        9 => steered_addition(random, machine),
+        _ => any_late_call(random, machine),
+    }
 }
 
 /// A board lot; lot 1 where all are withdrawn.
@@ -710,7 +720,7 @@ fn steered_move(random: &mut Random, machine: &Machine) -> Call {
     let open: Vec<usize> = machine
         .catalogue
         .session_numbers()
-        .filter(|&t| t != machine.sessions[u] && view.space(u, t))
+        .filter(|&t| t != machine.sessions[u] && machine.space(&view, u, t))
         .collect();
     let t = if open.is_empty() || random.in_hundred(5) {
         random.between(1, machine.catalogue.sessions as u64)
@@ -737,14 +747,14 @@ fn steered_addition(random: &mut Random, machine: &Machine) -> Call {
     let catalogue = &machine.catalogue;
     let open: Vec<usize> = catalogue
         .session_numbers()
-        .filter(|&t| view.space_for(1, t))
+        .filter(|&t| machine.room(&view, t) > 0)
         .collect();
     let session = if open.is_empty() || random.in_hundred(4) {
         random.between(1, catalogue.sessions as u64)
     } else {
         *random.pick(&open) as u64
     };
-    let room = measure::cap(machine.loaded).saturating_sub(view.session_bales(session as usize));
+    let room = machine.room(&view, session as usize);
     let bales = match random.between(0, 19) {
         0 => room + 1,
         1..=3 => room,
@@ -878,7 +888,7 @@ pub fn damaged(seed: u64) -> Vec<u8> {
     file
 }
 
-fn damage(random: &mut Random, mut file: Vec<u8>) -> Vec<u8> {
+pub(crate) fn damage(random: &mut Random, mut file: Vec<u8>) -> Vec<u8> {
     if file.is_empty() {
         return file;
     }
@@ -1032,7 +1042,7 @@ fn late_line(random: &mut Random) -> Vec<u8> {
 }
 
 /// Applies a change to the lines of a file and puts them together again.
-fn change_lines(
+pub(crate) fn change_lines(
     random: &mut Random,
     file: &[u8],
     change: impl Fn(&mut Random, &mut Vec<Vec<u8>>),

@@ -1,11 +1,11 @@
-//! The plain machine: its state, the effect of each call and its refusals, 9 to 16, 20, 22 and 23.
+//! The plain machine: its state, the effect of each call and its refusals, 9 to 16, 20, 22, 23 and 25.
 //! Rests on `measure` for every number it answers and on `search` for W, P and A.
 
 use std::collections::BTreeSet;
 use std::rc::Rc;
 
 use crate::catalogue::{Call, Catalogue, Limits, MAX_BALES, MAX_MARKS};
-use crate::measure::{Halves, Standing, View};
+use crate::measure::{cap, Halves, Standing, View};
 use crate::search;
 
 /// A call's lot, session or buyer is unknown, or N's bales are outside loading's range.
@@ -28,8 +28,11 @@ pub const JOINS_STANDING: u32 = 16;
 pub const KEPT_LOT: u32 = 20;
 /// N with a buyer named twice.
 pub const BUYER_TWICE: u32 = 22;
-/// N with the entry's limit of lots present, or its marks and those in use above 8,192.
+/// N with the entry's limit of lots present, or its marks and those in use above 8,192; in a hall
+/// the lots and marks of all catalogues count.
 pub const FULL_TABLES: u32 = 23;
+/// M, N or B to a session whose bales over the hall and the lot's are together above the hall limit.
+pub const OVER_THE_HALL_LIMIT: u32 = 25;
 
 /// What an accepted call answers.
 #[derive(Clone, Copy, Debug, PartialEq, Eq)]
@@ -76,10 +79,41 @@ pub enum Answer {
     },
 }
 
+/// All that a call knows of the hall around its catalogue: the hall limit, if there is a hall, and of
+/// the other catalogues together the bales of each session (session 1 first, a session past the end has
+/// none), the lots in the sale and the marks in use.
+#[derive(Clone, Debug, Default, PartialEq, Eq)]
+pub struct Beside {
+    pub limit: Option<u64>,
+    pub bales: Vec<u64>,
+    pub lots: u64,
+    pub marks: usize,
+}
+
+impl Beside {
+    /// The bales that the others have in a session.
+    pub fn bales_in(&self, session: usize) -> u64 {
+        self.bales.get(session - 1).copied().unwrap_or(0)
+    }
+
+    /// Whether the hall limit allows a session so many bales of the catalogue's own.
+    pub fn allows(&self, session: usize, own: u64) -> bool {
+        let all = self.bales_in(session) + own;
+        self.limit.is_none_or(|limit| all <= limit)
+    }
+
+    /// The bales that a session with so many of the catalogue's own may still take.
+    fn room(&self, session: usize, own: u64) -> u64 {
+        let all = self.bales_in(session) + own;
+        self.limit
+            .map_or(u64::MAX, |limit| limit.saturating_sub(all))
+    }
+}
+
 /// The state: the catalogue, the stack of joins, a session for each board lot (0 off the
 /// board, place 0 unused) and the record of moves as lots with their old sessions. The cap, the
 /// joining limit and the draft total go by `loaded`; `catalogue` is that of loading less withdrawals
-/// plus additions.
+/// plus additions. `beside` is no part of the state: it is what a call goes by in a hall.
 #[derive(Clone, Debug, PartialEq, Eq)]
 pub struct Machine<'a> {
     pub loaded: &'a Catalogue,
@@ -92,6 +126,7 @@ pub struct Machine<'a> {
     pub joins: Vec<(usize, usize)>,
     pub sessions: Vec<usize>,
     pub record: Vec<(usize, usize)>,
+    pub beside: Beside,
 }
 
 impl<'a> Machine<'a> {
@@ -113,6 +148,7 @@ impl<'a> Machine<'a> {
             joins: Vec::new(),
             sessions,
             record: Vec::new(),
+            beside: Beside::default(),
         }
     }
 
@@ -137,6 +173,33 @@ impl<'a> Machine<'a> {
         let (u, v) = self.joins.pop()?;
         self.sessions[v] = self.sessions[u];
         Some((u, v))
+    }
+
+    /// Whether the hall limit allows session `t` so many bales more.
+    fn hall_space(&self, view: &View, bales: u64, t: usize) -> bool {
+        self.beside.allows(t, view.session_bales(t) + bales)
+    }
+
+    /// Whether session `t` has space for board lot `u` under the cap and under the hall limit.
+    pub fn space(&self, view: &View, u: usize, t: usize) -> bool {
+        view.space(u, t) && self.hall_space(view, view.standing().bales(u), t)
+    }
+
+    /// The bales that session `t` may still take under the cap and under the hall limit.
+    pub fn room(&self, view: &View, t: usize) -> u64 {
+        let own = view.session_bales(t);
+        let under_cap = cap(self.loaded).saturating_sub(own);
+        under_cap.min(self.beside.room(t, own))
+    }
+
+    /// The bales of each session, session 1 first.
+    pub fn session_bales(&self) -> Vec<u64> {
+        let standing = self.standing();
+        let view = View::of(&standing, &self.sessions);
+        let sessions = self.catalogue.session_numbers();
+        sessions
+            .map(|session| view.session_bales(session))
+            .collect()
     }
 
     /// Runs one call. A refused one gives its number and changes nothing.
@@ -225,6 +288,9 @@ impl<'a> Machine<'a> {
         if !view.space(u, t) {
             return Err(OVER_THE_CAP);
         }
+        if !self.hall_space(&view, standing.bales(u), t) {
+            return Err(OVER_THE_HALL_LIMIT);
+        }
         let Halves { freed, drawn } = view.halves(u, t);
         self.record.push((u, self.sessions[u]));
         self.sessions[u] = t;
@@ -236,7 +302,13 @@ impl<'a> Machine<'a> {
     }
 
     fn call_b(&mut self) -> Result<Answer, u32> {
-        let (u, session) = self.record.pop().ok_or(NOTHING_TO_UNDO)?;
+        let &(u, session) = self.record.last().ok_or(NOTHING_TO_UNDO)?;
+        let standing = self.standing();
+        let view = View::of(&standing, &self.sessions);
+        if !self.hall_space(&view, standing.bales(u), session) {
+            return Err(OVER_THE_HALL_LIMIT);
+        }
+        self.record.pop();
         self.sessions[u] = session;
         Ok(Answer::B {
             u,
@@ -301,14 +373,18 @@ impl<'a> Machine<'a> {
         if different.len() < buyers.len() {
             return Err(BUYER_TWICE);
         }
-        let lots = self.catalogue.lots_in_sale().count() as u64;
-        let marks = self.catalogue.mark_count() + buyers.len();
+        let lots = self.beside.lots + self.catalogue.lots_in_sale().count() as u64;
+        let marks = self.beside.marks + self.catalogue.mark_count() + buyers.len();
         if lots == self.limits.lots || marks > MAX_MARKS {
             return Err(FULL_TABLES);
         }
         let standing = self.standing();
-        if !View::of(&standing, &self.sessions).space_for(bales, session) {
+        let view = View::of(&standing, &self.sessions);
+        if !view.space_for(bales, session) {
             return Err(OVER_THE_CAP);
+        }
+        if !self.hall_space(&view, bales, session) {
+            return Err(OVER_THE_HALL_LIMIT);
         }
         // The number withdrawn last and still free, or the next that was never used.
         let next = self.catalogue.lots.len() + 1;

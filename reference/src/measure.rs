@@ -26,16 +26,30 @@ pub fn cap(catalogue: &Catalogue) -> u64 {
     }
 }
 
+/// The bales of a session in the draft: 0 past the catalogue's session count.
+fn draft_bales(catalogue: &Catalogue, session: usize) -> u64 {
+    let lots = catalogue.lots.iter();
+    lots.filter(|lot| lot.session == session)
+        .map(|lot| lot.bales)
+        .sum()
+}
+
 /// Whether the draft has a session above the cap.
 pub fn overfull_draft(catalogue: &Catalogue) -> bool {
-    catalogue.session_numbers().any(|session| {
-        let bales: u64 = catalogue
-            .lots
+    let cap = cap(catalogue);
+    catalogue
+        .session_numbers()
+        .any(|session| draft_bales(catalogue, session) > cap)
+}
+
+/// Whether the drafts of a hall's catalogues have a session that is above the hall limit together.
+pub fn drafts_above(catalogues: &[Catalogue], limit: u64) -> bool {
+    let most = catalogues.iter().map(|catalogue| catalogue.sessions).max();
+    (1..=most.unwrap_or(0)).any(|session| {
+        let bales = catalogues
             .iter()
-            .filter(|lot| lot.session == session)
-            .map(|lot| lot.bales)
-            .sum();
-        bales > cap(catalogue)
+            .map(|catalogue| draft_bales(catalogue, session));
+        bales.sum::<u64>() > limit
     })
 }
 

@@ -1,9 +1,10 @@
-//! Reading a sale file: accepted as a `Sale`, or refused with a number of 1 to 7 or 21 and a line.
-//! Rests on `catalogue` for the limits and on `measure` for the cap of the draft.
+//! Reading a file: a sale's accepted as a `Sale`, a hall's as a `Hall`, or refused with a number of
+//! 1 to 7, 21 or 24 and a line. Rests on `catalogue` for the limits and on `measure` for the cap of
+//! the draft and the bales of all drafts.
 
 use crate::catalogue::{
-    Buyer, Call, Catalogue, Limits, Lot, Sale, MAX_BALES, MAX_BUYERS, MAX_BYTES, MAX_CALLS,
-    MAX_MARKS, MAX_SLACK, MAX_WEIGHT,
+    Buyer, Call, Catalogue, Hall, LedCall, Limits, Lot, Sale, MAX_BALES, MAX_BUYERS, MAX_BYTES,
+    MAX_CALLS, MAX_CATALOGUES, MAX_HALL_LIMIT, MAX_MARKS, MAX_SLACK, MAX_WEIGHT, MIN_CATALOGUES,
 };
 use crate::measure;
 
@@ -23,6 +24,8 @@ pub const OVERFULL_DRAFT: u32 = 6;
 pub const TOO_MANY_CALLS: u32 = 7;
 /// A lot's low above its high.
 pub const LOW_ABOVE_HIGH: u32 = 21;
+/// A session of all drafts of a hall together above the hall limit.
+pub const DRAFTS_ABOVE_THE_LIMIT: u32 = 24;
 
 /// Why a whole file is turned down, and on which line (0 for a file too long).
 #[derive(Clone, Copy, Debug, PartialEq, Eq)]
@@ -194,6 +197,63 @@ fn call(line: &Line) -> Option<Call> {
     }
 }
 
+/// The call of a hall's call line and the catalogue that it names: 2 if the form is wrong, the lead
+/// included, then 3 if there is no such catalogue.
+fn led_call(line: &Line, catalogues: usize) -> Result<LedCall, Refusal> {
+    let wrong = badly_written(line.number);
+    let comma = line.text.iter().position(|&byte| byte == b',');
+    let (lead, rest) = line.text.split_at(comma.ok_or(wrong)?);
+    let lead = number(lead).ok_or(wrong)?;
+    let unled = Line {
+        text: &rest[1..],
+        ..*line
+    };
+    let call = call(&unled).ok_or(wrong)?;
+    let catalogue = in_range(line.number, lead, 1, catalogues as u64)? as usize;
+    Ok(LedCall { catalogue, call })
+}
+
+/// A field of the line of this number within its range, or 3.
+fn in_range(line: usize, value: u64, lowest: u64, highest: u64) -> Result<u64, Refusal> {
+    if (lowest..=highest).contains(&value) {
+        Ok(value)
+    } else {
+        Err(Refusal {
+            number: OUT_OF_RANGE,
+            line,
+        })
+    }
+}
+
+/// The most that a catalogue may have of each: in a hall what the earlier ones have left.
+struct Room {
+    lots: u64,
+    buyers: u64,
+    sessions: u64,
+    marks: usize,
+}
+
+impl Room {
+    fn of(limits: &Limits) -> Self {
+        Room {
+            lots: limits.lots,
+            buyers: MAX_BUYERS,
+            sessions: limits.sessions,
+            marks: MAX_MARKS,
+        }
+    }
+
+    /// What is left beside the catalogue.
+    fn beside(&self, catalogue: &Catalogue) -> Self {
+        Room {
+            lots: self.lots - catalogue.lots.len() as u64,
+            buyers: self.buyers - catalogue.buyers.len() as u64,
+            sessions: self.sessions,
+            marks: self.marks - catalogue.mark_count(),
+        }
+    }
+}
+
 /// Reads a file within the limits of document 01.
 pub fn parse(file: &[u8]) -> Result<Sale, Refusal> {
     parse_within(file, &Limits::default())
@@ -201,44 +261,73 @@ pub fn parse(file: &[u8]) -> Result<Sale, Refusal> {
 
 /// Reads a file within the given limits.
 pub fn parse_within(file: &[u8], limits: &Limits) -> Result<Sale, Refusal> {
+    let mut lines = lines_of(file)?;
+    let catalogue = read_catalogue_and_draft(&mut lines, &Room::of(limits))?;
+    let calls = read_calls(&mut lines, |line| {
+        call(line).ok_or(badly_written(line.number))
+    })?;
+    Ok(Sale { catalogue, calls })
+}
+
+/// Reads a hall's file.
+pub fn parse_hall(file: &[u8]) -> Result<Hall, Refusal> {
+    let mut lines = lines_of(file)?;
+    let (line, fields) = lines.catalogue_line(b"HALL", |count| count == 2)?;
+    let count = in_range(line, fields[0], MIN_CATALOGUES, MAX_CATALOGUES)? as usize;
+    let limit = in_range(line, fields[1], 1, MAX_HALL_LIMIT)?;
+
+    let mut room = Room::of(&Limits::default());
+    let mut catalogues = Vec::new();
+    for _ in 0..count {
+        let catalogue = read_catalogue_and_draft(&mut lines, &room)?;
+        room = room.beside(&catalogue);
+        catalogues.push(catalogue);
+    }
+    if measure::drafts_above(&catalogues, limit) {
+        return Err(Refusal {
+            number: DRAFTS_ABOVE_THE_LIMIT,
+            line: lines.read,
+        });
+    }
+    let calls = read_calls(&mut lines, |line| led_call(line, count))?;
+    Ok(Hall {
+        limit,
+        catalogues,
+        calls,
+    })
+}
+
+/// The lines of a file that is not too long.
+fn lines_of(file: &[u8]) -> Result<Lines<'_>, Refusal> {
     if file.len() > MAX_BYTES {
         return Err(Refusal {
             number: TOO_LONG,
             line: 0,
         });
     }
-    let mut lines = Lines {
+    Ok(Lines {
         rest: file,
         read: 0,
-    };
-    let catalogue = read_catalogue(&mut lines, limits)?;
-    let last_catalogue_line = lines.read;
+    })
+}
+
+/// The catalogue of the next lines, whose draft must be within the cap: 6 is placed on its last line.
+fn read_catalogue_and_draft(lines: &mut Lines, room: &Room) -> Result<Catalogue, Refusal> {
+    let catalogue = read_catalogue(lines, room)?;
     if measure::overfull_draft(&catalogue) {
         return Err(Refusal {
             number: OVERFULL_DRAFT,
-            line: last_catalogue_line,
+            line: lines.read,
         });
     }
-    let calls = read_calls(&mut lines)?;
-    Ok(Sale { catalogue, calls })
+    Ok(catalogue)
 }
 
-fn read_catalogue(lines: &mut Lines, limits: &Limits) -> Result<Catalogue, Refusal> {
-    let in_range = |line: usize, value: u64, lowest: u64, highest: u64| {
-        if (lowest..=highest).contains(&value) {
-            Ok(value)
-        } else {
-            Err(Refusal {
-                number: OUT_OF_RANGE,
-                line,
-            })
-        }
-    };
-
+fn read_catalogue(lines: &mut Lines, room: &Room) -> Result<Catalogue, Refusal> {
     let (line, fields, estimated) = lines.head_line()?;
-    let lot_count = in_range(line, fields[0], 1, limits.lots)?;
-    let buyer_count = in_range(line, fields[1], 0, MAX_BUYERS)?;
-    let session_count = in_range(line, fields[2], 2, limits.sessions)?;
+    let lot_count = in_range(line, fields[0], 1, room.lots)?;
+    let buyer_count = in_range(line, fields[1], 0, room.buyers)?;
+    let session_count = in_range(line, fields[2], 2, room.sessions)?;
     let slack = in_range(line, fields[3], 0, MAX_SLACK)?;
 
     let mut lots = Vec::new();
@@ -278,7 +367,7 @@ fn read_catalogue(lines: &mut Lines, limits: &Limits) -> Result<Catalogue, Refus
                     line,
                 });
             }
-            if marks_so_far == MAX_MARKS {
+            if marks_so_far == room.marks {
                 return Err(Refusal {
                     number: TOO_MANY_MARKS,
                     line,
@@ -299,7 +388,11 @@ fn read_catalogue(lines: &mut Lines, limits: &Limits) -> Result<Catalogue, Refus
     })
 }
 
-fn read_calls(lines: &mut Lines) -> Result<Vec<Call>, Refusal> {
+/// The calls of all lines that are left, each as `read` has it; 7 comes before the form of its line.
+fn read_calls<T>(
+    lines: &mut Lines,
+    read: impl Fn(&Line) -> Result<T, Refusal>,
+) -> Result<Vec<T>, Refusal> {
     let mut calls = Vec::new();
     while let Some(line) = lines.next() {
         if calls.len() == MAX_CALLS {
@@ -308,7 +401,7 @@ fn read_calls(lines: &mut Lines) -> Result<Vec<Call>, Refusal> {
                 line: line.number,
             });
         }
-        calls.push(call(&line).ok_or(badly_written(line.number))?);
+        calls.push(read(&line)?);
     }
     Ok(calls)
 }

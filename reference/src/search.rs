@@ -25,13 +25,13 @@ pub struct Pair {
     pub gain: i64,
 }
 
-/// The pair with space of highest gain, then lowest lot, then lowest session, by looking at all of
-/// them. The lots come in rising order, so a later pair is taken only for a higher gain.
+/// The pair with space, in a hall under both limits, of highest gain, then lowest lot, then lowest
+/// session, by looking at all of them. The lots come in rising order, so a later pair is taken only for a higher gain.
 pub fn best_pair(machine: &Machine, view: &View, lots: &[usize]) -> Option<Pair> {
     let mut best: Option<Pair> = None;
     for &lot in lots {
         for session in machine.catalogue.session_numbers() {
-            if session == view.session(lot) || !view.space(lot, session) {
+            if session == view.session(lot) || !machine.space(view, lot, session) {
                 continue;
             }
             let gain = view.gain(lot, session);

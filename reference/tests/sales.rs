@@ -66,14 +66,16 @@ fn every_sale_gives_its_superfine_report() {
 }
 
 #[test]
-fn every_report_belongs_to_a_sale() {
+fn every_report_belongs_to_a_sale_or_a_hall() {
     for item in fs::read_dir(folder()).expect("the folder of sales is there") {
         let path = item.expect("the folder can be read").path();
         if path
             .extension()
             .is_some_and(|ending| ending == "report" || ending == "fine")
         {
-            assert!(path.with_extension("sale").exists(), "{}", path.display());
+            let of_sale = path.with_extension("sale").exists();
+            let of_hall = path.with_extension("hall").exists();
+            assert!(of_sale != of_hall, "{}", path.display());
         }
     }
 }

@@ -1,13 +1,15 @@
 //! The generator as a program: `generate SEED KIND` writes one sale to standard output and
 //! `generate SEED COUNT DIR` writes COUNT sales with their reports into a folder.
 //! Rests on the library's generators; KIND is `any`, `damaged` or one of the generator's kinds, or
-//! `hgr` or `damaged-hgr` for an input of the converter.
+//! `hall`, `damaged-hall` or `hall-` with one of the halls' kinds, or `hgr` or `damaged-hgr` for an input
+//! of the converter.
 
 use std::io::{self, Write};
 use std::path::Path;
 use std::process::ExitCode;
 
 use reference::generator::{damaged, sale, sale_of_kind, KINDS};
+use reference::hall_generator::{damaged_hall, hall_file, hall_of_kind, HALL_KINDS};
 use reference::hgr_generator::{damaged_hgr, hgr};
 
 fn main() -> ExitCode {
@@ -30,6 +32,8 @@ fn main() -> ExitCode {
             let kinds: Vec<&str> = KINDS.iter().map(|&(name, _)| name).collect();
             eprintln!("usage: generate SEED KIND | generate SEED COUNT DIR");
             eprintln!("KIND: any damaged hgr damaged-hgr {}", kinds.join(" "));
+            let kinds: Vec<&str> = HALL_KINDS.iter().map(|&(name, _)| name).collect();
+            eprintln!("or: hall damaged-hall hall-{}", kinds.join(" hall-"));
             ExitCode::FAILURE
         }
     }
@@ -42,10 +46,18 @@ fn one(seed: u64, kind: &str) -> Option<io::Result<()>> {
         "damaged" => damaged(seed),
         "hgr" => hgr(seed),
         "damaged-hgr" => damaged_hgr(seed),
-        _ => {
-            let &(_, kind) = KINDS.iter().find(|&&(name, _)| name == kind)?;
-            sale_of_kind(seed, kind)
-        }
+        "hall" => hall_file(seed),
+        "damaged-hall" => damaged_hall(seed),
+        _ => match kind.strip_prefix("hall-") {
+            Some(kind) => {
+                let &(_, kind) = HALL_KINDS.iter().find(|&&(name, _)| name == kind)?;
+                hall_of_kind(seed, kind)
+            }
+            None => {
+                let &(_, kind) = KINDS.iter().find(|&&(name, _)| name == kind)?;
+                sale_of_kind(seed, kind)
+            }
+        },
     };
     Some(io::stdout().lock().write_all(&file))
 }
