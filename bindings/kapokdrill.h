@@ -1,6 +1,7 @@
 /* The proved splitter as C functions: a sale file in, its report and its tables out.
- * Link target/staticlib/libengine.a, which `rt staticlib engine` writes, and for kapokdrill_convert
- * target/staticlib/libhgr.a, which `rt staticlib hgr` writes.
+ * Link target/staticlib/libengine.a, which `rt staticlib engine` writes; for kapokdrill_convert
+ * target/staticlib/libhgr.a, which `rt staticlib hgr` writes; and for kapokdrill_sheets
+ * target/staticlib/libsheets.a, which `rt staticlib sheets` writes.
  *
  * The functions keep nothing between calls, so calls on different memory may run at the same time.
  * Beside what they are lent they need some hundreds of kilobytes of stack and no heap. Lent memory
@@ -33,6 +34,8 @@ extern "C" {
 #define KAPOKDRILL_FINE_VERTICES 256
 #define KAPOKDRILL_FINE_GAINS 4096
 #define KAPOKDRILL_FINE_INDEX 4096
+/* The output of kapokdrill_sheets is longer. */
+#define KAPOKDRILL_SHEETS_OUTPUT 122880
 
 typedef struct {
     /* 0, or the number under which the file was turned down:
@@ -183,6 +186,23 @@ typedef struct {
  * is written keeps what it held; under 8 nothing is touched. */
 kapokdrill_converted kapokdrill_convert(
     const uint8_t *input, size_t input_length,
+    uint8_t *output, size_t output_length);
+
+typedef struct {
+    /* 0, or 8 for an output below KAPOKDRILL_SHEETS_OUTPUT bytes, or the number under which the engine
+     * turned the file down, as in kapokdrill_result. */
+    uint32_t code;
+    /* The bytes of `output` that hold the sheets, or the line `NO,number,line`; 0 under 8. */
+    size_t written;
+} kapokdrill_sheets_result;
+
+/* Reads a sale file, runs its calls and writes the buyers' sheets: for each buyer a line
+ * `SHEET,buyer,visited`, then `AT,session,lot` for each lot marked that is in the sale, by session and
+ * then lot number. A joined lot has its own number and the session of the lot that stands for it. The
+ * calls' answers are not written. Output past what is written keeps what it held; under 8 nothing is
+ * touched. No tables are lent: the function has its own. */
+kapokdrill_sheets_result kapokdrill_sheets(
+    const uint8_t *file, size_t file_length,
     uint8_t *output, size_t output_length);
 
 #ifdef __cplusplus

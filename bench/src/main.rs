@@ -1,19 +1,22 @@
 //! Measures the engine and the tuned splitter by turns on each workload, prints the medians with
 //! their ratio, and draws the ratios into `bench/ratios.svg`; then the converter and the loading of
-//! what it writes, likewise by turns.
+//! what it writes, and the buyers' sheets of the largest sales and their loading, likewise by turns.
 
 use std::hint::black_box;
 use std::time::Instant;
 
 use bench::plot::{bars, LIMIT};
 use bench::tuned::Splitter;
-use bench::workloads::{hmetis, workloads, Workload};
-use kapokdrill::lent::{convert, OUTPUT};
+use bench::workloads::{hmetis, largest, workloads, Workload};
+use kapokdrill::lent::{convert, sheets, OUTPUT, SHEETS_OUTPUT};
 use kapokdrill::Memory;
 
 /// Samples of each of the two, and the least time that one takes.
 const SAMPLES: usize = 9;
 const SAMPLE_SECONDS: f64 = 0.02;
+
+/// The time that the sheets of a sale may take over that of loading it.
+const SHEETS_LIMIT: f64 = 2.0;
 
 /// Seconds for each of `times` runs.
 fn seconds(times: usize, mut work: impl FnMut()) -> f64 {
@@ -78,6 +81,28 @@ fn measure_converter(memory: &mut Memory) -> (f64, f64) {
     )
 }
 
+/// The medians of the sheets of a sale and of the engine on it. Both load it and write a text.
+fn measure_sheets(workload: &Workload, memory: &mut Memory) -> (f64, f64) {
+    let file = &workload.file;
+    let mut output = vec![0; SHEETS_OUTPUT];
+    let outcome = sheets(file, &mut output);
+    let wanted = reference::sheets(file);
+    assert_eq!(outcome.code, 0, "{}: turned down", workload.name);
+    assert!(
+        output[..outcome.written] == wanted.report,
+        "{}: two texts",
+        workload.name
+    );
+    by_turns(
+        || {
+            black_box(sheets(black_box(file), &mut output));
+        },
+        || {
+            black_box(memory.run(black_box(file)));
+        },
+    )
+}
+
 fn main() -> std::io::Result<()> {
     let mut memory = Memory::default();
     let mut splitter = Splitter::default();
@@ -102,6 +127,15 @@ fn main() -> std::io::Result<()> {
     println!(
         "converter {converter:.3} ms, loading what it writes {loading:.3} ms, ratio {ratio:.2}"
     );
+    for workload in largest() {
+        let (sheets, loading) = measure_sheets(&workload, &mut memory);
+        let ratio = sheets / loading;
+        let (sheets, loading) = (sheets * 1e3, loading * 1e3);
+        println!(
+            "sheets of {} {sheets:.3} ms, loading it {loading:.3} ms, ratio {ratio:.2} of at most {SHEETS_LIMIT}",
+            workload.name
+        );
+    }
     println!("medians of {SAMPLES} samples by turns; neither's memory was cleared between runs");
     std::fs::write(
         concat!(env!("CARGO_MANIFEST_DIR"), "/ratios.svg"),

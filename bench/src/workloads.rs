@@ -157,6 +157,14 @@ pub fn workloads() -> Vec<Workload> {
     ]
 }
 
+/// The largest sales, without calls, whose sheets are measured: 8,192 marks in short and in long lists.
+pub fn largest() -> Vec<Workload> {
+    vec![
+        workload("1,024 lists of 8", catalogue(1024, 1024, 8, 16), vec![]),
+        workload("8 lists of 1,024", catalogue(1024, 8, 1024, 16), vec![]),
+    ]
+}
+
 /// The catalogue of the loading workload as an hMETIS file with its partition listing.
 pub fn hmetis() -> Vec<u8> {
     let catalogue = catalogue(1024, 1024, 8, 4);

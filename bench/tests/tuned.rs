@@ -4,7 +4,7 @@
 use std::path::Path;
 
 use bench::tuned::Splitter;
-use bench::workloads::workloads;
+use bench::workloads::{largest, workloads};
 use reference::generator::{damaged, sale, sale_of_kind, Kind};
 use reference::{parse, Outcome};
 
@@ -43,7 +43,7 @@ fn generated_sales_give_the_references_reports() {
 
 #[test]
 fn workloads_are_accepted() {
-    for workload in workloads() {
+    for workload in workloads().into_iter().chain(largest()) {
         assert!(parse(&workload.file).is_ok(), "{}", workload.name);
     }
 }

@@ -15,6 +15,7 @@ pub mod folder;
 pub mod lists;
 pub mod orders;
 pub mod refused;
+pub mod sheets;
 
 use lists::List;
 

@@ -1,7 +1,7 @@
 //! The engine over memory of the caller's: a sale file (`run`, and `run_fine` for the superfine
 //! desk), a list of calls apart from the catalogue (`run_list`), and a net's pins as a stretch of a
-//! table (`pins`); and the converter of hMETIS files (`convert`). Every slice crosses with its own length, and the lengths are tested on
-//! the other side, so no call of these functions can be wrong. The tables have the names that the engine gives them.
+//! table (`pins`); the converter of hMETIS files (`convert`); and the buyers' sheets (`sheets`). Every slice crosses with its own length, and
+//! the lengths are tested on the other side, so no call of these functions can be wrong. The tables have the names that the engine gives them.
 
 /// Bytes that the output must have.
 pub const OUTPUT: usize = 60_000;
@@ -17,6 +17,8 @@ pub const ROWS: usize = 16_384;
 pub const FINE_VERTICES: usize = 256;
 /// Entries of its table of gains and of its index.
 pub const FINE_ROWS: usize = 4_096;
+/// Bytes that the output of `sheets` must have.
+pub const SHEETS_OUTPUT: usize = 122_880;
 
 /// A lot's record: its bales, its session (0 off the board), the lot that it was joined into (0 on
 /// the board) and whether its own line ends in `,K` (1, else 0). All 0 for a withdrawn lot; a lot that
@@ -211,6 +213,13 @@ extern "C" {
         output: *mut u8,
         output_length: usize,
     ) -> Outcome;
+
+    fn kapokdrill_sheets(
+        file: *const u8,
+        file_length: usize,
+        output: *mut u8,
+        output_length: usize,
+    ) -> Outcome;
 }
 
 /// An entry over records: the engine's function, and the one here that calls it.
@@ -382,4 +391,12 @@ pub fn convert(input: &[u8], output: &mut [u8]) -> Outcome {
             output.len(),
         )
     }
+}
+
+/// Reads a sale file, runs its calls and writes the buyers' sheets: 0, or 8 for an output below
+/// `SHEETS_OUTPUT` bytes, or the number under which the engine turned the file down, and how many bytes
+/// were written.
+pub fn sheets(file: &[u8], output: &mut [u8]) -> Outcome {
+    // SAFETY: as in `run`; the result of the sheets has the fields and the layout of `Outcome`.
+    unsafe { kapokdrill_sheets(file.as_ptr(), file.len(), output.as_mut_ptr(), output.len()) }
 }

@@ -1,5 +1,5 @@
 //! The proved splitter for Rust: `Memory` owns all that the engine is lent and runs sales on it.
-//! Rests on the static libraries of the crates `engine` and `hgr`; `lent` has the calls across.
+//! Rests on the static libraries of the crates `engine`, `hgr` and `sheets`; `lent` has the calls across.
 //! `picture` draws a sale as SVG, and `command` has what the package's programs share.
 
 pub mod command;
@@ -8,7 +8,7 @@ pub mod picture;
 
 use lent::{
     Columns, Lent, ListOutcome, Lot, NetTables, FINE_ROWS, FINE_VERTICES, NETS, OUTPUT, PINS, ROWS,
-    VERTICES,
+    SHEETS_OUTPUT, VERTICES,
 };
 
 /// The entry that a sale file goes through: the main one, for catalogues of 1,024 lots and 16
@@ -239,6 +239,16 @@ pub fn entry(number: usize, session: usize) -> usize {
 pub fn convert(input: &[u8]) -> (u32, Vec<u8>) {
     let mut output = vec![0; OUTPUT];
     let outcome = lent::convert(input, &mut output);
+    output.truncate(outcome.written);
+    (outcome.code, output)
+}
+
+/// The buyers' sheets of a sale file after its calls: for each buyer `SHEET,buyer,visited`, then
+/// `AT,session,lot` for each lot marked, by session and then lot number. The code is 0, or the number
+/// under which the file was turned down, with the line `NO,number,line`.
+pub fn sheets(file: &[u8]) -> (u32, Vec<u8>) {
+    let mut output = vec![0; SHEETS_OUTPUT];
+    let outcome = lent::sheets(file, &mut output);
     output.truncate(outcome.written);
     (outcome.code, output)
 }

@@ -1,7 +1,7 @@
 //! The program `kapokdrill` as a script calls it: reports, exit status, words on standard error, files by
 //! name, from standard input and in folders, and what fails.
 
-use kapokdrill::{convert, Desk, Memory};
+use kapokdrill::{convert, sheets, Desk, Memory};
 use std::collections::BTreeSet;
 use std::fs::File;
 use std::io::Write;
@@ -105,6 +105,21 @@ fn the_status_is_the_code_of_every_sale_on_file() {
 }
 
 #[test]
+fn sheets_and_their_status_of_every_sale_on_file() {
+    let mut codes = BTreeSet::new();
+    for path in on_file("sales", "sale") {
+        let file = std::fs::read(&path).expect("a sale file");
+        let (code, text) = sheets(&file);
+        let end = on("sheets", &[&path]);
+        assert_eq!(end.status.code(), Some(code as i32), "{}", path.display());
+        assert!(end.stdout == text, "{}", path.display());
+        assert_eq!(end.stderr.is_empty(), code == 0);
+        codes.insert(code);
+    }
+    assert_eq!(codes, BTreeSet::from([0, 1, 2, 3, 4, 5, 6, 7, 21]));
+}
+
+#[test]
 fn the_status_is_the_code_of_every_input_of_the_converter() {
     let mut codes = BTreeSet::new();
     for path in on_file("hgr", "hgr") {
@@ -124,7 +139,7 @@ fn refusals_are_told_in_words_with_their_line() {
     let header = b"SALE,2,2,2,0\nLOT,5,1\nLOT,5,2\n";
     let catalogue = |lines: &[u8]| [&header[..], lines].concat();
     let calls = [&b"BUY,1,1\nBUY,1,2\n"[..], &b"P\n".repeat(513)].concat();
-    let cases: [(&str, Vec<u8>, i32, &str); 10] = [
+    let cases: [(&str, Vec<u8>, i32, &str); 12] = [
         ("run", vec![b'1'; 60_001], 1, "over 60,000 bytes (1)\n"),
         ("run", vec![], 2, "line 1: badly written (2)\n"),
         (
@@ -162,6 +177,13 @@ fn refusals_are_told_in_words_with_their_line() {
             b"SALE,257,0,2,0\n".to_vec(),
             3,
             "line 1: a field out of range (3)\n",
+        ),
+        ("sheets", vec![b'1'; 60_001], 1, "over 60,000 bytes (1)\n"),
+        (
+            "sheets",
+            catalogue(b"BUY,1,1\nBUY,1,2,1,2\n"),
+            4,
+            "line 5: a lot twice with one buyer (4)\n",
         ),
         ("convert", b"HGR\n".to_vec(), 17, "badly written (17)\n"),
         (
@@ -306,13 +328,13 @@ fn other_words_are_told_and_help_is_given() {
         let end = program().args(words).stdin(Stdio::null()).output();
         let (status, output, told) = parts(&end.expect("the program ends"));
         assert_eq!((status, &*output), (64, ""), "{words:?}");
-        assert!(told.contains("usage: kapokdrill run|fine|convert"));
+        assert!(told.contains("usage: kapokdrill run|fine|sheets|convert"));
     }
     for words in [&["--help"][..], &["run", "--help"], &["-h"]] {
         let end = program().args(words).output().expect("the program ends");
         let (status, help, told) = parts(&end);
         assert_eq!((status, &*told), (0, ""));
-        assert!(help.starts_with("usage: kapokdrill run|fine|convert"));
+        assert!(help.starts_with("usage: kapokdrill run|fine|sheets|convert"));
         assert!(help.contains("74"));
     }
     let end = program().args(["run", "--", "--progress"]).output();

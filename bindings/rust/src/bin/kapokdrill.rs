@@ -1,17 +1,19 @@
-//! `kapokdrill run|fine|convert [FILE..]`: the engine and the converter for scripts. It reads, calls and
-//! writes; the exit status is the code, and a refusal is told in words on standard error.
+//! `kapokdrill run|fine|sheets|convert [FILE..]`: the engine, the buyers' sheets and the converter for
+//! scripts. It reads, calls and writes; the exit status is the code, and a refusal is told in words on
+//! standard error.
 
 use kapokdrill::command::{self, refusal, FAILED, MISUSED};
-use kapokdrill::{convert, Desk, Memory};
+use kapokdrill::{convert, sheets, Desk, Memory};
 use std::ffi::{OsStr, OsString};
 use std::io::{self, IsTerminal, Write};
 use std::path::{Path, PathBuf};
 use std::process::ExitCode;
 
-const HELP: &str = "usage: kapokdrill run|fine|convert [--progress] [FILE..]
+const HELP: &str = "usage: kapokdrill run|fine|sheets|convert [--progress] [FILE..]
 
   run      runs each sale file and writes its report
   fine     the same through the superfine desk's entry, for 256 lots and 8 sessions
+  sheets   runs each sale file and writes its buyers' sheets
   convert  writes an hMETIS file with its partition listing as a sale file without calls
 
 Without FILE, or where it is -, standard input is read. A folder stands for the files in it that end in
@@ -22,7 +24,7 @@ terminal, and anywhere with --progress. Words behind -- are names of files.
 
 Exit status: that of the first file for which it is not 0, where a file's is
   0           accepted; a refused call is an answer in the report
-  1 to 8, 21  refused by run or fine, with this number
+  1 to 8, 21  refused by run, fine or sheets, with this number
   17 to 19    refused by convert, with this number
   74          it can't be read
 If the output can't be written, the rest is left and the status is 74; called with other words it is 64.";
@@ -31,6 +33,7 @@ If the output can't be written, the rest is left and the status is 74; called wi
 #[derive(Clone, Copy, PartialEq, Eq)]
 enum Task {
     Run(Desk),
+    Sheets,
     Convert,
 }
 
@@ -63,6 +66,7 @@ fn request(words: Vec<OsString>) -> Result<Option<Request>, String> {
             task = Some(match &*text {
                 "run" => Task::Run(Desk::Main),
                 "fine" => Task::Run(Desk::Superfine),
+                "sheets" => Task::Sheets,
                 "convert" => Task::Convert,
                 _ => return Err(format!("unknown: {text}")),
             });
@@ -76,14 +80,14 @@ fn request(words: Vec<OsString>) -> Result<Option<Request>, String> {
             progress,
             names,
         })),
-        None => Err("run, fine or convert is missing".into()),
+        None => Err("run, fine, sheets or convert is missing".into()),
     }
 }
 
 /// The files of a folder with the task's ending, in the order of their names.
 fn files_of(folder: &Path, task: Task) -> io::Result<Vec<PathBuf>> {
     let ending = match task {
-        Task::Run(_) => "sale",
+        Task::Run(_) | Task::Sheets => "sale",
         Task::Convert => "hgr",
     };
     let mut files = Vec::new();
@@ -182,7 +186,7 @@ fn serve(request: &Request) -> io::Result<u8> {
     };
     let mut memory = match request.task {
         Task::Run(desk) => Memory::new(desk),
-        Task::Convert => Memory::default(),
+        Task::Sheets | Task::Convert => Memory::default(),
     };
     let mut unread = unread.into_iter().peekable();
     for place in 0..=inputs.len() {
@@ -207,12 +211,16 @@ fn serve(request: &Request) -> io::Result<u8> {
                 continue;
             }
         };
-        let converted;
+        let made;
         let (code, report) = match request.task {
             Task::Run(_) => memory.run(&file),
+            Task::Sheets => {
+                made = sheets(&file);
+                (made.0, &made.1[..])
+            }
             Task::Convert => {
-                converted = convert(&file);
-                (converted.0, &converted.1[..])
+                made = convert(&file);
+                (made.0, &made.1[..])
             }
         };
         progress.clear();
