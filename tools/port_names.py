@@ -15,7 +15,11 @@ WORD = re.compile(r"\"(?:[^\"\\\n]|\\.)*\"|(?<![\w'])[a-z][A-Za-z0-9_₀-₉]*'*
 CAPITAL = re.compile(r"[a-z0-9₀-₉][A-Z]")
 KEPT = {"hMETIS"}
 # Names that would fall together with one that the spelling makes: the file's name in snake case, and what it is called instead.
-APART = {"crates/guarantees/specs/Numbers.antt": {"digits_of": "digits_of_lem"}}
+APART = {
+    "crates/guarantees/specs/Numbers.antt": {"digits_of": "digits_of_lem"},
+    "crates/lines/proofs/Operands.antt": {"late_of": "late_of_lem"},
+    "crates/spaced/proofs/Edges.antt": {"edge_row": "edge_row_lem"},
+}
 
 
 def snake(name):
@@ -38,8 +42,8 @@ def main():
     root = sys.argv[1] if len(sys.argv) > 1 else "."
     texts = {path: open(path, encoding="utf-8").read() for path in files(root)}
     for path, names in APART.items():
+        path = os.path.join(root, path)
         for old, new in names.items():
-            path = os.path.join(root, path)
             texts[path] = re.sub(rf"(?<![\w'-]){old}(?![\w'-])", new, texts[path])
     before, made = {}, {}
     for path, text in texts.items():

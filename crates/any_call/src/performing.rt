@@ -24,7 +24,7 @@ use report::answers::Answer;
 use search_calls::cycling::call_all;
 use search_calls::searching::{call_polish, call_walk};
 
-#[derive(Drop)]
+#[derive(Clone, Copy)]
 pub struct Turn {
     pub stack: Stack,
     pub journal: Journal,
@@ -33,7 +33,7 @@ pub struct Turn {
 }
 
 // The same of a call that has no use for the stack.
-#[derive(Drop)]
+#[derive(Clone, Copy)]
 pub struct MovingTurn {
     pub journal: Journal,
     pub total: u32,

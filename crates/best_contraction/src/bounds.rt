@@ -14,7 +14,7 @@ use incidence::{is_pin, next_net};
 const ABOVE_ALL: u64 = 36028797018963968;
 
 // What a net adds to the bounds of its pins: to those of the vertices before `u` in its block, and to those of the others.
-#[derive(Drop)]
+#[derive(Clone, Copy)]
 struct Shares {
     near: u64,
     far: u64,

@@ -15,14 +15,14 @@ use crate::tops::{four_top, highest, set_bound, set_tops};
 use incidence::numbers::long;
 
 // The best partner of a vertex; vertex 0 and rating 0 where there is none.
-#[derive(Drop)]
+#[derive(Clone, Copy)]
 pub struct Partner {
     pub rating: u64,
     pub vertex: usize,
 }
 
 // A pair and its rating, which is 0 where there is none.
-#[derive(Drop)]
+#[derive(Clone, Copy)]
 pub struct Join {
     pub rating: u64,
     pub into: usize,
@@ -30,7 +30,7 @@ pub struct Join {
 }
 
 // The best pair of a vertex just rated, and the vertex whose bound is now the highest.
-#[derive(Drop)]
+#[derive(Clone, Copy)]
 struct Rated {
     rating: u64,
     into: usize,

@@ -7,7 +7,7 @@ ghost use Rattle.best_contraction.specs.PartTop.{TopOf, part_end, Topped, Tops, 
 use incidence::least;
 
 // A part and its top.
-#[derive(Drop)]
+#[derive(Clone, Copy)]
 struct Top {
     bound: u64,
     part: usize,

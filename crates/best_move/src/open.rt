@@ -16,7 +16,7 @@ use index::numbers::block_at;
 use index::rows::put_right;
 
 // The open pair to take, or that no pair is open.
-#[derive(Drop)]
+#[derive(Clone, Copy)]
 pub enum Pick {
     Move { vertex: u16, block: u16 },
     Nothing,
@@ -30,7 +30,7 @@ const BELOW_ALL: i64 = -4294967296;
 
 // The best of the pairs seen: its place in the table of gains, counted from 1, and its gain. Where there is none, `NO_PLACE` and `BELOW_ALL`,
 // so that no test for that is needed.
-#[derive(Drop)]
+#[derive(Clone, Copy)]
 struct Lead {
     at: usize,
     top: i64,

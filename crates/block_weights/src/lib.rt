@@ -1,4 +1,6 @@
 // What the vertices of a block weigh together, by the tables.
+#![tactic(auto)]
+
 ghost use Rattle.std.specs.Prelude.{◌≡◌, cond, ◌≤◌, eqb, length};
 ghost use Rattle.laws.specs.Sum.{sum};
 ghost use Rattle.block_weights.specs.Term.{block_term};

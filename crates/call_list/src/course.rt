@@ -8,7 +8,7 @@ use operations::pairs::{Journal, Stack};
 
 // Between two calls: the contraction stack, the journal, the numbers withdrawn and still free, who is fixed, how many vertices are known and how many
 // pins there are, the metric, and where the output's text ends.
-#[derive(Drop)]
+#[derive(Clone, Copy)]
 pub struct Course {
     pub stack: Stack,
     pub journal: Journal,
@@ -21,7 +21,7 @@ pub struct Course {
 }
 
 // How many nets and blocks there are, ⌈W/k⌉, and how many vertices there may be.
-#[derive(Drop)]
+#[derive(Clone, Copy)]
 pub struct Frame {
     pub m: usize,
     pub k: usize,

@@ -1,4 +1,6 @@
 // A list of call lines on a running sale: each steps the tables, and its answer's line goes to the output.
+#![tactic(auto)]
+
 ghost use Rattle.std.specs.Prelude.{ℕ, ◌+◌, ◌-◌, ◌<◌, ◌≤◌, ◌≡◌, length, get_or, take, drop};
 ghost use Rattle.model.specs.Catalogue.{Limits, Hypergraph};
 ghost use Rattle.model.specs.Grammar.{letter_n};

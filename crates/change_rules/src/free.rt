@@ -2,7 +2,7 @@
 ghost use Rattle.std.specs.Prelude.{◌+◌, ◌-◌, ◌<◌, ◌≤◌, ◌≡◌, length, set};
 ghost use Rattle.change_rules.specs.Free.{next_of};
 
-#[derive(Drop)]
+#[derive(Clone, Copy)]
 pub struct Free {
     pub numbers: [u16; 512],
     pub len: usize,

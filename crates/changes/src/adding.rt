@@ -23,7 +23,7 @@ use renewal::put_in;
 
 // What N leaves of the free numbers, the record, how many lots are known, the number of marks and the metric; its lot, 0 where it is refused, and its
 // refusal or 0.
-#[derive(Drop)]
+#[derive(Clone, Copy)]
 pub struct AddTurn {
     pub free: Free,
     pub journal: Journal,

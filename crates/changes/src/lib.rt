@@ -1,4 +1,6 @@
 // The calls X and N on the tables of a running sale: lots withdrawn and added.
+#![tactic(auto)]
+
 pub mod adding;
 mod renewing;
 pub mod withdrawing;

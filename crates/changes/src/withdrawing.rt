@@ -20,14 +20,14 @@ use operations::pairs::Journal;
 use renewal::take_out;
 
 // How many marks are left, and the metric.
-#[derive(Drop)]
+#[derive(Clone, Copy)]
 pub struct Rest {
     pub marks: usize,
     pub total: u32,
 }
 
 // What X leaves of the free numbers, the record, the number of marks and the metric, and its refusal or 0.
-#[derive(Drop)]
+#[derive(Clone, Copy)]
 pub struct WithdrawTurn {
     pub free: Free,
     pub journal: Journal,

@@ -1,4 +1,6 @@
 // A's contractions: while more than 2 × k vertices are on the board, the best pair of vertices that are not fixed is contracted.
+#![tactic(auto)]
+
 ghost use Rattle.std.specs.Prelude.{ℕ, ◌+◌, ◌-◌, ◌*◌, ◌<◌, ◌≤◌, ◌≡◌, cond, List, eqb, ltb, length};
 ghost use Rattle.laws.specs.Choice.{one};
 ghost use Rattle.incidence.specs.On.{on};
@@ -17,7 +19,7 @@ use operations::pairs::LongStack;
 use operations::size::Size;
 
 // The stack, and how many vertices have still to leave the board: 0 too where no pair is left.
-#[derive(Drop)]
+#[derive(Clone, Copy)]
 pub struct Round {
     pub stack: LongStack,
     pub left: usize,

@@ -1,5 +1,7 @@
 // The engine with the lots as four tables, which the entry over records and the program share: 8 is tested first, then the file is
 // loaded, and worked to its end or turned down.
+#![tactic(auto)]
+
 ghost use Rattle.model.specs.Lent.{lists, lent, memory};
 ghost use Rattle.lines.specs.Line.{limits_of, Within};
 ghost use Rattle.columns.specs.Entry.{ServesLots};

@@ -4,7 +4,7 @@ ghost use Rattle.std.specs.Prelude.{◌^◌, ◌<◌, ◌≡◌, length, get_or,
 ghost use Rattle.connectivity.specs.Share.{when};
 
 // The weights of the nets that a move takes out of the vertex's own block, and of those that it brings into the target.
-#[derive(Drop)]
+#[derive(Clone, Copy)]
 pub struct Halves {
     pub freed: u32,
     pub drawn: u32,

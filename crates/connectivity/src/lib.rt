@@ -1,5 +1,7 @@
 // Pin counts, connectivity sets and gains, and the changes of a pin that they are kept in step with: it comes, goes or moves. Gains of a net's
 // other pins change only where a count leaves or reaches 0 or 1. The pins of a net that has none yet are also taken in all at once.
+#![tactic(auto)]
+
 mod counts;
 pub mod halves;
 mod shares;

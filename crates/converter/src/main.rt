@@ -1,4 +1,6 @@
 // The program: an hMETIS file with its listing from standard input through the converter, and the catalogue to standard output.
+#![tactic(auto)]
+
 use hgr::kapokdrill_convert;
 
 fn main() {

@@ -1,4 +1,6 @@
 // A, the n-level cycle, on the tables of a running sale.
+#![tactic(auto)]
+
 mod numbers;
 mod refining;
 pub mod whole;

@@ -12,7 +12,7 @@ use search_moves::rows::{fill_rows, part_rows};
 use walk::walks::{Walked, walk};
 
 // The moves that the walks made and kept, all together, and the metric.
-#[derive(Drop)]
+#[derive(Clone, Copy)]
 pub struct Fine {
     pub tried: u32,
     pub kept: u32,

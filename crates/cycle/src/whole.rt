@@ -12,7 +12,7 @@ use operations::size::Size;
 use polish::polishing::polish;
 
 // How many contractions were made, the moves that the walks made and kept, all together, and the metric.
-#[derive(Drop)]
+#[derive(Clone, Copy)]
 struct Descent {
     joins: u32,
     tried: u32,
@@ -21,7 +21,7 @@ struct Descent {
 }
 
 // What A answers: the same, with P's moves, and the metric after them.
-#[derive(Drop)]
+#[derive(Clone, Copy)]
 pub struct Cycled {
     pub joins: u32,
     pub tried: u32,

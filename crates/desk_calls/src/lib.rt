@@ -1,4 +1,6 @@
 // One call line of a catalogue beside the others of a hall, on the catalogue's own tables. Rests on beside and call_list.
+#![tactic(auto)]
+
 ghost use Rattle.std.specs.Prelude.{◌+◌, ◌≤◌, ◌≡◌, length};
 ghost use Rattle.model.specs.Grammar.{letter_n};
 ghost use Rattle.call_list.specs.Point.{point_of};

@@ -16,7 +16,7 @@ use operations::joins::{join, split};
 use operations::pairs::{Journal, Stack};
 
 // What a call leaves of the stack and the journal, its refusal or 0, and the numbers of its answer, 0 where it is refused.
-#[derive(Drop)]
+#[derive(Clone, Copy)]
 pub struct JoinTurn {
     pub stack: Stack,
     pub journal: Journal,
@@ -24,7 +24,7 @@ pub struct JoinTurn {
     pub weight: u32,
 }
 
-#[derive(Drop)]
+#[derive(Clone, Copy)]
 pub struct SplitTurn {
     pub stack: Stack,
     pub journal: Journal,

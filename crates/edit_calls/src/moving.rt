@@ -20,7 +20,7 @@ use operations::moves::{back, go};
 use operations::pairs::Journal;
 
 // What a call leaves of the journal, its refusal or 0, and the numbers of its answer, 0 where it is refused; the metric is in any case the one after it.
-#[derive(Drop)]
+#[derive(Clone, Copy)]
 pub struct MoveTurn {
     pub journal: Journal,
     pub no: u32,
@@ -28,7 +28,7 @@ pub struct MoveTurn {
     pub total: u32,
 }
 
-#[derive(Drop)]
+#[derive(Clone, Copy)]
 pub struct BackTurn {
     pub journal: Journal,
     pub no: u32,

@@ -10,7 +10,7 @@ use records::{Lot, write};
 
 // The engine's answer: 0 or the number of the refusal, 1 to 8, 21 or, for a hall, 24, and the bytes written.
 #[repr(C)]
-#[derive(Drop)]
+#[derive(Clone, Copy)]
 pub struct Ran {
     pub code: u32,
     pub written: usize,

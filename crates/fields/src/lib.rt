@@ -1,4 +1,6 @@
 // A line of a text: a word, fields behind commas, a line feed. Each function writes from `at` on and says where its text ends.
+#![tactic(auto)]
+
 ghost use Rattle.std.specs.Prelude.{◌∷◌, ◌++◌, ◌+◌, ◌≤◌, length};
 ghost use Rattle.model.specs.Report.{digits, tail};
 ghost use Rattle.model.specs.CatalogueText.{numbers};

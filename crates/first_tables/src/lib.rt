@@ -1,4 +1,6 @@
 // The running tables filled after loading, when the pin lists are as loaded and no contraction stands.
+#![tactic(auto)]
+
 mod clear;
 
 ghost use Rattle.std.specs.Prelude.{◌+◌, ◌<◌, ◌≡◌};

@@ -1,4 +1,6 @@
 // The program: a hall's file from standard input through the engine, on memory of its own, and the report to standard output.
+#![tactic(auto)]
+
 use engine::hall_columns_entry::run_hall_columns;
 
 fn main() {

@@ -1,4 +1,6 @@
 // A list of led call lines on the sets of tables of a hall: each steps its own catalogue's set, and its answer's line goes to the output.
+#![tactic(auto)]
+
 ghost use Rattle.std.specs.Prelude.{◌≡◌, length};
 ghost use Rattle.hall_step.specs.Sets.{sets};
 ghost use Rattle.hall_calls.specs.Course.{CanRun, Ran};

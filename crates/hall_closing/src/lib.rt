@@ -1,4 +1,6 @@
 // The closing reports of a hall's catalogues, in turn: each table is lent as a slice of arrays, one array for each catalogue. Rests on report.
+#![tactic(auto)]
+
 ghost use Rattle.std.specs.Prelude.{◌<◌, ◌≤◌, List, [], length, get_or};
 ghost use Rattle.model.specs.Catalogue.{Hypergraph};
 ghost use Rattle.model.specs.Machine.{State};

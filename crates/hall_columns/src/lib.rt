@@ -1,5 +1,7 @@
 // The hall's entry with the lots as four tables, which the entry over records and the program share: 8 is tested first, then the file is loaded, and worked
 // to its end or turned down. Each table is lent as a slice of arrays, one array for each catalogue. Rests on lengths and hall_file.
+#![tactic(auto)]
+
 ghost use Rattle.std.specs.Prelude.{◌<◌, ◌≡◌};
 ghost use Rattle.model.specs.Catalogue.{main_limits};
 ghost use Rattle.model.specs.Memory.{long_memory};

@@ -1,5 +1,7 @@
 // A hall's file in memory that is long enough: its catalogues are loaded into four sets of tables, which are opened, and its calls are run, or it is turned down.
 // Each table is lent as a slice of arrays, one array for each catalogue. Rests on hall_loader, hall_opening, hall_calls and hall_closing.
+#![tactic(auto)]
+
 ghost use Rattle.std.specs.Prelude.{ℕ, ◌<◌, ◌≤◌, ◌≡◌, Bool, List, length, get_or};
 ghost use Rattle.model.specs.HallText.{parse_hall};
 ghost use Rattle.model.specs.HallDemand.{HallWorked};
@@ -21,7 +23,7 @@ use loader::Sizes;
 use sale::closing::refuse;
 
 // 0 or the number of the refusal, 1 to 7, 21 or 24, the bytes written, and how many lots of each catalogue are known at the end: 0 where there is none.
-#[derive(Drop)]
+#[derive(Clone, Copy)]
 pub struct HallRan {
     pub code: u32,
     pub written: usize,
@@ -29,7 +31,7 @@ pub struct HallRan {
 }
 
 // Where the catalogues stand after a hall's calls, the totals of their drafts, and where the output's text ends.
-#[derive(Drop)]
+#[derive(Clone, Copy)]
 struct HallSale {
     courses: [Course; 4],
     drafts: [u32; 4],
@@ -37,7 +39,7 @@ struct HallSale {
 }
 
 // The end of an accepted file: where its text ends, and how many lots of each catalogue are known.
-#[derive(Drop)]
+#[derive(Clone, Copy)]
 struct HallEnd {
     at: usize,
     lots: [usize; 4],

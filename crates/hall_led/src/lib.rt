@@ -1,4 +1,6 @@
 // One led call line of a hall: what the others leave to its catalogue, its lead, and the call line on the catalogue's set of tables.
+#![tactic(auto)]
+
 ghost use Rattle.std.specs.Prelude.{◌+◌, ◌≤◌, ◌≡◌, [], ◌∷◌, ◌++◌, length};
 ghost use Rattle.model.specs.Grammar.{letter_n};
 ghost use Rattle.model.specs.Report.{digits};
@@ -17,14 +19,14 @@ mod others;
 use others::{lots_left, marks_left};
 
 // What no call changes of a catalogue: how many nets and blocks it has, ⌈W/k⌉, and its cap. The frame's `lots` has no use here.
-#[derive(Drop)]
+#[derive(Clone, Copy)]
 pub struct Terms {
     pub frame: Frame,
     pub cap: u64,
 }
 
 // Where the catalogues stand after a led call line, and where the output's text ends.
-#[derive(Drop)]
+#[derive(Clone, Copy)]
 pub struct LedTurn {
     pub courses: [Course; 4],
     pub at: usize,

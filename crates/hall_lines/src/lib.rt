@@ -1,5 +1,7 @@
 // A hall's own lines: the first line, and the call lines, each led by the number of a catalogue. Each function is proved against a definition of
 // model. Rests on lines and reader.
+#![tactic(auto)]
+
 ghost use Rattle.std.specs.Prelude.{◌*◌, ◌≤◌, length};
 ghost use Rattle.std.proofs.Math.Seq.{slice};
 ghost use Rattle.model.specs.Grammar.{fields};
@@ -12,14 +14,14 @@ use reader::Ended;
 use text::between;
 
 // The first line: how many catalogues there are, and the limit of bales in a session; or its refusal.
-#[derive(Drop)]
+#[derive(Clone, Copy)]
 pub enum First {
     Hall(u32, u32),
     NoHall(u8),
 }
 
 // A call line: the number that leads it, the byte of the call's letter, its numbers and how many operands are in use behind it.
-#[derive(Drop)]
+#[derive(Clone, Copy)]
 pub enum LedAsk {
     Leads(u32, u32, u32, u32, usize),
     NotLed,

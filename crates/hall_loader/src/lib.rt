@@ -1,5 +1,7 @@
 // Loads a hall's file into four sets of lent tables, or says its first refusal: each table is a slice of arrays, one array for each catalogue.
 // Rests on loader and hall_lines.
+#![tactic(auto)]
+
 ghost use Rattle.std.specs.Prelude.{◌≡◌, ◌≤◌, ◌<◌, length};
 ghost use Rattle.lines.specs.Line.{limits_of, Within};
 ghost use Rattle.hall_loader.specs.Sets.{sets, Whole, Wide};
@@ -15,28 +17,28 @@ use loader::{LoadedCatalogue, Sizes};
 use reader::Ended;
 
 // How the catalogues ended: the place behind the last one and the number of the line there; or the refusal's number and the line's.
-#[derive(Drop)]
+#[derive(Clone, Copy)]
 pub enum Way {
     Past(usize, usize),
     Cut(u8, usize),
 }
 
 // The catalogues in turn: their sizes, and how they ended.
-#[derive(Drop)]
+#[derive(Clone, Copy)]
 pub struct Catalogues {
     pub sizes: [Sizes; 4],
     pub way: Way,
 }
 
 // An accepted hall: how many catalogues, the limit of bales in a session and how many calls; or the refusal's number and the line's.
-#[derive(Drop)]
+#[derive(Clone, Copy)]
 pub enum HallAnswer {
     Accepted(u32, u32, usize),
     Refused(u8, usize),
 }
 
 // A hall's file: the sizes of the catalogues that were loaded, and the answer.
-#[derive(Drop)]
+#[derive(Clone, Copy)]
 pub struct HallLoaded {
     pub sizes: [Sizes; 4],
     pub answer: HallAnswer,

@@ -1,4 +1,6 @@
 // A hall's sets of tables made ready for its calls: each table is lent as a slice of arrays, one array for each catalogue. Rests on opening, index and call_list.
+#![tactic(auto)]
+
 ghost use Rattle.std.specs.Prelude.{◌≤◌, ◌≡◌, length};
 ghost use Rattle.hall_opening.specs.Filled.{filled, fills, read, reads};
 ghost use Rattle.hall_opening.specs.Opening.{CanOpen, Opens, CanOpenSet, OpensSet, CanOpenSets, OpensSets};

@@ -7,7 +7,7 @@ use hall_columns::serve_hall;
 use records::Lot;
 
 // The engine's answer, and the first n records with their places: those to write.
-#[derive(Drop)]
+#[derive(Clone, Copy)]
 pub struct HallAnswer {
     pub n: usize,
     pub places: [usize; 4096],

@@ -1,4 +1,6 @@
 // A hall's lots as records: four sets of 1,024 in a row, over the columns that the engine works on. Rests on records.
+#![tactic(auto)]
+
 ghost use Rattle.std.specs.Prelude.{◌≡◌, ℕ, ◌≤◌, ◌<◌, length, get_or};
 ghost use Rattle.hall_records.specs.Placed.{placed};
 

@@ -1,4 +1,6 @@
 // What the hall's limit leaves to one catalogue in each session: the limit less what the others bear there.
+#![tactic(auto)]
+
 ghost use Rattle.std.specs.Prelude.{ℕ, ◌-◌, ◌*◌, ◌<◌, ◌≤◌, ◌≡◌, cond, [], leb, length, get_or};
 ghost use Rattle.laws.specs.Sum.{sum};
 ghost use Rattle.hall_rooms.specs.Rooms.{bearing, besides, FewBales, Leaves, Least};

@@ -1,5 +1,7 @@
 // The sheets of a hall (M-113), catalogue by catalogue, each line led by the catalogue's number and a comma. The tables are slices of arrays, one array for
 // each catalogue. Rests on sheet_rows.
+#![tactic(auto)]
+
 ghost use Rattle.std.specs.Prelude.{◌≡◌, List, [], ◌∷◌, ◌++◌, ℕ, ◌+◌, ◌≤◌, ◌<◌, length, get_or};
 ghost use Rattle.model.specs.Report.{digits};
 ghost use Rattle.model.specs.Sale.{Sale};

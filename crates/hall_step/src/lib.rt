@@ -1,4 +1,6 @@
 // Catalogues in one hall: each table is lent as a slice of arrays, one array for each catalogue, and a call line is lent its own catalogue's.
+#![tactic(auto)]
+
 ghost use Rattle.std.specs.Prelude.{◌+◌, ◌≤◌, ◌≡◌, length};
 ghost use Rattle.model.specs.Grammar.{letter_n};
 ghost use Rattle.call_list.specs.Asked.{request_of};

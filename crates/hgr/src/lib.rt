@@ -1,4 +1,6 @@
 // The converter: an hMETIS file with its partition listing to a catalogue's text, or to the number of its refusal.
+#![tactic(auto)]
+
 ghost use Rattle.std.specs.Prelude.{◌≡◌, true, false, ◌&&◌, [], ◌∷◌, ◌++◌, ◌+◌, ◌≤◌, ◌<◌, eqb, leb, length, take, replicate};
 ghost use Rattle.std.proofs.Math.Seq.{slice};
 ghost use Rattle.model.specs.Report.{digits, row};
@@ -14,7 +16,7 @@ use spaced::both;
 use text::between;
 
 // The first line: the number of sessions, the slack, and where the next line starts, or 0.
-#[derive(Drop)]
+#[derive(Clone, Copy)]
 pub struct First {
     pub blocks: u32,
     pub imbalance: u32,
@@ -22,7 +24,7 @@ pub struct First {
 }
 
 // The header: the weight code, or 0, the numbers of edges and vertices, and where the next line starts, or 0.
-#[derive(Drop)]
+#[derive(Clone, Copy)]
 pub struct Header {
     pub code: u32,
     pub edges: u32,
@@ -32,7 +34,7 @@ pub struct Header {
 
 // What the rows behind the header are: whether they are well written; whether the input can be carried over, whether the listing has a block
 // for each vertex, and how many bytes the buyers' lines have.
-#[derive(Drop)]
+#[derive(Clone, Copy)]
 pub struct Rows {
     pub well: bool,
     pub carried: bool,
@@ -41,7 +43,7 @@ pub struct Rows {
 }
 
 // A checked input: the same of the whole, its numbers, and where its edges start.
-#[derive(Drop)]
+#[derive(Clone, Copy)]
 pub struct Plan {
     pub well: bool,
     pub carried: bool,
@@ -57,7 +59,7 @@ pub struct Plan {
 
 // The converter's answer: 0 or the number of the refusal, 8 or 17 to 19, and the bytes written.
 #[repr(C)]
-#[derive(Drop)]
+#[derive(Clone, Copy)]
 pub struct Converted {
     pub code: u32,
     pub written: usize,

@@ -1,5 +1,7 @@
 // Which vertex is a pin of which net: a row of 1,024 bits, 16 words, for each vertex. Vertices and nets count from 0.
 // Callers know the contracts only, so that the representation can change.
+#![tactic(auto)]
+
 pub mod numbers;
 
 ghost use Rattle.std.specs.Prelude.{◌≡◌, ◌+◌, ◌*◌, ◌<◌, ◌≤◌, eqb, length};

@@ -143,7 +143,7 @@ pub ≤ℤ-total : (a b : ℤ) → (a ≤ℤ b) ⊎ (b <ℤ a)
 
 -- ---- a test of two signed numbers, as a branch leaves it: each number is read back from its bits
 pub read32 : (z : ℤ) → mag z < 2 ^ 31 → to_z w32 (of_z w32 z) ≡ z
-read32 z f = to_z-of_z (record { sfits = f })
+read32 z f = to_z-of_z {w = w32} (record { sfits = f })
 
 ap2 : {x x' y y' : ℤ} → x ≡ x' → y ≡ y' → lt_z x y ≡ lt_z x' y'
 ap2 p q = cc

@@ -1,1 +1,2 @@
 // No code: the laws are in specs/.
+#![tactic(auto)]

@@ -1,4 +1,6 @@
 // Is lent memory as long as document 01 asks, at an entry's limit of lots.
+#![tactic(auto)]
+
 ghost use Rattle.std.specs.Prelude.{◌≡◌};
 ghost use Rattle.model.specs.Catalogue.{Limits};
 ghost use Rattle.model.specs.Memory.{long_memory};

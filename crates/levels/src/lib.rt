@@ -1,4 +1,6 @@
 // The operations on the tables: a vertex moved, one contracted into another, a contraction undone. And a gain's halves, read from the tables.
+#![tactic(auto)]
+
 pub mod halves;
 mod nets;
 

@@ -133,12 +133,12 @@ module _ (s : List ℕ) (at end first : ℕ) (operands₀ operands : List ℕ) (
         }
 
 -- ---- an N line
-late_of : (f : List ℕ) (fs : Fields) (a b : Bool) → same f (bytes "N") ≡ a → all fs is_number ≡ b → is_late (f ∷ fs) ≡ (a && b && leb 3 (suc (length fs)))
+late_of_lem : (f : List ℕ) (fs : Fields) (a b : Bool) → same f (bytes "N") ≡ a → all fs is_number ≡ b → is_late (f ∷ fs) ≡ (a && b && leb 3 (suc (length fs)))
 unfolding is_line
-late_of f fs a b p q = rw (← p, ← q)
+late_of_lem f fs a b p q = rw (← p, ← q)
 
 too_short : (f : List ℕ) (fs : Fields) → length fs < 2 → is_late (f ∷ fs) ≡ false
-too_short f fs h = late_of f fs _ _ refl refl ∙ ap (λ (t : Bool). same f (bytes "N") && all fs is_number && t) (lt-leb 3 (suc (length fs)) (omega arith)) ∙ go (same f (bytes "N")) (all fs is_number)
+too_short f fs h = late_of_lem f fs _ _ refl refl ∙ ap (λ (t : Bool). same f (bytes "N") && all fs is_number && t) (lt-leb 3 (suc (length fs)) (omega arith)) ∙ go (same f (bytes "N")) (all fs is_number)
   where
     go : (a b : Bool) → (a && b && false) ≡ false
     go true true = refl
@@ -146,7 +146,7 @@ too_short f fs h = late_of f fs _ _ refl refl ∙ ap (λ (t : Bool). same f (byt
     go false b = refl
 
 no_number : (f : List ℕ) (fs : Fields) → all fs is_number ≡ false → is_late (f ∷ fs) ≡ false
-no_number f fs e = late_of f fs _ false refl e ∙ go (same f (bytes "N"))
+no_number f fs e = late_of_lem f fs _ false refl e ∙ go (same f (bytes "N"))
   where
     go : (t : Bool) → (t && false && leb 3 (suc (length fs))) ≡ false
     go true = refl
@@ -168,7 +168,7 @@ module _ (s : List ℕ) (at₀ end first a : ℕ) (operands : List ℕ) (le : at
 
   pub late-other : same (slice at₀ a s) (bytes "N") ≡ false → LateRead fs first end 0 operands operands
   unfolding fields
-  late-other e = let p = parts_first s at₀ end 44 a le inside found in none (ap is_late p.1 ∙ late_of (slice at₀ a s) p.0 false _ e refl)
+  late-other e = let p = parts_first s at₀ end 44 a le inside found in none (ap is_late p.1 ∙ late_of_lem (slice at₀ a s) p.0 false _ e refl)
 
   pub late-none : a ≡ end → LateRead fs first end 0 operands operands
   unfolding fields
@@ -200,7 +200,7 @@ module _ (s : List ℕ) (at₀ end first a : ℕ) (operands : List ℕ) (le : at
           len = read.len;
           bad = λ z. absurd (omega arith);
           good = λ q. record {
-            form = ap is_late split ∙ late_of (slice at₀ a s) ps true true word g.form ∙ le-leb 3 (suc (length ps)) (omega arith);
+            form = ap is_late split ∙ late_of_lem (slice at₀ a s) ps true true word g.form ∙ le-leb 3 (suc (length ps)) (omega arith);
             is = ap late_of (sym (slice_is first (m - first) operands') ∙ ap (λ (x : ℕ). slice first x operands') z ∙ g.is) ∙ late-values (slice at₀ a s) ps two ∙ ap late_asked (sym split);
             two = u;
             room = g.room;

@@ -1,4 +1,6 @@
 // One line of a sale file: the first line, a lot's, a buyer's, a call's. Each function is proved against a definition of model.
+#![tactic(auto)]
+
 ghost use Rattle.std.specs.Prelude.{◌≡◌, ◌*◌, ◌≤◌, ◌<◌, length};
 ghost use Rattle.std.proofs.Math.Seq.{slice};
 ghost use Rattle.model.specs.Grammar.{parts, fields};
@@ -9,7 +11,7 @@ ghost use Rattle.lines.specs.Mark.{Fresh, MarkOne, refusal_of, MarksRead, Weight
 use text::between;
 
 // What a catalogue may have: so many lots, sessions, buyers and marks.
-#[derive(Drop)]
+#[derive(Clone, Copy)]
 pub struct Limits {
     pub lots: u32,
     pub sessions: u32,
@@ -18,42 +20,42 @@ pub struct Limits {
 }
 
 // A call line's call: the byte of its letter, its numbers and how many operands are in use behind it.
-#[derive(Drop)]
+#[derive(Clone, Copy)]
 pub enum Ask {
     Asks(u32, u32, u32, usize),
     Nothing,
 }
 
 // The call of a line with a fixed number of fields: the byte of its letter and its numbers.
-#[derive(Drop)]
+#[derive(Clone, Copy)]
 pub enum Short {
     Calls(u32, u32, u32),
     Other,
 }
 
 // The first line: lots, buyers, sessions, slack and whether the file is an estimate.
-#[derive(Drop)]
+#[derive(Clone, Copy)]
 pub enum Head {
     Sale(u32, u32, u32, u32, bool),
     NoSale(u8),
 }
 
 // A lot line: least and most bales, which are the same in a sale, session and whether the lot is kept.
-#[derive(Drop)]
+#[derive(Clone, Copy)]
 pub enum Lot {
     Of(u32, u32, u16, bool),
     NoLot(u8),
 }
 
 // The marks of a line: where they end in the table, or the first refusal.
-#[derive(Drop)]
+#[derive(Clone, Copy)]
 pub enum Pinned {
     Good(usize),
     Wrong(u8),
 }
 
 // A buyer's line: its weight and where its marks end in the table, or the first refusal.
-#[derive(Drop)]
+#[derive(Clone, Copy)]
 pub enum Buy {
     Bought(u16, usize),
     NoBuy(u8),

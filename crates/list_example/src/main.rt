@@ -1,5 +1,7 @@
 // An example of the entry that takes a catalogue and a list of calls apart from each other: the catalogue from standard input, the worked
 // sale's calls, and the lines of their answers to standard output.
+#![tactic(auto)]
+
 use engine::listing::kapokdrill_list;
 
 fn main() {

@@ -1,4 +1,6 @@
 // Loads a catalogue, from any place and line of a file, or a whole sale file into lent tables, or says the first refusal. Rests on reader.
+#![tactic(auto)]
+
 ghost use Rattle.std.specs.Prelude.{◌≡◌, ◌+◌, ◌*◌, ◌≤◌, ltb, length, get_or, take};
 ghost use Rattle.model.specs.Catalogue.{nearest};
 ghost use Rattle.model.specs.Memory.{Filled};
@@ -13,7 +15,7 @@ use pins::sort_nets;
 use reader::{Catalogue, Ended};
 
 // The sizes of an accepted catalogue: how many lots, buyers, sessions, thousandths of slack and marks; ⌈W/k⌉; the cap.
-#[derive(Drop)]
+#[derive(Clone, Copy)]
 pub struct Sizes {
     pub vertices: u32,
     pub nets: u32,
@@ -25,14 +27,14 @@ pub struct Sizes {
 }
 
 // An accepted catalogue's sizes and the place behind its last line; or the refusal's number and the line's.
-#[derive(Drop)]
+#[derive(Clone, Copy)]
 pub enum LoadedCatalogue {
     Fits(Sizes, usize),
     Fails(u8, usize),
 }
 
 // An accepted file's sizes and how many calls it has; or the refusal's number and the line's.
-#[derive(Drop)]
+#[derive(Clone, Copy)]
 pub enum Loaded {
     Accepted(Sizes, usize),
     Refused(u8, usize),

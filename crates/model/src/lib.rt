@@ -1,1 +1,2 @@
 // No code: document 01 as definitions is in specs/.
+#![tactic(auto)]

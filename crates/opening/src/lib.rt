@@ -1,4 +1,6 @@
 // The tables as loading leaves them made into a running sale: counts, connectivity sets and gains filled, the blocks' weights, the metric.
+#![tactic(auto)]
+
 ghost use Rattle.std.specs.Prelude.{◌+◌, ◌-◌, ◌*◌, ◌<◌, ◌≤◌, ◌≡◌, length};
 ghost use Rattle.laws.specs.Sum.{sum};
 ghost use Rattle.laws.specs.Bit.{bit};

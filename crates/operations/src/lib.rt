@@ -1,4 +1,6 @@
 // The operations on the tables of a running sale that the calls and the searches share.
+#![tactic(auto)]
+
 pub mod joins;
 pub mod moves;
 pub mod pairs;

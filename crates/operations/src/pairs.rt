@@ -4,7 +4,7 @@ ghost use Rattle.std.specs.Prelude.{◌+◌, ◌-◌, ◌<◌, ◌≤◌, ◌≡
 ghost use Rattle.operations.specs.Pairs.{Pushed, Lengthened};
 
 // The joins that stand, the latest last: `gone[i]` was contracted into `into[i]`.
-#[derive(Drop)]
+#[derive(Clone, Copy)]
 pub struct Stack {
     pub into: [u16; 512],
     pub gone: [u16; 512],
@@ -12,7 +12,7 @@ pub struct Stack {
 }
 
 // The moves on the record, the latest last: `vertices[i]` left `blocks[i]`.
-#[derive(Drop)]
+#[derive(Clone, Copy)]
 pub struct Journal {
     pub vertices: [u16; 512],
     pub blocks: [u16; 512],
@@ -20,7 +20,7 @@ pub struct Journal {
 }
 
 #[repr(C)]
-#[derive(Drop)]
+#[derive(Clone, Copy)]
 pub struct LongStack {
     pub into: [u16; 1024],
     pub gone: [u16; 1024],
@@ -28,7 +28,7 @@ pub struct LongStack {
 }
 
 #[repr(C)]
-#[derive(Drop)]
+#[derive(Clone, Copy)]
 pub struct LongJournal {
     pub vertices: [u16; 1024],
     pub blocks: [u16; 1024],

@@ -1,5 +1,7 @@
 // Passes over an hMETIS file: each reads a run of its rows once, tests their form and what can be carried over, and keeps their numbers;
 // then its edges are written. A row is a line of the file that is no comment.
+#![tactic(auto)]
+
 ghost use Rattle.std.specs.Prelude.{◌≡◌, true, map, ◌+◌, ◌≤◌, ◌<◌, length, set, take};
 ghost use Rattle.model.specs.CatalogueText.{lot_text, buy_text};
 ghost use Rattle.fields.specs.Wrote.{Wrote};
@@ -11,7 +13,7 @@ ghost use Rattle.passes.specs.Read.{WeightsRead, BlocksRead, edges_at, EdgesRead
 use text::between;
 
 // Where a row stands; its end is the text's end where there is none.
-#[derive(Drop)]
+#[derive(Clone, Copy)]
 pub struct Place {
     pub start: usize,
     pub end: usize,
@@ -19,7 +21,7 @@ pub struct Place {
 
 // Edges: where the next line starts, or 0 where one is badly written; whether all can be carried over, how many vertices they name together,
 // and how long their lines of the catalogue are.
-#[derive(Drop)]
+#[derive(Clone, Copy)]
 pub struct Edges {
     pub next: usize,
     pub carried: bool,
@@ -28,14 +30,14 @@ pub struct Edges {
 }
 
 // Vertices' weights: where the next line starts, or 0 where one is badly written; and whether all can be carried over.
-#[derive(Drop)]
+#[derive(Clone, Copy)]
 pub struct Weights {
     pub next: usize,
     pub carried: bool,
 }
 
 // A listing: one more than the number of its lines, or 0 where one is badly written; and whether each names a block.
-#[derive(Drop)]
+#[derive(Clone, Copy)]
 pub struct Blocks {
     pub lines: usize,
     pub known: bool,

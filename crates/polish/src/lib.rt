@@ -1,2 +1,4 @@
 // P, a greedy polish, on the tables of a running sale.
+#![tactic(auto)]
+
 pub mod polishing;

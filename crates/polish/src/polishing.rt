@@ -16,7 +16,7 @@ use search_moves::marks::mark_vertex;
 use search_moves::peaks::shift;
 
 // What P answers: how many moves were made, and the metric after them.
-#[derive(Drop)]
+#[derive(Clone, Copy)]
 pub struct Polished {
     pub moves: u32,
     pub total: u32,
@@ -24,7 +24,7 @@ pub struct Polished {
 
 // A polish on its way. Each move lowers the metric, so that `left`, the metric at the start less the moves made, bounds the moves to come;
 // it is 0 once the polish has ended.
-#[derive(Drop)]
+#[derive(Clone, Copy)]
 struct Passes {
     left: u32,
     moves: u32,

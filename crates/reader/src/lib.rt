@@ -1,5 +1,7 @@
 // A catalogue's lines, from any place and line of a file, and a sale's call lines, read into lent tables, or their first refusal: equal to
 // model's grammar on the same bytes. Rests on lines.
+#![tactic(auto)]
+
 ghost use Rattle.std.specs.Prelude.{◌≡◌, cond, ◌+◌, ◌-◌, ◌*◌, ◌/◌, ◌≤◌, ◌<◌, eqb, length, take};
 ghost use Rattle.laws.specs.Fold.{sum_over};
 ghost use Rattle.laws.specs.Sum.{sum};
@@ -12,21 +14,21 @@ ghost use Rattle.reader.specs.Whole.{average_of, Long, Ready, overfull_is, NetsR
 use lines::{Ask, Buy, Head, Limits, Lot};
 
 // How the buyers' lines ended: where, and with how many marks; or refused with the refusal's number and the line's.
-#[derive(Drop)]
+#[derive(Clone, Copy)]
 pub enum Nets {
     All(usize, usize),
     Cut(u8, usize),
 }
 
 // A catalogue: lots, buyers, sessions, slack, marks and the place behind its last line; or the refusal's number and the line's.
-#[derive(Drop)]
+#[derive(Clone, Copy)]
 pub enum Catalogue {
     Taken(u32, u32, u32, u32, usize, usize),
     Refused(u8, usize),
 }
 
 // How a run of lines ended: with a number, or refused with the refusal's number and the line's.
-#[derive(Drop)]
+#[derive(Clone, Copy)]
 pub enum Ended {
     Up(usize),
     Stop(u8, usize),

@@ -8,7 +8,7 @@ use columns::serve;
 use lines::Limits;
 
 // The engine's answer, and the records of the first n lots: those to write.
-#[derive(Drop)]
+#[derive(Clone, Copy)]
 pub struct Answer {
     pub n: usize,
     pub lots: [Lot; 1024],

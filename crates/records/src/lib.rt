@@ -1,4 +1,6 @@
 // The lots as records: document 01's lent slice of structs, over the four tables that the engine works on.
+#![tactic(auto)]
+
 ghost use Rattle.std.specs.Prelude.{◌≡◌, ◌≤◌, length};
 ghost use Rattle.records.specs.Over.{over};
 ghost use Rattle.records.specs.Fields.{bales_of, sessions_of, aboves_of, kept_of};
@@ -7,7 +9,7 @@ pub mod answering;
 pub mod limits;
 
 #[repr(C)]
-#[derive(Drop)]
+#[derive(Clone, Copy)]
 pub struct Lot {
     pub bales: u32,
     pub session: u16,

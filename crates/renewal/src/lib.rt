@@ -1,4 +1,6 @@
 // The table of loaded pins rewritten without gaps when a vertex is taken out of a running sale or put into it, in place.
+#![tactic(auto)]
+
 ghost use Rattle.std.specs.Prelude.{◌≡◌, cond, ◌+◌, ◌<◌, ◌≤◌, eqb, length, get_or};
 ghost use Rattle.renewal.specs.Nets.{Holding};
 ghost use Rattle.renewal.specs.Columns.{Wrote};

@@ -1,4 +1,6 @@
 // A running sale made anew from the table of loaded pins, when no contraction stands.
+#![tactic(auto)]
+
 ghost use Rattle.reopening.specs.Reopening.{CanReopen, Reopened};
 
 use opening::open;

@@ -7,7 +7,7 @@ ghost use Rattle.report.specs.Meaning.{answer_of};
 use fields::put_row;
 
 // The answer to a call, with the numbers that its line prints. A total is the metric after the call; a refusal's number is document 01's.
-#[derive(Drop)]
+#[derive(Clone, Copy)]
 pub enum Answer {
     // J
     Contracted {

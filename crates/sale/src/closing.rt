@@ -23,7 +23,7 @@ pub fn refuse(output: &mut [u8], q: u8, line: usize) -> usize
 }
 
 // The end of a file: where its text ends, and how many vertices are known.
-#[derive(Drop)]
+#[derive(Clone, Copy)]
 pub struct Closed {
     pub at: usize,
     pub n: usize,

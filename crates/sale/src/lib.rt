@@ -1,4 +1,6 @@
 // A list of call lines on tables as loading left them, with demand 3 as its contract.
+#![tactic(auto)]
+
 ghost use Rattle.std.specs.Prelude.{ℕ, ◌≤◌, List, length};
 ghost use Rattle.model.specs.Catalogue.{Limits};
 ghost use Rattle.model.specs.Lent.{Lists, lists, lent, calls_of, two};
@@ -17,7 +19,7 @@ pub mod closing;
 
 // What a list of calls leaves beside the tables: the contraction stack, the journal, how many vertices are known, the metric of the draft and at the end, and
 // where the output's text ends.
-#[derive(Drop)]
+#[derive(Clone, Copy)]
 pub struct Sale {
     pub stack: Stack,
     pub journal: Journal,

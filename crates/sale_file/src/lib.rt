@@ -1,4 +1,6 @@
 // A sale file in memory that is long enough: it is loaded, and worked to its end or turned down.
+#![tactic(auto)]
+
 ghost use Rattle.std.specs.Prelude.{◌≡◌};
 ghost use Rattle.model.specs.Grammar.{parse};
 ghost use Rattle.model.specs.Memory.{Worked};
@@ -11,7 +13,7 @@ use loader::Loaded;
 use sale::closing::{refuse, report_sale};
 
 // 0 or the number of the refusal, 1 to 8 or 21, the bytes written, and how many lots are known at the end: 0 where no file was accepted.
-#[derive(Drop)]
+#[derive(Clone, Copy)]
 pub struct Served {
     pub code: u32,
     pub written: usize,

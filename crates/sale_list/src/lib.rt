@@ -1,5 +1,7 @@
 // A catalogue's bytes and a list of calls apart from each other, three numbers for each call: the letter's byte and two numbers, which for N are a stretch
 // of the operands. The list need not fit into a file with the catalogue.
+#![tactic(auto)]
+
 ghost use Rattle.std.specs.Prelude.{◌+◌, ◌*◌, ◌/◌, ◌≤◌, ◌≡◌, ◌&&◌, ◌||◌, eqb, leb, length};
 ghost use Rattle.model.specs.Grammar.{parse, letter_a, letter_x, letter_n};
 ghost use Rattle.model.specs.Lent.{lists, lent, memory, two};
@@ -16,7 +18,7 @@ use sale::sell;
 
 // 0 or the number of the refusal, the bytes written, the metric at the end, the contractions that stand and the record of moves.
 #[repr(C)]
-#[derive(Drop)]
+#[derive(Clone, Copy)]
 pub struct ListRan {
     pub code: u32,
     pub written: usize,

@@ -17,7 +17,7 @@ use operations::pairs::{Journal, Stack};
 use operations::size::Size;
 
 // What A leaves of the stack and the journal, its refusal or 0, and the numbers of its answer, 0 where it is refused; the metric is in any case the one after it.
-#[derive(Drop)]
+#[derive(Clone, Copy)]
 pub struct AllTurn {
     pub stack: Stack,
     pub journal: Journal,

@@ -19,7 +19,7 @@ use polish::polishing::polish;
 use walk::walks::walk;
 
 // What a call leaves of the journal, its refusal or 0, and the numbers of its answer, 0 where it is refused; the metric is in any case the one after it.
-#[derive(Drop)]
+#[derive(Clone, Copy)]
 pub struct WalkTurn {
     pub journal: Journal,
     pub no: u32,
@@ -29,7 +29,7 @@ pub struct WalkTurn {
 }
 
 // P is never refused.
-#[derive(Drop)]
+#[derive(Clone, Copy)]
 pub struct PolishTurn {
     pub journal: Journal,
     pub moves: u32,

@@ -1,4 +1,6 @@
 // The program: a sale file from standard input through the engine, and the buyers' sheets to standard output.
+#![tactic(auto)]
+
 use sheets::kapokdrill_sheets;
 
 fn main() {

@@ -1,5 +1,7 @@
 // Buyers' sheets (M-113): a sale file through the engine, on tables of this crate's own, and the sheets into the lent output. What customers call. Rests on
 // the engine's promise and on sheet_rows.
+#![tactic(auto)]
+
 ghost use Rattle.std.specs.Prelude.{◌≡◌, ℕ, ◌≤◌, List, length, take};
 ghost use Rattle.model.specs.Catalogue.{main_limits};
 ghost use Rattle.model.specs.Sheets.{sheets_of, Printed, SheetsServe};
@@ -12,7 +14,7 @@ use sheet_rows::put_sale;
 
 // The answer: 0 or the number of the refusal, 1 to 8 or 21, and the bytes written.
 #[repr(C)]
-#[derive(Drop)]
+#[derive(Clone, Copy)]
 pub struct SheetsRan {
     pub code: u32,
     pub written: usize,

@@ -296,9 +296,9 @@ tail-commas (v ∷ vs) = ap (λ (t : List ℕ). 44 ∷ t) (ap (λ (t : List ℕ)
 abbrev pub BUY : List ℕ
 BUY = 66 ∷ 85 ∷ 89 ∷ []
 
-edge_row : (w : ℕ) (vs : List ℕ) → row "BUY" (numbers (w ∷ vs)) ≡ BUY ++ ((44 ∷ digits w) ++ (commas vs ++ (10 ∷ [])))
+edge_row_lem : (w : ℕ) (vs : List ℕ) → row "BUY" (numbers (w ∷ vs)) ≡ BUY ++ ((44 ∷ digits w) ++ (commas vs ++ (10 ∷ [])))
 unfolding row bytes tail
-edge_row w vs = ap (λ (t : List ℕ). BUY ++ ((44 ∷ digits w) ++ t)) (tail-commas vs)
+edge_row_lem w vs = ap (λ (t : List ℕ). BUY ++ ((44 ∷ digits w) ++ t)) (tail-commas vs)
 
 module _ (s : List ℕ) (at end : ℕ) (weighted well : Bool) (w f : ℕ) (lead : LeadRead s at end weighted well w f) where
   pub edge-bad : at ≤ end → (n j : ℕ) (stamps : List ℕ) → length stamps ≡ 1024 → well ≡ false → EdgeChecked s at end weighted n j 0 false 0 stamps
@@ -329,7 +329,7 @@ module _ (s : List ℕ) (at end : ℕ) (weighted well : Bool) (w f : ℕ) (lead 
     edge-is = edge-parts weighted (slice at end s) ∙ ap₂ (λ (x : ℕ) (ws : Fields). record { weight = x; pins = map value ws }) (sym (lead.weight_is yes)) (sym (lead.pins-are yes))
 
     pub edge-text : edge_row (edge_of weighted (slice at end s)) ≡ BUY ++ ((44 ∷ digits w) ++ (commas (values_at s f end) ++ (10 ∷ [])))
-    edge-text = ap edge_row edge-is ∙ edge_row w (values_at s f end)
+    edge-text = ap edge_row edge-is ∙ edge_row_lem w (values_at s f end)
 
     pub edge-good : (n j count : ℕ) (good : Bool) (size : ℕ) (stamps : List ℕ) (x : PinsChecked s f end n j count good size stamps) (b : Bool) → b ≡ within 1 1000 w → (g : Bool) → g ≡ (b && good)
         → (d : ℕ) → d ≡ length (digits w) → d ≤ 10 → EdgeChecked s at end weighted n j count g (size + 5 + d) stamps

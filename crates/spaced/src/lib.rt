@@ -1,5 +1,7 @@
 // A line of numbers, one or more spaces apart: the words of a line, the numbers in it, and the vertices of an edge, checked and written.
 // Each function is proved against a definition of an hMETIS file.
+#![tactic(auto)]
+
 ghost use Rattle.std.specs.Prelude.{◌≡◌, true, false, ◌&&◌, map, ℕ, ◌+◌, ◌≤◌, ◌<◌, length};
 ghost use Rattle.std.proofs.Math.Seq.{slice};
 ghost use Rattle.laws.specs.Fold.{all};
@@ -13,7 +15,7 @@ ghost use Rattle.spaced.specs.Pins.{Fresh, StampOne, commas, PinsChecked, EdgeCh
 use text::between;
 
 // A word: whether it is a number, and then its value and where it ends.
-#[derive(Drop)]
+#[derive(Clone, Copy)]
 pub struct Word {
     pub well: bool,
     pub value: u32,
@@ -21,7 +23,7 @@ pub struct Word {
 }
 
 // The lead of an edge's line: whether it is well written, the edge's weight, and where its first vertex stands.
-#[derive(Drop)]
+#[derive(Clone, Copy)]
 pub struct Lead {
     pub well: bool,
     pub weight: u32,
@@ -29,7 +31,7 @@ pub struct Lead {
 }
 
 // The vertices of an edge: how many, or 0 where they are badly written; whether they can be carried over; how many bytes their text has.
-#[derive(Drop)]
+#[derive(Clone, Copy)]
 pub struct Pins {
     pub count: usize,
     pub carried: bool,

@@ -1,4 +1,6 @@
 // The program: a sale file from standard input through the engine, on memory of its own, and the report to standard output.
+#![tactic(auto)]
+
 use engine::columns_entry::run_columns;
 
 fn main() {

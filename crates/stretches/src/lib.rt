@@ -1,4 +1,6 @@
 // The stretch of a pin table that hands out a net's pins, for any number and for tables of any length. Rests on model's `handed_out`.
+#![tactic(auto)]
+
 ghost use Rattle.std.specs.Prelude.{◌+◌, ◌≤◌, ◌≡◌, length, take, drop};
 ghost use Rattle.model.specs.Memory.{long_lists, handed_out};
 ghost use Rattle.model.specs.Lent.{net_tables};
@@ -6,7 +8,7 @@ ghost use Rattle.stretches.specs.Stretch.{Backed, part_in};
 
 // A stretch of a table: its first place, from 0, and how many places it has.
 #[repr(C)]
-#[derive(Drop)]
+#[derive(Clone, Copy)]
 pub struct Stretch {
     pub first: usize,
     pub size: usize,

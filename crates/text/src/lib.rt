@@ -1,4 +1,6 @@
 // Fields, lines and numbers of a sale file, and numbers written into a buffer. Each function is proved against a definition of model.
+#![tactic(auto)]
+
 pub mod letters;
 
 ghost use Rattle.std.specs.Prelude.{◌≡◌, false, ◌||◌, ◌+◌, ◌-◌, ◌≤◌, ◌<◌, length, drop};
@@ -9,14 +11,14 @@ ghost use Rattle.text.specs.Field.{FirstAt, Without, NineDigits, DigitsRead, Num
 ghost use Rattle.text.specs.Output.{written, last_three, sign_of};
 
 // A number, and where its field ends.
-#[derive(Drop)]
+#[derive(Clone, Copy)]
 pub struct Number {
     pub value: u32,
     pub end: usize,
 }
 
 // A number's size, and on which side of 0 it lies.
-#[derive(Drop)]
+#[derive(Clone, Copy)]
 pub enum Sign {
     Plus(u32),
     Minus(u32),

@@ -4,7 +4,7 @@ ghost use Rattle.model.specs.Search.{is_kept};
 ghost use Rattle.walk.specs.Kept.{worth, heaviest_in};
 
 // The prefix that is kept: its length, its metric, and the weight of its heaviest block.
-#[derive(Drop)]
+#[derive(Clone, Copy)]
 pub struct Prefix {
     pub kept: usize,
     pub low: u32,

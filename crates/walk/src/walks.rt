@@ -18,7 +18,7 @@ use search_moves::marks::{mark_vertex, spread};
 use search_moves::peaks::shift;
 
 // What W answers: how many moves were made, the length of the kept prefix, and the metric after it.
-#[derive(Drop)]
+#[derive(Clone, Copy)]
 pub struct Walked {
     pub tried: usize,
     pub kept: usize,
@@ -27,7 +27,7 @@ pub struct Walked {
 
 // A walk on its way. `tried` counts the moves made. `spent` counts the turns that are spent of the n that a walk has at most: one that ends has
 // spent them all. `kept`, `low` and `heaviest` are of the kept prefix: its length, its metric, and the weight of its heaviest block.
-#[derive(Drop)]
+#[derive(Clone, Copy)]
 struct Steps {
     spent: usize,
     tried: usize,
