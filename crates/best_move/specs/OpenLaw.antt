@@ -32,7 +32,7 @@ pub wide_fits : (gain : ℤ) → SFits w32 gain → SFits w64 (to_z w32 (of_z w3
 wide_fits gain f = subst (SFits w64) (sym (to_z-of_z f)) (record { sfits = omega (arith, f.sfits) })
 
 pub read64 : (z : ℤ) → mag z < 2 ^ 63 → to_z w64 (of_z w64 z) ≡ z
-read64 z f = to_z-of_z (record { sfits = f })
+read64 z f = to_z-of_z {w = w64} (record { sfits = f })
 
 -- the lead that the search begins with
 pub no_lead : Leads (record { at = 0; top = negsuc 4294967295 }) none

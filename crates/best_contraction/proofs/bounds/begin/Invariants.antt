@@ -1,0 +1,11 @@
+-- `begin`: one vertex more has the sum of its own terms.
+use Rattle.std.proofs.Common.{ℕ, ◌≤◌, ◌-◌, subst, ◌≡◌, arith}
+use Rattle.best_contraction.specs.RatingLaw.{own-ok}
+use Rattle.best_contraction.specs.BoundLaw.{OwnSums, sums_none, sums-more}
+use Rattle.best_contraction.proofs.bounds.begin.Given as goal
+
+abbrev pub invariant-loop-i : goal.invariant-loop-i
+invariant-loop-i l = (l.i ≤ l.n) × OwnSums l.bits l.presentsizes l.net_weights l.m l.i l.bounds
+
+abbrev pub decreases-loop-i : goal.decreases-loop-i
+decreases-loop-i l = l.n - l.i

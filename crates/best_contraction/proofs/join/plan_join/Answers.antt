@@ -1,0 +1,25 @@
+-- `plan_join`: without a pair the bounds stay; with one they are raised.
+use Rattle.std.proofs.Common.{arith}
+use Rattle.best_contraction.specs.Bound.{rise_of}
+use Rattle.best_contraction.specs.BoundLaw.{planned-none, planned-some}
+use Rattle.best_contraction.proofs.join.plan_join.Goals as goal
+
+pub best_join-best-requires : goal.best_join-best-requires
+best_join-best-requires c =
+    c.requires
+
+pub returns-then-rating-eq0 : goal.returns-then-rating-eq0
+returns-then-rating-eq0 c =
+    let a = c.args in
+    let b = c.best_join-best in record { best_join = b.ensures.0; planned = planned-none (rise_of a.bits.now a.presentpins.now a.firsts.now a.presentsizes.now a.net_weights.now a.blocks.now a.m) b.result c.if-rating-eq0.true b.ensures.1.0; blank_2 = b.ensures.1.1 }
+
+pub lift-requires : goal.lift-requires
+lift-requires c =
+    let p = c.requires in
+    let b = c.best_join-best in
+    let i = b.ensures.0.within (omega (arith, c.if-rating-eq0.false)) in record { tables_ok = p.tables_ok; bounds_len = (b.ensures.1.0.len, i.0, i.1, i.2, i.3) }
+
+pub returns : goal.returns
+returns c =
+    let a = c.args in
+    let b = c.best_join-best in record { best_join = b.ensures.0; planned = planned-some (rise_of a.bits.now a.presentpins.now a.firsts.now a.presentsizes.now a.net_weights.now a.blocks.now a.m) b.result (omega (arith, c.if-rating-eq0.false)) b.ensures.1.0 c.lift.ensures; blank_2 = b.ensures.1.1 }

@@ -1,0 +1,12 @@
+-- `add_net`: the pins seen so far have the term.
+use Rattle.std.proofs.Common.{ℕ, ◌≤◌, ◌-◌, ◌*◌, subst, ◌≡◌, arith, rules}
+use Rattle.laws.specs.Occurrence.{occ}
+use Rattle.best_contraction.specs.Rating.{Raised}
+use Rattle.best_contraction.specs.RatingLaw.{net-none, net-room, net-more}
+use Rattle.best_contraction.proofs.rating.add_net.Given as goal
+
+abbrev pub invariant-loop-i : goal.invariant-loop-i
+invariant-loop-i l = (l.i ≤ l.n) × Raised l.initial.acc l.acc (λ z. l.t * occ l.presentpins l.first l.i z)
+
+abbrev pub decreases-loop-i : goal.decreases-loop-i
+decreases-loop-i l = l.n - l.i

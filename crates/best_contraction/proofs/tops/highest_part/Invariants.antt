@@ -1,0 +1,11 @@
+-- `highest_part`: the first of the highest among the parts seen.
+use Rattle.std.proofs.Common.{ℕ, ◌≤◌, ◌-◌, refl, subst, ◌≡◌, get_or, arith, rules}
+use Rattle.best_contraction.specs.Bound.{Highest}
+use Rattle.best_contraction.specs.PartTop.{highest-one, highest-more}
+use Rattle.best_contraction.proofs.tops.highest_part.Given as goal
+
+abbrev pub invariant-loop-i : goal.invariant-loop-i
+invariant-loop-i l = (1 ≤ l.i) × (l.i ≤ l.parts) × Highest l.tops l.i l.top.part × (l.top.bound ≡ get_or l.tops l.top.part 0)
+
+abbrev pub decreases-loop-i : goal.decreases-loop-i
+decreases-loop-i l = l.parts - l.i

@@ -1,0 +1,24 @@
+use Rattle.std.proofs.Common.{arith, ◌≡◌, sym, subst, rules, ℕ, ◌≤◌, ◌-◌, ◌+◌, ℤ, w32, of_z, to_z, to_z-of_z}
+use Rattle.laws.specs.Integer.{read32}
+use Rattle.best_move.specs.Peak.{RowPeak, row-begins, row-rises}
+use Rattle.best_move.proofs.peaks.row_peak.Goals as goal
+
+pub loop-j-init : goal.loop-j-init
+loop-j-init c =
+    let a = c.args in
+    (omega arith, row-begins a.gains.now a.x _)
+
+pub loop-j-preserved : goal.loop-j-preserved
+loop-j-preserved c =
+    let a = c.args in (
+      omega arith,
+      subst (λ (z : ℤ). RowPeak a.gains.now a.x (c.loop-j.j + 1) (to_z w32 (of_z w32 a.before)) z) (sym (read32 _ c.higher-peak.type_inv))
+          (row-rises a.gains.now a.x c.loop-j.j _ _ _ _ c.loop-j.invariant.1 (read32 _ c.higher-arg-1.given) c.higher-peak.ensures),
+    )
+
+pub returns : goal.returns
+returns c =
+    let a = c.args in
+    let e : c.loop-j.j ≡ a.k = omega arith in
+    subst (λ (z : ℤ). RowPeak a.gains.now a.x a.k z (to_z w32 c.loop-j.peak)) (to_z-of_z c.ranges.before)
+    (subst (λ (j : ℕ). RowPeak a.gains.now a.x j (to_z w32 (of_z w32 a.before)) (to_z w32 c.loop-j.peak)) e c.loop-j.invariant.1)

@@ -1,0 +1,11 @@
+-- `measure`: the rooms of the first b blocks are set.
+use Rattle.std.proofs.Common.{arith, ◌≡◌, subst, rules, ℕ, ◌≤◌, ◌-◌}
+use Rattle.best_move.specs.Rising.{Rooms}
+use Rattle.best_move.specs.RisingLaw.{rooms-none, rooms-more}
+use Rattle.best_move.proofs.rising.measure.Given as goal
+
+abbrev pub invariant-loop-b : goal.invariant-loop-b
+invariant-loop-b l = (l.b ≤ l.k) × (l.k ≤ 16) × Rooms l.loads l.ceilings l.b l.rooms
+
+abbrev pub decreases-loop-b : goal.decreases-loop-b
+decreases-loop-b l = l.k - l.b

@@ -1,0 +1,13 @@
+-- `next_rising`: the candidates before bit j have no better pair.
+use Rattle.std.proofs.Common.{arith, ◌≡◌, sym, subst, false, rules, ◌≤◌, ◌-◌, ◌+◌, ◌*◌, get_or, ℤ, pos, w32, to_z}
+use Rattle.std.specs.Int.Signed.{lt_z}
+use Rattle.laws.specs.Integer.{read32}
+use Rattle.best_move.specs.Rising.{Passed}
+use Rattle.best_move.specs.RisingLaw.{passed_none, passed-more}
+use Rattle.best_move.proofs.rising.next_rising.Given as goal
+
+abbrev pub invariant-loop-j : goal.invariant-loop-j
+invariant-loop-j l = (l.j ≤ 64) × Passed l.gains l.blocks l.weights l.rooms l.word l.first l.size l.k l.low l.from l.j
+
+abbrev pub decreases-loop-j : goal.decreases-loop-j
+decreases-loop-j l = 64 - l.j

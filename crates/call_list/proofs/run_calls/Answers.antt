@@ -1,0 +1,121 @@
+use Rattle.std.proofs.Common.{rules, ℕ, ◌-◌, ◌≤◌, arith, ◌≡◌, refl, List, length}
+use Rattle.model.specs.Catalogue.{Limits, Hypergraph}
+use Rattle.model.specs.Memory.{Tables}
+use Rattle.call_list.specs.Point.{point_of}
+use Rattle.call_list.specs.Course.{Begins, Done, done_none, can-step, stretch, done_more, done_all}
+use Rattle.call_list.proofs.run_calls.Goals as goal
+
+pub loop-i-init : goal.loop-i-init
+loop-i-init c = (λ limits h old b. rw c.requires.at_value (done_none _ b), refl, refl, refl, refl, refl, refl, refl, refl, refl, refl, refl, refl, refl, refl, refl, omega arith)
+
+pub overflow_mul-at : goal.overflow_mul-at
+overflow_mul-at c =
+    let b = c.requires.can_run.begins.listed in
+    omega (arith, b.count-le, b.calls-fit, c.loop-i-test.true)
+
+pub offset_bounds-calls-at : goal.offset_bounds-calls-at
+offset_bounds-calls-at c =
+    let b = c.requires.can_run.begins.listed in
+    omega (arith, b.count-le, b.calls-fit, c.loop-i-test.true)
+
+pub bounds-calls-at : goal.bounds-calls-at
+bounds-calls-at c =
+    let b = c.requires.can_run.begins.listed in
+    omega (arith, b.count-le, b.calls-fit, c.loop-i-test.true)
+
+pub overflow_add-at : goal.overflow_add-at
+overflow_add-at c =
+    let b = c.requires.can_run.begins.listed in
+    omega (arith, b.count-le, b.calls-fit, c.loop-i-test.true)
+
+pub offset_bounds-calls-at-in-loop-i : goal.offset_bounds-calls-at-in-loop-i
+offset_bounds-calls-at-in-loop-i c =
+    let b = c.requires.can_run.begins.listed in
+    omega (arith, b.count-le, b.calls-fit, c.loop-i-test.true)
+
+pub bounds-calls-at-in-loop-i : goal.bounds-calls-at-in-loop-i
+bounds-calls-at-in-loop-i c =
+    let b = c.requires.can_run.begins.listed in
+    omega (arith, b.count-le, b.calls-fit, c.loop-i-test.true)
+
+pub overflow_add-at-in-loop-i : goal.overflow_add-at-in-loop-i
+overflow_add-at-in-loop-i c =
+    let b = c.requires.can_run.begins.listed in
+    omega (arith, b.count-le, b.calls-fit, c.loop-i-test.true)
+
+pub offset_bounds-calls-at-in-loop-i-2 : goal.offset_bounds-calls-at-in-loop-i-2
+offset_bounds-calls-at-in-loop-i-2 c =
+    let b = c.requires.can_run.begins.listed in
+    omega (arith, b.count-le, b.calls-fit, c.loop-i-test.true)
+
+pub bounds-calls-at-in-loop-i-2 : goal.bounds-calls-at-in-loop-i-2
+bounds-calls-at-in-loop-i-2 c =
+    let b = c.requires.can_run.begins.listed in
+    omega (arith, b.count-le, b.calls-fit, c.loop-i-test.true)
+
+pub step-course-requires : goal.step-course-requires
+step-course-requires c =
+    let run = c.requires.can_run in
+    let done = c.loop-i.invariant.0 run.limits run.h run.old run.begins in record { can_step = can-step run.begins _ c.loop-i-test.true done _ _ c.wide.ensures c.wide-in-loop-i.ensures; le_y = stretch run.begins _ c.loop-i-test.true done _ _ c.wide.ensures c.wide-in-loop-i.ensures }
+
+pub overflow_add-i : goal.overflow_add-i
+overflow_add-i c =
+    let b = c.requires.can_run.begins.listed in
+    omega (arith, b.count-le, b.calls-fit, c.loop-i-test.true)
+
+pub loop-i-smaller : goal.loop-i-smaller
+loop-i-smaller c =
+    let b = c.requires.can_run.begins.listed in
+    omega (arith, b.count-le, b.calls-fit, c.loop-i-test.true)
+
+pub loop-i-preserved : goal.loop-i-preserved
+loop-i-preserved c =
+    (λ limits h old b. done_more b _ c.loop-i-test.true (c.loop-i.invariant.0 limits h old b) _ _ c.wide.ensures c.wide-in-loop-i.ensures c.step-course.ensures, omega (arith, c.loop-i.invariant, c.step-course.auto), omega (arith, c.loop-i.invariant, c.step-course.auto), omega (arith, c.loop-i.invariant, c.step-course.auto), omega (arith, c.loop-i.invariant, c.step-course.auto), omega (arith, c.loop-i.invariant, c.step-course.auto), omega (arith, c.loop-i.invariant, c.step-course.auto), omega (arith, c.loop-i.invariant, c.step-course.auto), omega (arith, c.loop-i.invariant, c.step-course.auto), omega (arith, c.loop-i.invariant, c.step-course.auto), omega (arith, c.loop-i.invariant, c.step-course.auto), omega (arith, c.loop-i.invariant, c.step-course.auto), omega (arith, c.loop-i.invariant, c.step-course.auto), omega (arith, c.loop-i.invariant, c.step-course.auto), omega (arith, c.loop-i.invariant, c.step-course.auto), omega (arith, c.loop-i.invariant, c.step-course.auto), omega (arith, c.loop-i-test.true))
+
+pub shape_of-output : goal.shape_of-output
+shape_of-output c = c.loop-i.invariant.1
+
+pub shape_of-counts : goal.shape_of-counts
+shape_of-counts c = c.loop-i.invariant.2
+
+pub shape_of-visited : goal.shape_of-visited
+shape_of-visited c = c.loop-i.invariant.3
+
+pub shape_of-gains : goal.shape_of-gains
+shape_of-gains c = c.loop-i.invariant.4
+
+pub shape_of-index : goal.shape_of-index
+shape_of-index c = c.loop-i.invariant.5
+
+pub shape_of-presentpins : goal.shape_of-presentpins
+shape_of-presentpins c = c.loop-i.invariant.6
+
+pub shape_of-presentsizes : goal.shape_of-presentsizes
+shape_of-presentsizes c = c.loop-i.invariant.7
+
+pub shape_of-bits : goal.shape_of-bits
+shape_of-bits c = c.loop-i.invariant.8
+
+pub shape_of-blocks : goal.shape_of-blocks
+shape_of-blocks c = c.loop-i.invariant.9
+
+pub shape_of-weights : goal.shape_of-weights
+shape_of-weights c = c.loop-i.invariant.10
+
+pub shape_of-aboves : goal.shape_of-aboves
+shape_of-aboves c = c.loop-i.invariant.11
+
+pub shape_of-fixed : goal.shape_of-fixed
+shape_of-fixed c = c.loop-i.invariant.12
+
+pub shape_of-loadedpins : goal.shape_of-loadedpins
+shape_of-loadedpins c = c.loop-i.invariant.13
+
+pub shape_of-firsts : goal.shape_of-firsts
+shape_of-firsts c = c.loop-i.invariant.14
+
+pub shape_of-loadedsizes : goal.shape_of-loadedsizes
+shape_of-loadedsizes c = c.loop-i.invariant.15
+
+pub returns : goal.returns
+returns c = λ limits h old b. done_all (omega (arith, c.loop-i-test.false, c.loop-i.invariant.16)) (c.loop-i.invariant.0 limits h old b)

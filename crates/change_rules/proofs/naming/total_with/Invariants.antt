@@ -1,0 +1,11 @@
+-- `total_with` meets its contract: the sum over the buyers below e.
+use Rattle.std.proofs.Common.{arith, rules, ◌+◌, ◌-◌, ◌*◌, ◌≤◌, ◌≡◌, refl, sym, ap, ◌∙◌, length, get_or}
+use Rattle.laws.specs.Sum.{sum-zero, sum_step}
+use Rattle.renewal.specs.Putting.{total_with}
+use Rattle.change_rules.proofs.naming.total_with.Given as goal
+
+abbrev pub invariant-loop-e : goal.invariant-loop-e
+invariant-loop-e l = (l.e ≤ l.m) × (l.t ≡ total_with l.named l.loadedsizes l.e) × (l.t ≤ l.e * 131072)
+
+abbrev pub decreases-loop-e : goal.decreases-loop-e
+decreases-loop-e l = l.m - l.e

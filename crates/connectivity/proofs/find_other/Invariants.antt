@@ -1,0 +1,11 @@
+-- `find_other`: no pin before the place i is another one of the block.
+use Rattle.std.proofs.Common.{◌≤◌, ◌-◌, arith, rules}
+use Rattle.connectivity.specs.Laid.{pin-range}
+use Rattle.connectivity.specs.Touch.{Passed, passed_none, passed-more, found_here, found_none}
+use Rattle.connectivity.proofs.find_other.Given as goal
+
+abbrev pub invariant-loop-i : goal.invariant-loop-i
+invariant-loop-i l = (l.i ≤ l.p) × Passed l.pins l.blocks l.first l.x l.s l.i
+
+abbrev pub decreases-loop-i : goal.decreases-loop-i
+decreases-loop-i l = l.p - l.i

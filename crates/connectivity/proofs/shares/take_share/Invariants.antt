@@ -1,0 +1,12 @@
+-- `take_share`: the first x entries of the row are lowered.
+use Rattle.std.proofs.Common.{◌≤◌, ◌-◌, ◌∙◌, ap, arith, rules, neg_ℤ}
+use Rattle.laws.specs.Integer.{read32, sub-at-fits}
+use Rattle.connectivity.specs.Share.{share, share-le}
+use Rattle.connectivity.specs.Raised.{Raised, raised-none, raised-set, raised-next, raised-done}
+use Rattle.connectivity.proofs.shares.take_share.Given as goal
+
+abbrev pub invariant-loop-x : goal.invariant-loop-x
+invariant-loop-x l = (l.x ≤ l.k) × Raised (λ xx. neg_ℤ (share l.counts l.crow l.own l.w xx)) l.row l.x l.initial.gains l.gains
+
+abbrev pub decreases-loop-x : goal.decreases-loop-x
+decreases-loop-x l = l.k - l.x

@@ -1,0 +1,20 @@
+-- `refine`: with i contractions left, what is left to undo leads to model's end; a walk's numbers are at most 1,024, so that the sums fit.
+use Rattle.std.proofs.Common.{ℕ, ◌+◌, ◌*◌, ◌≤◌, arith, ◌≡◌, refl, length}
+use Rattle.std.proofs.lemmas.List.{length-replicate}
+use Rattle.index.specs.Indexed.{Kept, kept-none, kept_then}
+use Rattle.incidence.specs.On.{on-blank}
+use Rattle.operations.specs.Tables.{tables}
+use Rattle.search_moves.specs.Tabled.{pins-ok}
+use Rattle.search_moves.specs.Rows.{RowsAre}
+use Rattle.cycle.specs.Refine.{Refining, stack-to, top-asks, part-asks, parts-few, refining-none, refining-more, refining-done}
+use Rattle.cycle.proofs.refining.refine.Given as goal
+
+abbrev pub invariant-loop-i : goal.invariant-loop-i
+invariant-loop-i l =
+    (l.i ≤ l.stack.len) × (l.f.tried + 1024 * l.i ≤ 1048576) × (l.f.kept + 1024 * l.i ≤ 1048576)
+    × Refining (tables l.initial.counts l.initial.visited l.initial.gains l.initial.presentpins l.initial.presentsizes l.initial.bits l.initial.blocks l.initial.weights l.initial.aboves l.initial.loads l.netweights l.firsts l.loadedsizes l.n l.m l.k l.total) l.ceilings l.fixedmarks l.stack.into l.stack.gone l.stack.len l.i (tables l.counts l.visited l.gains l.presentpins l.presentsizes l.bits l.blocks l.weights l.aboves l.loads l.netweights l.firsts l.loadedsizes l.n l.m l.k l.f.total) l.f.tried l.f.kept
+    × (length l.counts ≡ length l.initial.counts) × (length l.visited ≡ length l.initial.visited) × (length l.gains ≡ length l.initial.gains) × (length l.presentpins ≡ length l.initial.presentpins) × (length l.presentsizes ≡ length l.initial.presentsizes) × (length l.bits ≡ length l.initial.bits) × (length l.blocks ≡ length l.initial.blocks) × (length l.weights ≡ length l.initial.weights) × (length l.aboves ≡ length l.initial.aboves)
+    × Kept l.n l.k l.initial.index l.index × RowsAre l.rows l.presentpins l.firsts l.presentsizes l.m
+
+abbrev pub decreases-loop-i : goal.decreases-loop-i
+decreases-loop-i l = l.i

@@ -1,0 +1,11 @@
+-- `fields::put_tail` meets its contract. The loop's invariant: the first i fields are written.
+use Rattle.std.proofs.Common.{◌-◌, ◌≤◌, arith, ◌≡◌, ◌∙◌, length, take, length-set, rules}
+use Rattle.fields.specs.Wrote.{Wrote}
+use Rattle.fields.proofs.Laws.{fields-none, fields-room, fields-more, fields-last, fields-end, commas}
+use Rattle.fields.proofs.put_tail.Given as goal
+
+abbrev pub invariant-loop-i : goal.invariant-loop-i
+invariant-loop-i l = (l.i ≤ length l.xs) × (length l.out ≡ length l.initial.out) × Wrote l.initial.out l.out l.at (commas (take l.i l.xs)) l.p
+
+abbrev pub decreases-loop-i : goal.decreases-loop-i
+decreases-loop-i l = length l.xs - l.i

@@ -1,0 +1,106 @@
+use Rattle.std.proofs.Common.{◌-◌, ◌≤◌, arith, ◌≡◌, refl, ◌∙◌, length, rules}
+use Rattle.hall_step.specs.Sets.{sets}
+use Rattle.hall_calls.specs.Course.{Ran, ran-none, can-lead, stretch-in, ran-next, ran-all}
+use Rattle.hall_calls.proofs.run_hall.Goals as goal
+
+pub loop-i-init : goal.loop-i-init
+loop-i-init c = (ran-none _, refl, refl, refl, refl, refl, refl, refl, refl, refl, refl, refl, refl, refl, refl, refl, refl, c.requires.cs-len, omega arith)
+
+pub overflow_mul-at : goal.overflow_mul-at
+overflow_mul-at c = omega (arith, c.requires.listed.few, c.requires.listed.long, c.loop-i-test.true)
+
+pub offset_bounds-calls-at : goal.offset_bounds-calls-at
+offset_bounds-calls-at c = omega (arith, c.requires.listed.few, c.requires.listed.long, c.loop-i-test.true)
+
+pub bounds-calls-at : goal.bounds-calls-at
+bounds-calls-at c = omega (arith, c.requires.listed.few, c.requires.listed.long, c.loop-i-test.true)
+
+pub overflow_add-at : goal.overflow_add-at
+overflow_add-at c = omega (arith, c.requires.listed.few, c.requires.listed.long, c.loop-i-test.true)
+
+pub offset_bounds-calls-at-in-loop-i : goal.offset_bounds-calls-at-in-loop-i
+offset_bounds-calls-at-in-loop-i c = omega (arith, c.requires.listed.few, c.requires.listed.long, c.loop-i-test.true)
+
+pub bounds-calls-at-in-loop-i : goal.bounds-calls-at-in-loop-i
+bounds-calls-at-in-loop-i c = omega (arith, c.requires.listed.few, c.requires.listed.long, c.loop-i-test.true)
+
+pub overflow_add-at-in-loop-i : goal.overflow_add-at-in-loop-i
+overflow_add-at-in-loop-i c = omega (arith, c.requires.listed.few, c.requires.listed.long, c.loop-i-test.true)
+
+pub offset_bounds-calls-at-in-loop-i-2 : goal.offset_bounds-calls-at-in-loop-i-2
+offset_bounds-calls-at-in-loop-i-2 c = omega (arith, c.requires.listed.few, c.requires.listed.long, c.loop-i-test.true)
+
+pub bounds-calls-at-in-loop-i-2 : goal.bounds-calls-at-in-loop-i-2
+bounds-calls-at-in-loop-i-2 c = omega (arith, c.requires.listed.few, c.requires.listed.long, c.loop-i-test.true)
+
+pub overflow_add-at-in-loop-i-2 : goal.overflow_add-at-in-loop-i-2
+overflow_add-at-in-loop-i-2 c = omega (arith, c.requires.listed.few, c.requires.listed.long, c.loop-i-test.true)
+
+pub offset_bounds-calls-at-in-loop-i-3 : goal.offset_bounds-calls-at-in-loop-i-3
+offset_bounds-calls-at-in-loop-i-3 c = omega (arith, c.requires.listed.few, c.requires.listed.long, c.loop-i-test.true)
+
+pub bounds-calls-at-in-loop-i-3 : goal.bounds-calls-at-in-loop-i-3
+bounds-calls-at-in-loop-i-3 c = omega (arith, c.requires.listed.few, c.requires.listed.long, c.loop-i-test.true)
+
+pub led-t-requires : goal.led-t-requires
+led-t-requires c = record { led_ready = can-lead c.requires c.loop-i.invariant.0 c.loop-i-test.true c.loop-i.invariant.17 _ _ c.wide.ensures c.wide-in-loop-i.ensures c.loop-i.invariant.1; le_y = stretch-in c.requires c.loop-i.invariant.0 c.loop-i-test.true c.loop-i.invariant.17 _ _ c.wide.ensures c.wide-in-loop-i.ensures }
+
+pub overflow_add-i : goal.overflow_add-i
+overflow_add-i c = omega (arith, c.requires.listed.few, c.requires.listed.long, c.loop-i-test.true)
+
+pub loop-i-smaller : goal.loop-i-smaller
+loop-i-smaller c = omega (arith, c.requires.listed.few, c.requires.listed.long, c.loop-i-test.true)
+
+pub loop-i-preserved : goal.loop-i-preserved
+loop-i-preserved c = (ran-next c.requires c.loop-i.invariant.0 c.loop-i-test.true c.loop-i.invariant.17 _ _ c.wide.ensures c.wide-in-loop-i.ensures refl c.led-t.ensures, c.led-t.auto.0 ∙ c.loop-i.invariant.1, c.led-t.auto.1.0 ∙ c.loop-i.invariant.2, c.led-t.auto.1.1.0 ∙ c.loop-i.invariant.3, c.led-t.auto.1.1.1.0 ∙ c.loop-i.invariant.4, c.led-t.auto.1.1.1.1.0 ∙ c.loop-i.invariant.5, c.led-t.auto.1.1.1.1.1.0 ∙ c.loop-i.invariant.6, c.led-t.auto.1.1.1.1.1.1.0 ∙ c.loop-i.invariant.7, c.led-t.auto.1.1.1.1.1.1.1.0 ∙ c.loop-i.invariant.8, c.led-t.auto.1.1.1.1.1.1.1.1.0 ∙ c.loop-i.invariant.9, c.led-t.auto.1.1.1.1.1.1.1.1.1.0 ∙ c.loop-i.invariant.10, c.led-t.auto.1.1.1.1.1.1.1.1.1.1.0 ∙ c.loop-i.invariant.11, c.led-t.auto.1.1.1.1.1.1.1.1.1.1.1.0 ∙ c.loop-i.invariant.12, c.led-t.auto.1.1.1.1.1.1.1.1.1.1.1.1.0 ∙ c.loop-i.invariant.13, c.led-t.auto.1.1.1.1.1.1.1.1.1.1.1.1.1.0 ∙ c.loop-i.invariant.14, c.led-t.auto.1.1.1.1.1.1.1.1.1.1.1.1.1.1.0 ∙ c.loop-i.invariant.15, c.led-t.auto.1.1.1.1.1.1.1.1.1.1.1.1.1.1.1.0 ∙ c.loop-i.invariant.16, c.led-t.ensures.as_many ∙ c.loop-i.invariant.17, omega (arith, c.loop-i-test.true))
+
+pub shape_of-output : goal.shape_of-output
+shape_of-output c = c.loop-i.invariant.1
+
+pub shape_of-counts : goal.shape_of-counts
+shape_of-counts c = c.loop-i.invariant.2
+
+pub shape_of-visited : goal.shape_of-visited
+shape_of-visited c = c.loop-i.invariant.3
+
+pub shape_of-gains : goal.shape_of-gains
+shape_of-gains c = c.loop-i.invariant.4
+
+pub shape_of-index : goal.shape_of-index
+shape_of-index c = c.loop-i.invariant.5
+
+pub shape_of-presentpins : goal.shape_of-presentpins
+shape_of-presentpins c = c.loop-i.invariant.6
+
+pub shape_of-presentsizes : goal.shape_of-presentsizes
+shape_of-presentsizes c = c.loop-i.invariant.7
+
+pub shape_of-bits : goal.shape_of-bits
+shape_of-bits c = c.loop-i.invariant.8
+
+pub shape_of-blocks : goal.shape_of-blocks
+shape_of-blocks c = c.loop-i.invariant.9
+
+pub shape_of-weights : goal.shape_of-weights
+shape_of-weights c = c.loop-i.invariant.10
+
+pub shape_of-aboves : goal.shape_of-aboves
+shape_of-aboves c = c.loop-i.invariant.11
+
+pub shape_of-fixed : goal.shape_of-fixed
+shape_of-fixed c = c.loop-i.invariant.12
+
+pub shape_of-loads : goal.shape_of-loads
+shape_of-loads c = c.loop-i.invariant.13
+
+pub shape_of-loadedpins : goal.shape_of-loadedpins
+shape_of-loadedpins c = c.loop-i.invariant.14
+
+pub shape_of-firsts : goal.shape_of-firsts
+shape_of-firsts c = c.loop-i.invariant.15
+
+pub shape_of-loadedsizes : goal.shape_of-loadedsizes
+shape_of-loadedsizes c = c.loop-i.invariant.16
+
+pub returns : goal.returns
+returns c = ran-all (omega (arith, c.loop-i-test.false, c.loop-i.invariant.18)) c.loop-i.invariant.0

@@ -1,0 +1,10 @@
+-- `hall_file::lots_known` meets its contract: the lots of the first c catalogues are told.
+use Rattle.std.proofs.Common.{◌-◌, ◌≤◌, arith, refl}
+use Rattle.hall_file.specs.Worked.{LotsTo, lots-start, lots-more}
+use Rattle.hall_file.proofs.lots_known.Given as goal
+
+abbrev pub invariant-loop-c : goal.invariant-loop-c
+invariant-loop-c l = LotsTo l.courses l.c l.lots × (l.c ≤ l.count)
+
+abbrev pub decreases-loop-c : goal.decreases-loop-c
+decreases-loop-c l = l.count - l.c

@@ -1,0 +1,115 @@
+-- `hall_file::work_hall` meets its contract.
+use Rattle.std.proofs.Common.{rules, ℕ, arith, refl, ◌∙◌, replicate}
+use Rattle.std.proofs.lemmas.List.{length-replicate}
+use Rattle.laws.specs.Fold.{zeros-get}
+use Rattle.hall_file.specs.Worked.{own-length, own-four, catalogued, small, line-fits, turned_down, no-lots}
+use Rattle.hall_file.proofs.work_hall.Goals as goal
+
+pub load_hall-loaded-requires : goal.load_hall-loaded-requires
+load_hall-loaded-requires c =
+    let four = c.requires.four in
+    (omega (arith, length-replicate {A = ℕ} 2048 0), omega (arith, length-replicate {A = ℕ} 30000 0), record { weights-four = four.weights-four; blocks-four = four.blocks-four; aboves-four = four.aboves-four; fixed-four = four.fixed-four; loaded_pins-four = four.loaded_pins-four; present_pins-four = four.present_pins-four; firsts-four = four.firsts-four; loaded_sizes-four = four.loaded_sizes-four; present_sizes-four = four.present_sizes-four; costs-four = own-four (replicate 1024 0); lows-four = own-four (replicate 1024 0) }, λ d low high. (own-length d high, own-length d high))
+
+pub refuse-end-requires : goal.refuse-end-requires
+refuse-end-requires c =
+    let refused = c.answer-1.given.1 in
+    ((small c.load_hall-loaded.ensures refused).1, omega (arith, line-fits c.load_hall-loaded.ensures refused, c.requires.spacious))
+
+pub overflow_cast-number : goal.overflow_cast-number
+overflow_cast-number c = omega (arith, (small c.load_hall-loaded.ensures c.answer-1.given.1).0)
+
+pub report_hall-end-requires : goal.report_hall-end-requires
+report_hall-end-requires c =
+    let long = c.requires in
+    let four = long.four in
+    let loaded = c.load_hall-loaded in
+    record {
+      file = _;
+      estimated = _;
+      old = _;
+      lows = _;
+      catalogued = catalogued _ loaded.ensures c.answer-in-Accepted-1.given.1 long.long (record { weights-four = omega (arith, four.weights-four, loaded.auto.1.0); blocks-four = omega (arith, four.blocks-four, loaded.auto.1.1.0); aboves-four = omega (arith, four.aboves-four, loaded.auto.1.1.1.0); fixed-four = omega (arith, four.fixed-four, loaded.auto.1.1.1.1.0); loaded_pins-four = omega (arith, four.loaded_pins-four, loaded.auto.1.1.1.1.1.0); present_pins-four = omega (arith, four.present_pins-four, loaded.auto.1.1.1.1.1.1.0); firsts-four = omega (arith, four.firsts-four, loaded.auto.1.1.1.1.1.1.1.0); loaded_sizes-four = omega (arith, four.loaded_sizes-four, loaded.auto.1.1.1.1.1.1.1.1.0); present_sizes-four = omega (arith, four.present_sizes-four, loaded.auto.1.1.1.1.1.1.1.1.1.0); counts-four = four.counts-four; gains-four = four.gains-four; index-four = four.index-four; visited-four = four.visited-four }) (omega (arith, own-four (replicate 1024 0), loaded.auto.1.1.1.1.1.1.1.1.1.1.0)) (omega (arith, length-replicate {A = ℕ} 2048 0, loaded.auto.1.1.1.1.1.1.1.1.1.1.1.1.0));
+      spacious = long.spacious;
+    }
+
+pub shape_of-weights-in-Refused : goal.shape_of-weights-in-Refused
+shape_of-weights-in-Refused c = c.load_hall-loaded.auto.1.0
+
+pub shape_of-blocks-in-Refused : goal.shape_of-blocks-in-Refused
+shape_of-blocks-in-Refused c = c.load_hall-loaded.auto.1.1.0
+
+pub shape_of-aboves-in-Refused : goal.shape_of-aboves-in-Refused
+shape_of-aboves-in-Refused c = c.load_hall-loaded.auto.1.1.1.0
+
+pub shape_of-fixed-in-Refused : goal.shape_of-fixed-in-Refused
+shape_of-fixed-in-Refused c = c.load_hall-loaded.auto.1.1.1.1.0
+
+pub shape_of-loadedpins-in-Refused : goal.shape_of-loadedpins-in-Refused
+shape_of-loadedpins-in-Refused c = c.load_hall-loaded.auto.1.1.1.1.1.0
+
+pub shape_of-presentpins-in-Refused : goal.shape_of-presentpins-in-Refused
+shape_of-presentpins-in-Refused c = c.load_hall-loaded.auto.1.1.1.1.1.1.0
+
+pub shape_of-firsts-in-Refused : goal.shape_of-firsts-in-Refused
+shape_of-firsts-in-Refused c = c.load_hall-loaded.auto.1.1.1.1.1.1.1.0
+
+pub shape_of-loadedsizes-in-Refused : goal.shape_of-loadedsizes-in-Refused
+shape_of-loadedsizes-in-Refused c = c.load_hall-loaded.auto.1.1.1.1.1.1.1.1.0
+
+pub shape_of-presentsizes-in-Refused : goal.shape_of-presentsizes-in-Refused
+shape_of-presentsizes-in-Refused c = c.load_hall-loaded.auto.1.1.1.1.1.1.1.1.1.0
+
+pub returns-in-Refused : goal.returns-in-Refused
+returns-in-Refused c =
+    let refused = c.answer-1.given.1 in
+    (turned_down c.load_hall-loaded.ensures refused refl c.refuse-end.ensures, no-lots c.load_hall-loaded.ensures refused (λ d l. zeros-get 4 d))
+
+pub shape_of-output-in-Accepted : goal.shape_of-output-in-Accepted
+shape_of-output-in-Accepted c = c.report_hall-end.auto.0
+
+pub shape_of-weights-in-Accepted : goal.shape_of-weights-in-Accepted
+shape_of-weights-in-Accepted c = c.report_hall-end.auto.1.0 ∙ c.load_hall-loaded.auto.1.0
+
+pub shape_of-blocks-in-Accepted : goal.shape_of-blocks-in-Accepted
+shape_of-blocks-in-Accepted c = c.report_hall-end.auto.1.1.0 ∙ c.load_hall-loaded.auto.1.1.0
+
+pub shape_of-aboves-in-Accepted : goal.shape_of-aboves-in-Accepted
+shape_of-aboves-in-Accepted c = c.report_hall-end.auto.1.1.1.0 ∙ c.load_hall-loaded.auto.1.1.1.0
+
+pub shape_of-fixed-in-Accepted : goal.shape_of-fixed-in-Accepted
+shape_of-fixed-in-Accepted c = c.report_hall-end.auto.1.1.1.1.0 ∙ c.load_hall-loaded.auto.1.1.1.1.0
+
+pub shape_of-loadedpins-in-Accepted : goal.shape_of-loadedpins-in-Accepted
+shape_of-loadedpins-in-Accepted c = c.report_hall-end.auto.1.1.1.1.1.0 ∙ c.load_hall-loaded.auto.1.1.1.1.1.0
+
+pub shape_of-presentpins-in-Accepted : goal.shape_of-presentpins-in-Accepted
+shape_of-presentpins-in-Accepted c = c.report_hall-end.auto.1.1.1.1.1.1.0 ∙ c.load_hall-loaded.auto.1.1.1.1.1.1.0
+
+pub shape_of-firsts-in-Accepted : goal.shape_of-firsts-in-Accepted
+shape_of-firsts-in-Accepted c = c.report_hall-end.auto.1.1.1.1.1.1.1.0 ∙ c.load_hall-loaded.auto.1.1.1.1.1.1.1.0
+
+pub shape_of-loadedsizes-in-Accepted : goal.shape_of-loadedsizes-in-Accepted
+shape_of-loadedsizes-in-Accepted c = c.report_hall-end.auto.1.1.1.1.1.1.1.1.0 ∙ c.load_hall-loaded.auto.1.1.1.1.1.1.1.1.0
+
+pub shape_of-presentsizes-in-Accepted : goal.shape_of-presentsizes-in-Accepted
+shape_of-presentsizes-in-Accepted c = c.report_hall-end.auto.1.1.1.1.1.1.1.1.1.0 ∙ c.load_hall-loaded.auto.1.1.1.1.1.1.1.1.1.0
+
+pub shape_of-counts : goal.shape_of-counts
+shape_of-counts c = c.report_hall-end.auto.1.1.1.1.1.1.1.1.1.1.0
+
+pub shape_of-gains : goal.shape_of-gains
+shape_of-gains c = c.report_hall-end.auto.1.1.1.1.1.1.1.1.1.1.1.0
+
+pub shape_of-index : goal.shape_of-index
+shape_of-index c = c.report_hall-end.auto.1.1.1.1.1.1.1.1.1.1.1.1.0
+
+pub shape_of-visited : goal.shape_of-visited
+shape_of-visited c = c.report_hall-end.auto.1.1.1.1.1.1.1.1.1.1.1.1.1.0
+
+pub returns-in-Accepted : goal.returns-in-Accepted
+returns-in-Accepted c =
+    let long = c.requires in
+    let four = long.four in
+    let loaded = c.load_hall-loaded in
+    let told = c.report_hall-end.ensures _ _ _ _ (catalogued _ loaded.ensures c.answer-in-Accepted-1.given.1 long.long (record { weights-four = omega (arith, four.weights-four, loaded.auto.1.0); blocks-four = omega (arith, four.blocks-four, loaded.auto.1.1.0); aboves-four = omega (arith, four.aboves-four, loaded.auto.1.1.1.0); fixed-four = omega (arith, four.fixed-four, loaded.auto.1.1.1.1.0); loaded_pins-four = omega (arith, four.loaded_pins-four, loaded.auto.1.1.1.1.1.0); present_pins-four = omega (arith, four.present_pins-four, loaded.auto.1.1.1.1.1.1.0); firsts-four = omega (arith, four.firsts-four, loaded.auto.1.1.1.1.1.1.1.0); loaded_sizes-four = omega (arith, four.loaded_sizes-four, loaded.auto.1.1.1.1.1.1.1.1.0); present_sizes-four = omega (arith, four.present_sizes-four, loaded.auto.1.1.1.1.1.1.1.1.1.0); counts-four = four.counts-four; gains-four = four.gains-four; index-four = four.index-four; visited-four = four.visited-four }) (omega (arith, own-four (replicate 1024 0), loaded.auto.1.1.1.1.1.1.1.1.1.1.0)) (omega (arith, length-replicate {A = ℕ} 2048 0, loaded.auto.1.1.1.1.1.1.1.1.1.1.1.1.0))) in
+    (told.worked, told.lots-are)

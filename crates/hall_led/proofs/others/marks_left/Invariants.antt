@@ -1,0 +1,12 @@
+-- `hall_led::others::marks_left` meets its contract. The loop's invariant: the sum over the catalogues before d.
+use Rattle.std.proofs.Common.{ℕ, ◌-◌, ◌*◌, ◌≤◌, arith, ◌≡◌, sym, ap, ◌∙◌, rules}
+use Rattle.laws.specs.Sum.{sum-zero}
+use Rattle.hall_rooms.specs.Rooms.{besides-le}
+use Rattle.hall_led.specs.Others.{marks_at, marks_beside, marks-more}
+use Rattle.hall_led.proofs.others.marks_left.Given as goal
+
+abbrev pub invariant-loop-d : goal.invariant-loop-d
+invariant-loop-d l = (l.d ≤ l.count) × (l.all ≡ marks_beside l.courses l.d l.c) × (l.all ≤ l.d * 8192)
+
+abbrev pub decreases-loop-d : goal.decreases-loop-d
+decreases-loop-d l = l.count - l.d

@@ -1,0 +1,58 @@
+use Rattle.std.proofs.Common.{arith, ◌-◌, refl}
+use Rattle.hall_opening.specs.Filled.{fills, reads}
+use Rattle.hall_opening.proofs.Turns.{OpenTo, open_none, can-next, open_more, open-all}
+use Rattle.hall_opening.proofs.open_sets.Goals as goal
+
+pub bounds-fixed-0 : goal.bounds-fixed-0
+bounds-fixed-0 c = omega (arith, c.requires.whole.fixed-long)
+
+pub begin-courses-requires : goal.begin-courses-requires
+begin-courses-requires c = (omega arith, omega arith)
+
+pub loop-c-init : goal.loop-c-init
+loop-c-init c = open_none c.requires refl
+
+pub offset_bounds-sizes-c : goal.offset_bounds-sizes-c
+offset_bounds-sizes-c c = omega (arith, c.loop-c.invariant.begun.few, c.loop-c-test.true)
+
+pub bounds-sizes-c : goal.bounds-sizes-c
+bounds-sizes-c c = omega (arith, c.loop-c.invariant.begun.few, c.loop-c-test.true)
+
+pub open_set-requires : goal.open_set-requires
+open_set-requires c = can-next c.loop-c.invariant c.loop-c-test.true
+
+pub offset_bounds-courses-c : goal.offset_bounds-courses-c
+offset_bounds-courses-c c = omega (arith, c.loop-c.invariant.begun.few, c.loop-c-test.true)
+
+pub bounds-courses-c : goal.bounds-courses-c
+bounds-courses-c c = omega (arith, c.loop-c.invariant.begun.few, c.loop-c-test.true)
+
+pub overflow_add-c : goal.overflow_add-c
+overflow_add-c c = omega (arith, c.loop-c.invariant.begun.few, c.loop-c-test.true)
+
+pub loop-c-smaller : goal.loop-c-smaller
+loop-c-smaller c = omega (arith, c.loop-c-test.true)
+
+pub loop-c-preserved : goal.loop-c-preserved
+loop-c-preserved c = open_more c.loop-c.invariant c.loop-c-test.true c.open_set.ensures
+
+pub shape_of-counts : goal.shape_of-counts
+shape_of-counts c = c.loop-c.invariant.same.counts_same
+
+pub shape_of-visited : goal.shape_of-visited
+shape_of-visited c = c.loop-c.invariant.same.visited-same
+
+pub shape_of-gains : goal.shape_of-gains
+shape_of-gains c = c.loop-c.invariant.same.gains-same
+
+pub shape_of-index : goal.shape_of-index
+shape_of-index c = c.loop-c.invariant.same.index_same
+
+pub shape_of-bits : goal.shape_of-bits
+shape_of-bits c = c.loop-c.invariant.same.bits-same
+
+pub shape_of-loads : goal.shape_of-loads
+shape_of-loads c = c.loop-c.invariant.same.loads-same
+
+pub returns : goal.returns
+returns c = open-all c.loop-c.invariant (omega (arith, c.loop-c-test.false))

@@ -1,0 +1,14 @@
+-- `hall_records::gathering::gather` meets its contract. The invariant: the records of all places below k where a lot stands are gathered. Assumes nothing.
+use Rattle.std.proofs.Common.{◌≡◌, refl, subst, ◌∙◌, ℕ, ◌≤◌, ◌<◌, ◌-◌, arith, length, length-set, replicate, rules}
+use Rattle.std.proofs.lemmas.List.{length-replicate}
+use Rattle.laws.specs.Choice.{one-le}
+use Rattle.records.specs.Fields.{blank}
+use Rattle.hall_records.specs.Gathered.{in_use, Gathered, gathered_none, gathered-more}
+use Rattle.hall_records.proofs.gathering.gather.Given as goal
+
+abbrev pub invariant-loop-k : goal.invariant-loop-k
+invariant-loop-k l =
+    (l.k ≤ 4096) × (length l.places ≡ 4096) × (length l.lots ≡ 4096) × Gathered l.counts l.weights l.blocks l.aboves l.fixed l.k l.n l.places l.lots
+
+abbrev pub decreases-loop-k : goal.decreases-loop-k
+decreases-loop-k l = 4096 - l.k

@@ -1,0 +1,22 @@
+-- `hgr::weight_code` meets its contract.
+use Rattle.std.proofs.Common.{◌≡◌, refl, sym, ◌∙◌, ap, arith, rules}
+use Rattle.std.proofs.Math.Seq.{slice}
+use Rattle.std.proofs.lemmas.Bool.{not-true, not-false}
+use Rattle.hgr.specs.Form.{known_code}
+use Rattle.hgr.proofs.Codes.{code-none, code-bad, code-three, numbers-upto}
+use Rattle.hgr.proofs.weight_code.Goals as goal
+
+pub returns-then-n-eq2 : goal.returns-then-n-eq2
+returns-then-n-eq2 c = code-none _ c.count-n.result c.count-n.ensures c.if-n-eq2.true
+
+pub returns-then-n-ne3 : goal.returns-then-n-ne3
+returns-then-n-ne3 c =
+    code-bad _ c.count-n.result c.count-n.ensures c.if-n-eq2.false c.if-n-ne3.true
+
+pub get-requires : goal.get-requires
+get-requires c =
+    (omega arith, omega arith, numbers-upto _ c.count-n.result c.count-n.ensures 2 (omega arith))
+
+pub returns : goal.returns
+returns c =
+    code-three _ c.count-n.result c.count-n.ensures c.known.result (omega arith) (c.known.ensures ∙ ap known_code c.get.ensures)

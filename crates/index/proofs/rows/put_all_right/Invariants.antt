@@ -1,0 +1,10 @@
+-- `put_all_right`: the rows of the vertices below x are right.
+use Rattle.std.proofs.Common.{arith, ◌+◌, ◌-◌, rules}
+use Rattle.index.specs.Indexed.{RightTo, right-none, right-more, right-on, right-all}
+use Rattle.index.proofs.rows.put_all_right.Given as goal
+
+abbrev pub invariant-loop-x : goal.invariant-loop-x
+invariant-loop-x l = RightTo l.gains l.blocks l.n l.k l.initial.index l.index l.x
+
+abbrev pub decreases-loop-x : goal.decreases-loop-x
+decreases-loop-x l = l.n - l.x

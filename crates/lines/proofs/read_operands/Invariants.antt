@@ -1,0 +1,10 @@
+-- `lines::read_operands` meets its contract. The invariant: the operands are the numbers before `i`, and twice as many bytes stand before it.
+use Rattle.std.proofs.Common.{◌-◌, arith, ◌∙◌, length-set}
+use Rattle.lines.proofs.Operands.{OnOperands, operands-start, operands-bad, operands-last, operands-on}
+use Rattle.lines.proofs.read_operands.Given as goal
+
+abbrev pub invariant-loop-i : goal.invariant-loop-i
+invariant-loop-i l = OnOperands l.s l.at l.end l.first l.initial.operands l.operands l.i l.m
+
+abbrev pub decreases-loop-i : goal.decreases-loop-i
+decreases-loop-i l = l.end - l.i

@@ -1,0 +1,10 @@
+-- `lines::read_pins` meets its contract. The invariant: what the marks of the line say, those from `i` on say after the marks in the table.
+use Rattle.std.proofs.Common.{◌-◌, arith, ◌∙◌}
+use Rattle.lines.proofs.Fields.{OnMarks, marks-start, marks-bad, marks-stop, marks-last, marks-on}
+use Rattle.lines.proofs.read_pins.Given as goal
+
+abbrev pub invariant-loop-i : goal.invariant-loop-i
+invariant-loop-i l = OnMarks l.s l.at l.end l.vertices l.most l.j l.first l.initial.loadedpins l.loadedpins l.stamps l.i l.m
+
+abbrev pub decreases-loop-i : goal.decreases-loop-i
+decreases-loop-i l = l.end - l.i

@@ -1,0 +1,10 @@
+-- `put_pins_right`: the rows of the first j pins are right, and rows that were right still are.
+use Rattle.std.proofs.Common.{arith, ◌≡◌, ap, rules, ℕ, ◌-◌, ◌≤◌}
+use Rattle.near_rows.specs.Near.{Mended, PinsRight, row-asks, mended-none, mended-then, mended-row, pins-none, pins-more}
+use Rattle.near_rows.proofs.near.put_pins_right.Given as goal
+
+abbrev pub invariant-loop-j : goal.invariant-loop-j
+invariant-loop-j l = (l.j ≤ l.size) × Mended l.gains l.blocks l.n l.k l.initial.index l.index × PinsRight l.gains l.blocks l.k l.index l.presentpins l.first l.j
+
+abbrev pub decreases-loop-j : goal.decreases-loop-j
+decreases-loop-j l = l.size - l.j

@@ -1,0 +1,11 @@
+-- `metric_of` meets its contract: the sum over the nets passed, which is small enough.
+use Rattle.std.proofs.Common.{arith, ◌≡◌, sym, ◌∙◌, ap, ◌≤◌, ◌-◌}
+use Rattle.laws.specs.Sum.{sum-zero}
+use Rattle.opening.specs.Opening.{metric_by, metric-more, metric-le}
+use Rattle.opening.proofs.metric_of.Given as goal
+
+abbrev pub invariant-loop-e : goal.invariant-loop-e
+invariant-loop-e l = (l.e ≤ l.m) × (l.t ≡ metric_by l.visited l.netweights l.e)
+
+abbrev pub decreases-loop-e : goal.decreases-loop-e
+decreases-loop-e l = l.m - l.e

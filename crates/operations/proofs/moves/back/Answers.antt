@@ -1,0 +1,25 @@
+-- `back`: the metric with the negated gain of the way back, and the tables.
+use Rattle.std.proofs.Common.{rules}
+use Rattle.operations.specs.Move.{negated-needs, raise-needs, raised, carries, went}
+use Rattle.operations.proofs.moves.back.Goals as goal
+
+pub negated-requires : goal.negated-requires
+negated-requires c =
+    let g = c.requires.goes in
+    negated-needs g.sound g.open-pair c.index.result c.index.ensures
+
+pub raise_total-after-requires : goal.raise_total-after-requires
+raise_total-after-requires c =
+    let g = c.requires.goes in
+    raise-needs g.sound g.open-pair c.negated.result c.index.ensures c.negated.ensures
+
+pub carry-requires : goal.carry-requires
+carry-requires c =
+    let g = c.requires.goes in
+    carries g.sound g.open-pair
+
+pub returns : goal.returns
+returns c =
+    λ aboves loaded.
+    let g = c.requires.goes in
+    went _ g.open-pair c.carry.ensures.move_does c.carry.ensures.loads_after (raised g.sound g.open-pair c.negated.result c.index.ensures c.negated.ensures c.raise_total-after.ensures)

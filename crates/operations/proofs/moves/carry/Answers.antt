@@ -1,0 +1,16 @@
+-- `carry`: the blocks' weights, then the running tables.
+use Rattle.std.proofs.Common.{rules}
+use Rattle.operations.specs.Move.{shifts-as, shifted_as}
+use Rattle.operations.proofs.moves.carry.Goals as goal
+
+pub shift_load-requires : goal.shift_load-requires
+shift_load-requires c =
+    shifts-as c.args.loads.now c.index.ensures c.index-2.ensures c.long.ensures c.requires.shifts
+
+pub move_vertex-requires : goal.move_vertex-requires
+move_vertex-requires c =
+    c.requires.moves
+
+pub returns : goal.returns
+returns c =
+    record { move_does = c.move_vertex.ensures; loads_after = shifted_as c.args.loads.now c.index.ensures c.index-2.ensures c.long.ensures c.shift_load.ensures }

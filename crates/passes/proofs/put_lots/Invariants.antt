@@ -1,0 +1,14 @@
+-- `passes::put_lots` meets its contract. The invariant: the lines of the lots from the k-th on are still to be written.
+use Rattle.std.proofs.Common.{◌≤◌, ◌-◌, ◌≡◌, refl, sym, ◌∙◌, ap, subst, List, ℕ, length, arith, rules}
+use Rattle.fields.specs.Wrote.{Remains}
+use Rattle.fields.proofs.Laws.{remains-all, remains-none}
+use Rattle.model.specs.Grammar.{bytes}
+use Rattle.model.specs.Report.{row}
+use Rattle.passes.proofs.Tables.{lots_from, lots-room, lots-more, lots-end}
+use Rattle.passes.proofs.put_lots.Given as goal
+
+abbrev pub invariant-loop-k : goal.invariant-loop-k
+invariant-loop-k l = (length weights ≡ 1024) × (length draft ≡ 1024) × (k ≤ n) × Remains out₀ p (lots_from n weights draft 0) out q (lots_from n weights draft k)
+
+abbrev pub decreases-loop-k : goal.decreases-loop-k
+decreases-loop-k l = n - k

@@ -1,0 +1,10 @@
+use Rattle.std.proofs.Common.{arith, ◌≡◌, refl, ◌≤◌, ◌-◌}
+use Rattle.search_moves.specs.Marks.{Marked}
+use Rattle.polish.specs.Polishing.{sits, sits-none, sits-more}
+use Rattle.polish.proofs.polishing.mark_board.Given as goal
+
+abbrev pub invariant-loop-x : goal.invariant-loop-x
+invariant-loop-x l = (l.x ≤ l.n) × Marked l.initial.marks l.marks (sits l.blocks l.x)
+
+abbrev pub decreases-loop-x : goal.decreases-loop-x
+decreases-loop-x l = l.n - l.x

@@ -1,0 +1,10 @@
+-- `reader::read_calls` meets its contract.
+use Rattle.std.proofs.Common.{◌-◌, length, length-set, arith, ◌∙◌, rules}
+use Rattle.reader.proofs.Turns.{OnCalls, calls-start, calls-done, calls-full, calls-unended, calls-bad, calls-on}
+use Rattle.reader.proofs.read_calls.Given as goal
+
+abbrev pub invariant-loop-i : goal.invariant-loop-i
+invariant-loop-i l = OnCalls l.s l.at l.n l.initial.calls l.initial.operands l.calls l.operands l.i l.c l.used
+
+abbrev pub decreases-loop-i : goal.decreases-loop-i
+decreases-loop-i l = length l.s - l.i

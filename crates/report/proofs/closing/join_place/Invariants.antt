@@ -1,0 +1,10 @@
+-- `report::closing::join_place` meets its contract: the joins past the first i are not that of v.
+use Rattle.std.proofs.Common.{arith, sym, ◌∙◌, ◌≤◌, rules}
+use Rattle.report.proofs.Climb.{Passed, passed_none, passed-found, passed-more, passed-all}
+use Rattle.report.proofs.closing.join_place.Given as goal
+
+abbrev pub invariant-loop-i : goal.invariant-loop-i
+invariant-loop-i l = (l.i ≤ l.depth) × Passed l.gone l.depth l.v l.i
+
+abbrev pub decreases-loop-i : goal.decreases-loop-i
+decreases-loop-i l = l.i

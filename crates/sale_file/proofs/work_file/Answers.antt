@@ -1,0 +1,116 @@
+use Rattle.std.proofs.Common.{rules, ℕ, arith, refl, ◌∙◌}
+use Rattle.std.proofs.lemmas.List.{length-replicate}
+use Rattle.sale.specs.Files.{catalogued, listed, worked, lots-known, small, line-fits, no-lots, turned_down}
+use Rattle.sale_file.proofs.work_file.Goals as goal
+
+pub load-requires : goal.load-requires
+load-requires c =
+    let long = c.requires in
+    (long.within, length-replicate {A = ℕ} 1024 0, length-replicate {A = ℕ} 1024 0, omega (arith, length-replicate {A = ℕ} 1536 0), omega (arith, length-replicate {A = ℕ} 30000 0), long.lists-long)
+
+pub refuse-end-requires : goal.refuse-end-requires
+refuse-end-requires c =
+    let long = c.requires in
+    let refused = c.q-1.given.1 in
+    ((small long c.load.ensures refused).1, omega (arith, line-fits long c.load.ensures refused, long.spacious))
+
+pub overflow_cast-number : goal.overflow_cast-number
+overflow_cast-number c = omega (arith, (small c.requires c.load.ensures c.q-1.given.1).0)
+
+pub slice_bounds-report_sale-end : goal.slice_bounds-report_sale-end
+slice_bounds-report_sale-end c = omega (arith, (c.load.ensures.accepts _ _ c.z-1.given.1).costs)
+
+pub report_sale-end-requires : goal.report_sale-end-requires
+report_sale-end-requires c =
+    let long = c.requires in
+    let accepted = c.z-1.given.1 in
+    record {
+      limits = _;
+      old = _;
+      lows = _;
+      catalogued = catalogued long c.load.ensures accepted;
+      listed = listed long c.load.ensures accepted (omega (arith, c.load.auto.1.1.1.1.1.1.1.1.1.1.1.1.1.0, length-replicate {A = ℕ} 1536 0));
+      spacious = long.spacious;
+    }
+
+pub shape_of-weights-in-Refused : goal.shape_of-weights-in-Refused
+shape_of-weights-in-Refused c = c.load.auto.1.1.0
+
+pub shape_of-blocks-in-Refused : goal.shape_of-blocks-in-Refused
+shape_of-blocks-in-Refused c = c.load.auto.1.1.1.0
+
+pub shape_of-aboves-in-Refused : goal.shape_of-aboves-in-Refused
+shape_of-aboves-in-Refused c = c.load.auto.1.1.1.1.0
+
+pub shape_of-fixed-in-Refused : goal.shape_of-fixed-in-Refused
+shape_of-fixed-in-Refused c = c.load.auto.1.1.1.1.1.0
+
+pub shape_of-loadedpins-in-Refused : goal.shape_of-loadedpins-in-Refused
+shape_of-loadedpins-in-Refused c = c.load.auto.1.1.1.1.1.1.0
+
+pub shape_of-presentpins-in-Refused : goal.shape_of-presentpins-in-Refused
+shape_of-presentpins-in-Refused c = c.load.auto.1.1.1.1.1.1.1.0
+
+pub shape_of-firsts-in-Refused : goal.shape_of-firsts-in-Refused
+shape_of-firsts-in-Refused c = c.load.auto.1.1.1.1.1.1.1.1.0
+
+pub shape_of-loadedsizes-in-Refused : goal.shape_of-loadedsizes-in-Refused
+shape_of-loadedsizes-in-Refused c = c.load.auto.1.1.1.1.1.1.1.1.1.0
+
+pub shape_of-presentsizes-in-Refused : goal.shape_of-presentsizes-in-Refused
+shape_of-presentsizes-in-Refused c = c.load.auto.1.1.1.1.1.1.1.1.1.1.0
+
+pub returns-in-Refused : goal.returns-in-Refused
+returns-in-Refused c =
+    let long = c.requires in
+    let refused = c.q-1.given.1 in
+    (turned_down long c.load.ensures refused refl c.refuse-end.ensures, no-lots long c.load.ensures refused)
+
+pub shape_of-output-in-Accepted : goal.shape_of-output-in-Accepted
+shape_of-output-in-Accepted c = c.report_sale-end.auto.0
+
+pub shape_of-weights-in-Accepted : goal.shape_of-weights-in-Accepted
+shape_of-weights-in-Accepted c = c.report_sale-end.auto.1.0 ∙ c.load.auto.1.1.0
+
+pub shape_of-blocks-in-Accepted : goal.shape_of-blocks-in-Accepted
+shape_of-blocks-in-Accepted c = c.report_sale-end.auto.1.1.0 ∙ c.load.auto.1.1.1.0
+
+pub shape_of-aboves-in-Accepted : goal.shape_of-aboves-in-Accepted
+shape_of-aboves-in-Accepted c = c.report_sale-end.auto.1.1.1.0 ∙ c.load.auto.1.1.1.1.0
+
+pub shape_of-fixed-in-Accepted : goal.shape_of-fixed-in-Accepted
+shape_of-fixed-in-Accepted c = c.report_sale-end.auto.1.1.1.1.0 ∙ c.load.auto.1.1.1.1.1.0
+
+pub shape_of-loadedpins-in-Accepted : goal.shape_of-loadedpins-in-Accepted
+shape_of-loadedpins-in-Accepted c = c.report_sale-end.auto.1.1.1.1.1.0 ∙ c.load.auto.1.1.1.1.1.1.0
+
+pub shape_of-presentpins-in-Accepted : goal.shape_of-presentpins-in-Accepted
+shape_of-presentpins-in-Accepted c = c.report_sale-end.auto.1.1.1.1.1.1.0 ∙ c.load.auto.1.1.1.1.1.1.1.0
+
+pub shape_of-firsts-in-Accepted : goal.shape_of-firsts-in-Accepted
+shape_of-firsts-in-Accepted c = c.report_sale-end.auto.1.1.1.1.1.1.1.0 ∙ c.load.auto.1.1.1.1.1.1.1.1.0
+
+pub shape_of-loadedsizes-in-Accepted : goal.shape_of-loadedsizes-in-Accepted
+shape_of-loadedsizes-in-Accepted c = c.report_sale-end.auto.1.1.1.1.1.1.1.1.0 ∙ c.load.auto.1.1.1.1.1.1.1.1.1.0
+
+pub shape_of-presentsizes-in-Accepted : goal.shape_of-presentsizes-in-Accepted
+shape_of-presentsizes-in-Accepted c = c.report_sale-end.auto.1.1.1.1.1.1.1.1.1.0 ∙ c.load.auto.1.1.1.1.1.1.1.1.1.1.0
+
+pub shape_of-counts : goal.shape_of-counts
+shape_of-counts c = c.report_sale-end.auto.1.1.1.1.1.1.1.1.1.1.0
+
+pub shape_of-gains : goal.shape_of-gains
+shape_of-gains c = c.report_sale-end.auto.1.1.1.1.1.1.1.1.1.1.1.0
+
+pub shape_of-index : goal.shape_of-index
+shape_of-index c = c.report_sale-end.auto.1.1.1.1.1.1.1.1.1.1.1.1.0
+
+pub shape_of-visited : goal.shape_of-visited
+shape_of-visited c = c.report_sale-end.auto.1.1.1.1.1.1.1.1.1.1.1.1.1.0
+
+pub returns-in-Accepted : goal.returns-in-Accepted
+returns-in-Accepted c =
+    let long = c.requires in
+    let accepted = c.z-1.given.1 in
+    let report = c.report_sale-end.ensures _ _ _ (catalogued long c.load.ensures accepted) (listed long c.load.ensures accepted (omega (arith, c.load.auto.1.1.1.1.1.1.1.1.1.1.1.1.1.0, length-replicate {A = ℕ} 1536 0))) long.spacious in
+    (worked long c.load.ensures accepted report, lots-known long c.load.ensures accepted report)

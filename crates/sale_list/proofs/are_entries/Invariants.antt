@@ -1,0 +1,11 @@
+use Rattle.std.proofs.Common.{rules, ◌-◌, ◌≤◌, arith, ◌≡◌, true}
+use Rattle.std.proofs.lemmas.Bool.{not-true, not-false}
+use Rattle.model.specs.ListEntry.{entries_to}
+use Rattle.sale_list.specs.Lists.{entries_none, entries-more, entries-all, entries-no}
+use Rattle.sale_list.proofs.are_entries.Given as goal
+
+abbrev pub invariant-loop-i : goal.invariant-loop-i
+invariant-loop-i l = (entries_to l.operands l.i l.list ≡ true) × (l.i ≤ l.count)
+
+abbrev pub decreases-loop-i : goal.decreases-loop-i
+decreases-loop-i l = l.count - l.i

@@ -1,0 +1,10 @@
+-- `mark_row`: the first c words of row 0 are marked.
+use Rattle.std.proofs.Common.{arith, ◌≡◌, refl, ◌≤◌, ◌-◌}
+use Rattle.search_moves.specs.Rows.{MarkedTo, marked-words-none, marked-words-more, row-marked, row-nets}
+use Rattle.search_moves.proofs.marks.mark_row.Given as goal
+
+abbrev pub invariant-loop-c : goal.invariant-loop-c
+invariant-loop-c l = (l.c ≤ 16) × MarkedTo l.rows l.e l.initial.marks l.c l.marks
+
+abbrev pub decreases-loop-c : goal.decreases-loop-c
+decreases-loop-c l = 16 - l.c

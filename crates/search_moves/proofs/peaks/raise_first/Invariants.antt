@@ -1,0 +1,10 @@
+use Rattle.std.proofs.Common.{arith, ◌≡◌, ap, ◌∙◌, rules, ℕ, ◌≤◌, ◌-◌}
+use Rattle.best_move.specs.Peak.{Higher}
+use Rattle.search_moves.specs.Lifting.{FirstUnder, higher-none, higher-then, first-none, first_more}
+use Rattle.search_moves.proofs.peaks.raise_first.Given as goal
+
+abbrev pub invariant-loop-j : goal.invariant-loop-j
+invariant-loop-j l = (l.j ≤ l.size) × Higher l.initial.peaks l.peaks × FirstUnder l.gains l.peaks l.presentpins l.first l.j l.t
+
+abbrev pub decreases-loop-j : goal.decreases-loop-j
+decreases-loop-j l = l.size - l.j

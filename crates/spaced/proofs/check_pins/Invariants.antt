@@ -1,0 +1,11 @@
+-- `spaced::check_pins` meets its contract. The invariant: what the words from `at` on say, those from `i` on say after the vertices seen.
+use Rattle.std.proofs.Common.{◌-◌, ◌≡◌, sym, ◌∙◌, arith, rules}
+use Rattle.std.proofs.lemmas.Bool.{not-true, not-false}
+use Rattle.spaced.proofs.Edges.{OnPins, pins-start, pins-stop, pins-last, pins-on}
+use Rattle.spaced.proofs.check_pins.Given as goal
+
+abbrev pub invariant-loop-at : goal.invariant-loop-at
+invariant-loop-at l = OnPins l.s l.at l.end l.vertices l.j l.stamps l.i l.n l.good l.size
+
+abbrev pub decreases-loop-at : goal.decreases-loop-at
+decreases-loop-at l = l.end - l.i

@@ -1,0 +1,12 @@
+-- `spaced::put_pins` meets its contract. The invariant: what the words from `i` on say is still to be written.
+use Rattle.std.proofs.Common.{◌-◌, ◌≡◌, sym, ◌∙◌, arith, rules}
+use Rattle.fields.proofs.Laws.{remains-all, wrote-length}
+use Rattle.spaced.proofs.Words.{word-well}
+use Rattle.spaced.proofs.Edges.{OnPut, put-room, put_last, put_on}
+use Rattle.spaced.proofs.put_pins.Given as goal
+
+abbrev pub invariant-loop-at : goal.invariant-loop-at
+invariant-loop-at l = OnPut l.s l.at l.end l.initial.out l.p l.out l.i l.q
+
+abbrev pub decreases-loop-at : goal.decreases-loop-at
+decreases-loop-at l = l.end - l.i

@@ -1,0 +1,10 @@
+-- `text::read_digits` meets its contract. The invariant: the bytes before `i` are digits, and `v` is their value.
+use Rattle.std.proofs.Common.{◌-◌, ◌+◌, ◌≤◌, arith, length}
+use Rattle.text.proofs.Numbers.{OnDigits, digits-start, digits-on, digits-stop, digit_low, digit-high, ten-room}
+use Rattle.text.proofs.read_digits.Given as goal
+
+abbrev pub invariant-loop-i : goal.invariant-loop-i
+invariant-loop-i l = OnDigits l.s l.at l.v l.i × (l.i ≤ l.end) × (l.end ≤ l.at + 9) × (l.end ≤ length l.s)
+
+abbrev pub decreases-loop-i : goal.decreases-loop-i
+decreases-loop-i l = l.end - l.i

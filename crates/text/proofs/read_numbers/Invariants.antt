@@ -1,0 +1,13 @@
+-- `text::read_numbers` meets its contract. The invariant: what the fields from `at` on count to, those from `i` on do after `k`, and the
+-- values of those before are kept.
+use Rattle.std.proofs.Common.{◌-◌, arith}
+use Rattle.std.proofs.Math.Seq.{slice}
+use Rattle.model.specs.Grammar.{parts}
+use Rattle.text.proofs.Lines.{OnNumbers, numbers-start, kept-none, numbers-bad, numbers-kept, numbers-last, numbers_on}
+use Rattle.text.proofs.read_numbers.Given as goal
+
+abbrev pub invariant-loop-i : goal.invariant-loop-i
+invariant-loop-i l = OnNumbers l.s l.at l.end l.k l.i l.values
+
+abbrev pub decreases-loop-i : goal.decreases-loop-i
+decreases-loop-i l = l.end - l.i

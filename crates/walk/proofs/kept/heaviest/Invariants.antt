@@ -1,0 +1,10 @@
+-- `heaviest`: one block more.
+use Rattle.std.proofs.Common.{arith, ◌≡◌, refl, ap, ◌∙◌, rules, ◌≤◌, ◌-◌}
+use Rattle.walk.specs.Kept.{heaviest_in, heaviest-none, heaviest-more}
+use Rattle.walk.proofs.kept.heaviest.Given as goal
+
+abbrev pub invariant-loop-j : goal.invariant-loop-j
+invariant-loop-j l = (l.j ≤ l.k) × (l.most ≡ heaviest_in l.loads l.j)
+
+abbrev pub decreases-loop-j : goal.decreases-loop-j
+decreases-loop-j l = l.k - l.j
