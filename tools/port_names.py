@@ -17,6 +17,7 @@ KEPT = {"hMETIS"}
 # Names that would fall together with one that the spelling makes: the file's name in snake case, and what it is called instead.
 APART = {
     "crates/guarantees/specs/Numbers.antt": {"digits_of": "digits_of_lem"},
+    "crates/hall_columns/specs/Sets.antt": {"set_long": "set_long_lem"},
     "crates/lines/proofs/Operands.antt": {"late_of": "late_of_lem"},
     "crates/spaced/proofs/Edges.antt": {"edge_row": "edge_row_lem"},
 }

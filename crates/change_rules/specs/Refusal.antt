@@ -141,15 +141,15 @@ pub full-marks : (lots lot_room marks more mark_room : ℕ) → lots < lot_room 
 full-marks lots lot_room marks more mark_room l m = less-more marks more mark_room m ∙ sym (ap (λ (a : Bool). a || ltb mark_room (marks + more)) (lt-leb lot_room lots l))
 
 module _ (loads ceilings buyers : List ℕ) (m k joins lots lot_room marks mark_room bales session : ℕ) {r : Bool} (e : r ≡ ((known 65535 bales && known k session) && all buyers (known m))) where
-  abbrev no : ℕ
-  no = refusal_n loads ceilings buyers m k joins lots lot_room marks mark_room bales session
+  abbrev turned_down : ℕ
+  turned_down = refusal_n loads ceilings buyers m k joins lots lot_room marks mark_room bales session
 
-  pub in-9 : not r ≡ true → 9 ≡ no
+  pub in-9 : not r ≡ true → 9 ≡ turned_down
   unfolding refusal_n
   in-9 q = taken (not ((known 65535 bales && known k session) && all buyers (known m))) 9 _ (sym (ap not e) ∙ q)
 
   module _ (q : not r ≡ false) where
-    pub in-16 : 0 < joins → 16 ≡ no
+    pub in-16 : 0 < joins → 16 ≡ turned_down
     unfolding refusal_n
     in-16 w = left (not ((known 65535 bales && known k session) && all buyers (known m))) 9 (sym (ap not e) ∙ q) (taken (ltb 0 joins) 16 _ (lt-ltb 0 joins w))
 
@@ -161,18 +161,18 @@ module _ (loads ceilings buyers : List ℕ) (m k joins lots lot_room marks mark_
         (leb-true 1 session (and_left (leb 1 session) (leb session k) b), leb-true session k (and_right (leb 1 session) (leb session k) b), and_right (known 65535 bales && known k session) _ y)
 
     module _ (none : joins ≤ 0) {t : Bool} (f : t ≡ named_twice buyers) where
-      pub in-22 : t ≡ true → 22 ≡ no
+      pub in-22 : t ≡ true → 22 ≡ turned_down
       unfolding refusal_n
       in-22 w = left (not ((known 65535 bales && known k session) && all buyers (known m))) 9 (sym (ap not e) ∙ q) (left (ltb 0 joins) 16 (le-ltb 0 joins none) (taken (named_twice buyers) 22 _ (sym f ∙ w)))
 
       module _ (once : t ≡ false) {u : Bool} (g : u ≡ (leb lot_room lots || ltb mark_room (marks + length buyers))) where
-        pub in-23 : u ≡ true → 23 ≡ no
+        pub in-23 : u ≡ true → 23 ≡ turned_down
         unfolding refusal_n
         in-23 w = left (not ((known 65535 bales && known k session) && all buyers (known m))) 9 (sym (ap not e) ∙ q) (left (ltb 0 joins) 16 (le-ltb 0 joins none) (left (named_twice buyers) 22 (sym f ∙ once)
             (taken (leb lot_room lots || ltb mark_room (marks + length buyers)) 23 _ (sym g ∙ w))))
 
         module _ (room : u ≡ false) {x : Bool} (i : x ≡ leb (get_or loads (session - 1) 0 + bales) (get_or ceilings (session - 1) 0)) where
-          pub in-last : (z : ℕ) → z ≡ cond (not x) 14 0 → z ≡ no
+          pub in-last : (z : ℕ) → z ≡ cond (not x) 14 0 → z ≡ turned_down
           unfolding refusal_n
           in-last z w = left (not ((known 65535 bales && known k session) && all buyers (known m))) 9 (sym (ap not e) ∙ q) (left (ltb 0 joins) 16 (le-ltb 0 joins none) (left (named_twice buyers) 22 (sym f ∙ once)
               (left (leb lot_room lots || ltb mark_room (marks + length buyers)) 23 (sym g ∙ room) (w ∙ ap (λ (b : Bool). cond (not b) 14 0) i))))

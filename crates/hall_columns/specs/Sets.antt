@@ -65,12 +65,12 @@ main-within : Within main_limits
 main-within = record { lots-few = omega arith; sessions-few = omega arith; few = record { nets-few = omega arith; pins-few = omega arith } }
 
 -- a long set has its lengths
-pub set_long : (out : List ℕ) (T : HallTables) (c : ℕ) → set_long out T c ≡ true → Long main_limits out (loader_set c (loaded_in T [] [])).lists (get_or T.counts c []) (get_or T.gains c []) (get_or T.index c []) (get_or T.visited c [])
-set_long out T c q = long-is main_limits out (loader_set c (loaded_in T [] [])).lists (get_or T.counts c []) (get_or T.gains c []) (get_or T.index c []) (get_or T.visited c []) main-within (sym q) refl
+pub set_long_lem : (out : List ℕ) (T : HallTables) (c : ℕ) → set_long out T c ≡ true → Long main_limits out (loader_set c (loaded_in T [] [])).lists (get_or T.counts c []) (get_or T.gains c []) (get_or T.index c []) (get_or T.visited c [])
+set_long_lem out T c q = long-is main_limits out (loader_set c (loaded_in T [] [])).lists (get_or T.counts c []) (get_or T.gains c []) (get_or T.index c []) (get_or T.visited c []) main-within (sym q) refl
 
 -- where the fourth set is long there are four arrays of each table
 pub four-of : (out : List ℕ) (T : HallTables) → set_long out T 3 ≡ true → Four T
-four-of out T q = let l = set_long out T 3 q in record { weights-four = at_least T.weights 0 (omega (arith, l.lists-long.weights)); blocks-four = at_least T.blocks 0 (omega (arith, l.lists-long.blocks)); aboves-four = at_least T.aboves 0 (omega (arith, l.lists-long.aboves)); fixed-four = at_least T.fixed 0 (omega (arith, l.lists-long.fixed)); loaded_pins-four = at_least T.loaded_pins 0 (omega (arith, l.lists-long.loaded_pins)); present_pins-four = at_least T.present_pins 0 (omega (arith, l.lists-long.present_pins)); firsts-four = at_least T.firsts 0 (omega (arith, l.lists-long.firsts)); loaded_sizes-four = at_least T.loaded_sizes 0 (omega (arith, l.lists-long.loaded_sizes)); present_sizes-four = at_least T.present_sizes 0 (omega (arith, l.lists-long.present_sizes)); counts-four = at_least T.counts 0 (omega (arith, l.counts-long)); gains-four = at_least T.gains 0 (omega (arith, l.gains-long)); index-four = at_least T.index 0 (omega (arith, l.index-long)); visited-four = at_least T.visited 0 (omega (arith, l.visited-long)) }
+four-of out T q = let l = set_long_lem out T 3 q in record { weights-four = at_least T.weights 0 (omega (arith, l.lists-long.weights)); blocks-four = at_least T.blocks 0 (omega (arith, l.lists-long.blocks)); aboves-four = at_least T.aboves 0 (omega (arith, l.lists-long.aboves)); fixed-four = at_least T.fixed 0 (omega (arith, l.lists-long.fixed)); loaded_pins-four = at_least T.loaded_pins 0 (omega (arith, l.lists-long.loaded_pins)); present_pins-four = at_least T.present_pins 0 (omega (arith, l.lists-long.present_pins)); firsts-four = at_least T.firsts 0 (omega (arith, l.lists-long.firsts)); loaded_sizes-four = at_least T.loaded_sizes 0 (omega (arith, l.lists-long.loaded_sizes)); present_sizes-four = at_least T.present_sizes 0 (omega (arith, l.lists-long.present_sizes)); counts-four = at_least T.counts 0 (omega (arith, l.counts-long)); gains-four = at_least T.gains 0 (omega (arith, l.gains-long)); index-four = at_least T.index 0 (omega (arith, l.index-long)); visited-four = at_least T.visited 0 (omega (arith, l.visited-long)) }
 
 -- ---- all four
 -- model's test, set by set
@@ -134,6 +134,6 @@ too_few out T q = go (long_hall (hall_memory out T)) refl
 pub long-hall : (out : List ℕ) (T : HallTables) → long_hall (hall_memory out T) ≡ true → LongHall out T
 long-hall out T q = let l = long-all out T q in record {
   four = four-of out T (l 3 (omega arith));
-  long = λ c u. set_long out T c (l c u);
-  spacious = (set_long out T 0 (l 0 (omega arith))).spacious;
+  long = λ c u. set_long_lem out T c (l c u);
+  spacious = (set_long_lem out T 0 (l 0 (omega arith))).spacious;
 }
