@@ -109,5 +109,5 @@ module _ {limits : Limits} {z : Sizes} {old new : Lists} {nw lo counts : List â„
           };
           marked = fixed-marked g.narrow g.short g.few g.long g.accepts f.marked;
           right = rw f.n-is x.rows;
-          unused = rw (f.n-is, f.marks-are, marks-are, f.total-is) (unused-opened loads' draft a.started o.prepared x.kept (all-vertices g.narrow g.short g.few g.long g.accepts) (all-nets g.narrow g.short g.few g.long g.accepts));
+          unused = rw (f.n-is, f.marks-are, marks-are) (unused-opened loads' draft a.started o.prepared x.kept (all-vertices g.narrow g.short g.few g.long g.accepts) (all-nets g.narrow g.short g.few g.long g.accepts));
         }
