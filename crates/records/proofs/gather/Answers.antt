@@ -3,10 +3,8 @@ use Rattle.std.proofs.Math.ListN.{get_or-map}
 use Rattle.std.proofs.lemmas.List.{length-map, length-replicate}
 use Rattle.records.specs.declared.Lot.{Lot}
 use Rattle.records.specs.Fields.{blank, bales_of, sessions_of, aboves_of, kept_of}
+use Rattle.records.proofs.gather.Invariants.{Made}
 use Rattle.records.proofs.gather.Goals as goal
-
-abbrev Made : List ℕ → List ℕ → List ℕ → List ℕ → List Lot → ℕ → Type 0
-Made weights blocks aboves fixed lots k = get_or lots k blank ≡ record { bales = get_or weights k 0; session = get_or blocks k 0; above = get_or aboves k 0; kept = get_or fixed k 0 }
 
 -- once all records are made, each field of theirs is its table
 tables : (weights blocks aboves fixed : List ℕ) (lots : List Lot) → length weights ≡ 1024 → length blocks ≡ 1024 → length aboves ≡ 1024 → length fixed ≡ 1024 → length lots ≡ 1024
@@ -40,5 +38,5 @@ loop-i-preserved c =
 
 pub returns : goal.returns
 returns c =
-    tables c.args.weights c.args.blocks c.args.aboves c.args.fixed c.loop-i.lots c.well-formed.0.1.0.1 c.well-formed.1.0.1.0.1 c.well-formed.1.1.0.1.0.1 c.well-formed.1.1.1.0.1.0.1 c.loop-i.invariant.1
+    tables c.args.weights c.args.blocks c.args.aboves c.args.fixed c.loop-i.lots (omega (arith, c.well_formed)) (omega (arith, c.well_formed)) (omega (arith, c.well_formed)) (omega (arith, c.well_formed)) c.loop-i.invariant.1
     (λ k h. c.loop-i.invariant.2 k (omega (arith, h, c.loop-i-test.false)))
