@@ -10,6 +10,6 @@ loop-i-preserved c =
     let one : suc i ≡ i + 1 = omega arith in (
       omega arith,
       ap (λ (t : List Lot). slice_set t i (slice_index_or c.args.new i none)) c.loop-i.invariant.1
-      ∙ over-more none i c.args.new c.args.lots.now (omega (arith, c.well_formed)) (omega arith)
-      ∙ ap (λ (k : ℕ). over k c.args.new c.args.lots.now) one,
+          ∙ over-more none i c.args.new c.args.lots.now (omega (arith, c.well_formed)) (omega arith)
+          ∙ ap (λ (k : ℕ). over k c.args.new c.args.lots.now) one,
     )
