@@ -12,8 +12,7 @@ use records::Lot;
 // A hall's file and lent memory: the lots, four sets of 1,024 records in a row; the output, 60,000 bytes; and of each other table four, one for each catalogue:
 // marks as loaded and as they stand, 8,192 each; the buyers' first places, loaded marks and present marks, 1,024 each; counts, gains and index,
 // 16,384 each; visited, 1,024.
-#[unsafe(no_mangle)]
-pub extern "C" fn kapokdrill_hall(
+pub fn kapokdrill_hall(
     file: &[u8],
     lots: &mut [Lot],
     output: &mut [u8],

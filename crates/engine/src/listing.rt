@@ -25,8 +25,7 @@ fn refused_list(code: u32) -> ListRan
 }
 
 // A catalogue and a list of at most 512 calls with the operands of its N calls, on lent memory.
-#[unsafe(no_mangle)]
-pub extern "C" fn kapokdrill_list(
+pub fn kapokdrill_list(
     file: &[u8],
     list: &[u32],
     operands: &[u32],

@@ -36,8 +36,7 @@ pub fn pins_of<'a>(
 }
 
 // The stretch of the pin table that `pins_of` returns.
-#[unsafe(no_mangle)]
-pub extern "C" fn kapokdrill_pins(
+pub fn kapokdrill_pins(
     loadedpins: &[u16],
     presentpins: &[u16],
     firsts: &[u16],

@@ -18,8 +18,7 @@ pub struct Ran {
 
 // A sale file and lent memory: the lots, 1,024 records; the output, 60,000 bytes; marks as loaded and as they stand, 8,192 each; the buyers'
 // first places, loaded marks and present marks, 1,024 each; counts, gains and index, 16,384 each; visited, 1,024.
-#[unsafe(no_mangle)]
-pub extern "C" fn kapokdrill_run(
+pub fn kapokdrill_run(
     file: &[u8],
     lots: &mut [Lot],
     output: &mut [u8],
@@ -59,8 +58,7 @@ pub extern "C" fn kapokdrill_run(
 }
 
 // The superfine desk's entry, whose lots may be 256 records and whose gains and index 4,096 entries: 257 lots or 9 sessions are out of range (3).
-#[unsafe(no_mangle)]
-pub extern "C" fn kapokdrill_run_fine(
+pub fn kapokdrill_run_fine(
     file: &[u8],
     lots: &mut [Lot],
     output: &mut [u8],

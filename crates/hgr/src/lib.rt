@@ -412,8 +412,7 @@ fn refuse(output: &mut [u8], code: u32) -> Converted
 }
 
 // The converter: 8 is tested first, then the input's length, its form, and what can be carried over.
-#[unsafe(no_mangle)]
-pub extern "C" fn kapokdrill_convert(input: &[u8], output: &mut [u8]) -> Converted
+pub fn kapokdrill_convert(input: &[u8], output: &mut [u8]) -> Converted
     ensures { Converts input.now output.old output.new result.code result.written }
 {
     if output.len() < 60000 {

@@ -121,8 +121,7 @@ fn print_sheets(file: &[u8], output: &mut [u8]) -> SheetsRan
 }
 
 // A sale file and a lent output of 122,880 bytes, enough for every sale; a shorter one is 8, tested first.
-#[unsafe(no_mangle)]
-pub extern "C" fn kapokdrill_sheets(file: &[u8], output: &mut [u8]) -> SheetsRan
+pub fn kapokdrill_sheets(file: &[u8], output: &mut [u8]) -> SheetsRan
     ensures { SheetsServe main_limits file.now output.old output.new result.code result.written }
 {
     if output.len() < 122880 {

@@ -23,8 +23,5 @@ bounds-visited-c c = omega (arith, c.requires.known, c.requires.whole.visited-lo
 pub put_closing-requires : goal.put_closing-requires
 put_closing-requires c = c.requires.fits
 
-pub shape_of-output : goal.shape_of-output
-shape_of-output c = c.put_closing.auto.0
-
 pub returns : goal.returns
 returns c = c.put_closing.ensures

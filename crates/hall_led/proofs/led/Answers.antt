@@ -39,53 +39,5 @@ offset_bounds-all-c c = omega (arith, (in-range c.requires.led_ready).0)
 pub bounds-all-c : goal.bounds-all-c
 bounds-all-c c = omega (arith, (in-range c.requires.led_ready).0, c.requires.led_ready.cs-len)
 
-pub shape_of-output : goal.shape_of-output
-shape_of-output c = c.step_on-after.auto.0 ∙ c.put_lead-here.auto.0
-
-pub shape_of-counts : goal.shape_of-counts
-shape_of-counts c = c.step_on-after.auto.1.0
-
-pub shape_of-visited : goal.shape_of-visited
-shape_of-visited c = c.step_on-after.auto.1.1.0
-
-pub shape_of-gains : goal.shape_of-gains
-shape_of-gains c = c.step_on-after.auto.1.1.1.0
-
-pub shape_of-index : goal.shape_of-index
-shape_of-index c = c.step_on-after.auto.1.1.1.1.0
-
-pub shape_of-presentpins : goal.shape_of-presentpins
-shape_of-presentpins c = c.step_on-after.auto.1.1.1.1.1.0
-
-pub shape_of-presentsizes : goal.shape_of-presentsizes
-shape_of-presentsizes c = c.step_on-after.auto.1.1.1.1.1.1.0
-
-pub shape_of-bits : goal.shape_of-bits
-shape_of-bits c = c.step_on-after.auto.1.1.1.1.1.1.1.0
-
-pub shape_of-blocks : goal.shape_of-blocks
-shape_of-blocks c = c.step_on-after.auto.1.1.1.1.1.1.1.1.0
-
-pub shape_of-weights : goal.shape_of-weights
-shape_of-weights c = c.step_on-after.auto.1.1.1.1.1.1.1.1.1.0
-
-pub shape_of-aboves : goal.shape_of-aboves
-shape_of-aboves c = c.step_on-after.auto.1.1.1.1.1.1.1.1.1.1.0
-
-pub shape_of-fixed : goal.shape_of-fixed
-shape_of-fixed c = c.step_on-after.auto.1.1.1.1.1.1.1.1.1.1.1.0
-
-pub shape_of-loads : goal.shape_of-loads
-shape_of-loads c = c.step_on-after.auto.1.1.1.1.1.1.1.1.1.1.1.1.0
-
-pub shape_of-loadedpins : goal.shape_of-loadedpins
-shape_of-loadedpins c = c.step_on-after.auto.1.1.1.1.1.1.1.1.1.1.1.1.1.0
-
-pub shape_of-firsts : goal.shape_of-firsts
-shape_of-firsts c = c.step_on-after.auto.1.1.1.1.1.1.1.1.1.1.1.1.1.1.0
-
-pub shape_of-loadedsizes : goal.shape_of-loadedsizes
-shape_of-loadedsizes c = c.step_on-after.auto.1.1.1.1.1.1.1.1.1.1.1.1.1.1.1.0
-
 pub returns : goal.returns
 returns c = done c.requires.led_ready c.rooms-room.ensures c.ceilings-most.ensures c.lots_left-lots.ensures c.marks_left-marks.ensures _ _ c.put_lead-here.ensures refl refl refl c.step_on-after.ensures

@@ -13,8 +13,5 @@ bounds-out-p c = omega (arith, c.requires, length-append (digits c.args.desk) (4
 pub overflow_add-result : goal.overflow_add-result
 overflow_add-result c = omega (arith, c.requires, length-append (digits c.args.desk) (44 ∷ []), c.put_number-p.ensures.0, c.put_number-p.auto.0)
 
-pub shape_of-out : goal.shape_of-out
-shape_of-out c = simp length-set c.put_number-p.auto.0
-
 pub returns : goal.returns
 returns c = wrote-snoc 44 (omega (arith, c.requires, length-append (digits c.args.desk) (44 ∷ []))) (record { ends = c.put_number-p.ensures.0; is = c.put_number-p.ensures.1 })

@@ -3,10 +3,8 @@ use Rattle.std.proofs.Math.ListN.{get_or-map}
 use Rattle.std.proofs.lemmas.List.{length-map, length-replicate}
 use Rattle.records.specs.declared.Lot.{Lot}
 use Rattle.records.specs.Fields.{blank, bales_of, sessions_of, aboves_of, kept_of}
+use Rattle.records.proofs.gather.Invariants.{Made}
 use Rattle.records.proofs.gather.Goals as goal
-
-abbrev Made : List ℕ → List ℕ → List ℕ → List ℕ → List Lot → ℕ → Type 0
-Made weights blocks aboves fixed lots k = get_or lots k blank ≡ record { bales = get_or weights k 0; session = get_or blocks k 0; above = get_or aboves k 0; kept = get_or fixed k 0 }
 
 -- once all records are made, each field of theirs is its table
 tables : (weights blocks aboves fixed : List ℕ) (lots : List Lot) → length weights ≡ 1024 → length blocks ≡ 1024 → length aboves ≡ 1024 → length fixed ≡ 1024 → length lots ≡ 1024
@@ -24,21 +22,21 @@ tables weights blocks aboves fixed lots w b a x l made = (
         (λ k h. ap (get_or (map f lots) k) (sym z) ∙ get_or-map f lots k blank ∙ same k (omega (arith, h, length-map lots f, l)))
 
 pub loop-i-init : goal.loop-i-init
-loop-i-init c = (omega arith, length-replicate 1024 blank, below_none (Made c.args.t1 c.args.t2 c.args.t3 c.args.t4 (replicate 1024 blank)))
+loop-i-init c = (omega arith, length-replicate 1024 blank, below_none (Made c.args.weights c.args.blocks c.args.aboves c.args.fixed (replicate 1024 blank)))
 
 pub loop-i-preserved : goal.loop-i-preserved
 loop-i-preserved c =
     let lots = c.loop-i.lots in
     let i = c.loop-i.i in
-    let lot : Lot = record { bales = get_or c.args.t1 i 0; session = get_or c.args.t2 i 0; above = get_or c.args.t3 i 0; kept = get_or c.args.t4 i 0 } in (
+    let lot : Lot = record { bales = get_or c.args.weights i 0; session = get_or c.args.blocks i 0; above = get_or c.args.aboves i 0; kept = get_or c.args.fixed i 0 } in (
       omega (arith, c.loop-i-test.true),
       length-set lots i lot ∙ c.loop-i.invariant.1,
-      below_more (Made c.args.t1 c.args.t2 c.args.t3 c.args.t4 (set lots i lot)) i
+      below_more (Made c.args.weights c.args.blocks c.args.aboves c.args.fixed (set lots i lot)) i
           (λ k h. get_or-set_other lots i k lot blank (ne_of_lt h) ∙ c.loop-i.invariant.2 k h)
           (get_or-set_same lots i lot blank (omega (arith, c.loop-i-test.true, c.loop-i.invariant.1))),
     )
 
 pub returns : goal.returns
 returns c =
-    tables c.args.t1 c.args.t2 c.args.t3 c.args.t4 c.loop-i.lots c.well-formed.0.1.0.1 c.well-formed.1.0.1.0.1 c.well-formed.1.1.0.1.0.1 c.well-formed.1.1.1.0.1.0.1 c.loop-i.invariant.1
+    tables c.args.weights c.args.blocks c.args.aboves c.args.fixed c.loop-i.lots (omega (arith, c.well_formed)) (omega (arith, c.well_formed)) (omega (arith, c.well_formed)) (omega (arith, c.well_formed)) c.loop-i.invariant.1
     (λ k h. c.loop-i.invariant.2 k (omega (arith, h, c.loop-i-test.false)))

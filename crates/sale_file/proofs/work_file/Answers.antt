@@ -33,80 +33,11 @@ report_sale-end-requires c =
       spacious = long.spacious;
     }
 
-pub shape_of-weights-in-Refused : goal.shape_of-weights-in-Refused
-shape_of-weights-in-Refused c = c.load.auto.1.1.0
-
-pub shape_of-blocks-in-Refused : goal.shape_of-blocks-in-Refused
-shape_of-blocks-in-Refused c = c.load.auto.1.1.1.0
-
-pub shape_of-aboves-in-Refused : goal.shape_of-aboves-in-Refused
-shape_of-aboves-in-Refused c = c.load.auto.1.1.1.1.0
-
-pub shape_of-fixed-in-Refused : goal.shape_of-fixed-in-Refused
-shape_of-fixed-in-Refused c = c.load.auto.1.1.1.1.1.0
-
-pub shape_of-loadedpins-in-Refused : goal.shape_of-loadedpins-in-Refused
-shape_of-loadedpins-in-Refused c = c.load.auto.1.1.1.1.1.1.0
-
-pub shape_of-presentpins-in-Refused : goal.shape_of-presentpins-in-Refused
-shape_of-presentpins-in-Refused c = c.load.auto.1.1.1.1.1.1.1.0
-
-pub shape_of-firsts-in-Refused : goal.shape_of-firsts-in-Refused
-shape_of-firsts-in-Refused c = c.load.auto.1.1.1.1.1.1.1.1.0
-
-pub shape_of-loadedsizes-in-Refused : goal.shape_of-loadedsizes-in-Refused
-shape_of-loadedsizes-in-Refused c = c.load.auto.1.1.1.1.1.1.1.1.1.0
-
-pub shape_of-presentsizes-in-Refused : goal.shape_of-presentsizes-in-Refused
-shape_of-presentsizes-in-Refused c = c.load.auto.1.1.1.1.1.1.1.1.1.1.0
-
 pub returns-in-Refused : goal.returns-in-Refused
 returns-in-Refused c =
     let long = c.requires in
     let refused = c.q-1.given.1 in
     (turned_down long c.load.ensures refused refl c.refuse-end.ensures, no-lots long c.load.ensures refused)
-
-pub shape_of-output-in-Accepted : goal.shape_of-output-in-Accepted
-shape_of-output-in-Accepted c = c.report_sale-end.auto.0
-
-pub shape_of-weights-in-Accepted : goal.shape_of-weights-in-Accepted
-shape_of-weights-in-Accepted c = c.report_sale-end.auto.1.0 ∙ c.load.auto.1.1.0
-
-pub shape_of-blocks-in-Accepted : goal.shape_of-blocks-in-Accepted
-shape_of-blocks-in-Accepted c = c.report_sale-end.auto.1.1.0 ∙ c.load.auto.1.1.1.0
-
-pub shape_of-aboves-in-Accepted : goal.shape_of-aboves-in-Accepted
-shape_of-aboves-in-Accepted c = c.report_sale-end.auto.1.1.1.0 ∙ c.load.auto.1.1.1.1.0
-
-pub shape_of-fixed-in-Accepted : goal.shape_of-fixed-in-Accepted
-shape_of-fixed-in-Accepted c = c.report_sale-end.auto.1.1.1.1.0 ∙ c.load.auto.1.1.1.1.1.0
-
-pub shape_of-loadedpins-in-Accepted : goal.shape_of-loadedpins-in-Accepted
-shape_of-loadedpins-in-Accepted c = c.report_sale-end.auto.1.1.1.1.1.0 ∙ c.load.auto.1.1.1.1.1.1.0
-
-pub shape_of-presentpins-in-Accepted : goal.shape_of-presentpins-in-Accepted
-shape_of-presentpins-in-Accepted c = c.report_sale-end.auto.1.1.1.1.1.1.0 ∙ c.load.auto.1.1.1.1.1.1.1.0
-
-pub shape_of-firsts-in-Accepted : goal.shape_of-firsts-in-Accepted
-shape_of-firsts-in-Accepted c = c.report_sale-end.auto.1.1.1.1.1.1.1.0 ∙ c.load.auto.1.1.1.1.1.1.1.1.0
-
-pub shape_of-loadedsizes-in-Accepted : goal.shape_of-loadedsizes-in-Accepted
-shape_of-loadedsizes-in-Accepted c = c.report_sale-end.auto.1.1.1.1.1.1.1.1.0 ∙ c.load.auto.1.1.1.1.1.1.1.1.1.0
-
-pub shape_of-presentsizes-in-Accepted : goal.shape_of-presentsizes-in-Accepted
-shape_of-presentsizes-in-Accepted c = c.report_sale-end.auto.1.1.1.1.1.1.1.1.1.0 ∙ c.load.auto.1.1.1.1.1.1.1.1.1.1.0
-
-pub shape_of-counts : goal.shape_of-counts
-shape_of-counts c = c.report_sale-end.auto.1.1.1.1.1.1.1.1.1.1.0
-
-pub shape_of-gains : goal.shape_of-gains
-shape_of-gains c = c.report_sale-end.auto.1.1.1.1.1.1.1.1.1.1.1.0
-
-pub shape_of-index : goal.shape_of-index
-shape_of-index c = c.report_sale-end.auto.1.1.1.1.1.1.1.1.1.1.1.1.0
-
-pub shape_of-visited : goal.shape_of-visited
-shape_of-visited c = c.report_sale-end.auto.1.1.1.1.1.1.1.1.1.1.1.1.1.0
 
 pub returns-in-Accepted : goal.returns-in-Accepted
 returns-in-Accepted c =

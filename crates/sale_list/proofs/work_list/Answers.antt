@@ -45,79 +45,10 @@ long-journal-requires c =
     let sold = c.sell-s.ensures _ _ _ (catalogued long c.load.ensures c.z-1.given.1) (list-listed _ _ c.requires.1) long.spacious in
     (sold.journal-whole.xs-whole, sold.journal-whole.ys-whole, sold.journal-whole.short)
 
-pub shape_of-weights-in-Refused : goal.shape_of-weights-in-Refused
-shape_of-weights-in-Refused c = c.load.auto.1.1.0
-
-pub shape_of-blocks-in-Refused : goal.shape_of-blocks-in-Refused
-shape_of-blocks-in-Refused c = c.load.auto.1.1.1.0
-
-pub shape_of-aboves-in-Refused : goal.shape_of-aboves-in-Refused
-shape_of-aboves-in-Refused c = c.load.auto.1.1.1.1.0
-
-pub shape_of-fixed-in-Refused : goal.shape_of-fixed-in-Refused
-shape_of-fixed-in-Refused c = c.load.auto.1.1.1.1.1.0
-
-pub shape_of-loadedpins-in-Refused : goal.shape_of-loadedpins-in-Refused
-shape_of-loadedpins-in-Refused c = c.load.auto.1.1.1.1.1.1.0
-
-pub shape_of-presentpins-in-Refused : goal.shape_of-presentpins-in-Refused
-shape_of-presentpins-in-Refused c = c.load.auto.1.1.1.1.1.1.1.0
-
-pub shape_of-firsts-in-Refused : goal.shape_of-firsts-in-Refused
-shape_of-firsts-in-Refused c = c.load.auto.1.1.1.1.1.1.1.1.0
-
-pub shape_of-loadedsizes-in-Refused : goal.shape_of-loadedsizes-in-Refused
-shape_of-loadedsizes-in-Refused c = c.load.auto.1.1.1.1.1.1.1.1.1.0
-
-pub shape_of-presentsizes-in-Refused : goal.shape_of-presentsizes-in-Refused
-shape_of-presentsizes-in-Refused c = c.load.auto.1.1.1.1.1.1.1.1.1.1.0
-
 pub returns-in-Refused : goal.returns-in-Refused
 returns-in-Refused c =
     list-down c.args.list.now c.args.operands.now _ _ _ _ _ c.load.ensures c.q-1.given.1 _
     (idle c.new-none.ensures.2 c.new-none.ensures.3 c.new-none.ensures.4 c.new-unmoved.ensures.2 c.new-unmoved.ensures.3 c.new-unmoved.ensures.4 refl) refl c.refuse-end.ensures
-
-pub shape_of-output-in-Accepted : goal.shape_of-output-in-Accepted
-shape_of-output-in-Accepted c = c.sell-s.auto.0
-
-pub shape_of-weights-in-Accepted : goal.shape_of-weights-in-Accepted
-shape_of-weights-in-Accepted c = c.sell-s.auto.1.0 ∙ c.load.auto.1.1.0
-
-pub shape_of-blocks-in-Accepted : goal.shape_of-blocks-in-Accepted
-shape_of-blocks-in-Accepted c = c.sell-s.auto.1.1.0 ∙ c.load.auto.1.1.1.0
-
-pub shape_of-aboves-in-Accepted : goal.shape_of-aboves-in-Accepted
-shape_of-aboves-in-Accepted c = c.sell-s.auto.1.1.1.0 ∙ c.load.auto.1.1.1.1.0
-
-pub shape_of-fixed-in-Accepted : goal.shape_of-fixed-in-Accepted
-shape_of-fixed-in-Accepted c = c.sell-s.auto.1.1.1.1.0 ∙ c.load.auto.1.1.1.1.1.0
-
-pub shape_of-loadedpins-in-Accepted : goal.shape_of-loadedpins-in-Accepted
-shape_of-loadedpins-in-Accepted c = c.sell-s.auto.1.1.1.1.1.0 ∙ c.load.auto.1.1.1.1.1.1.0
-
-pub shape_of-presentpins-in-Accepted : goal.shape_of-presentpins-in-Accepted
-shape_of-presentpins-in-Accepted c = c.sell-s.auto.1.1.1.1.1.1.0 ∙ c.load.auto.1.1.1.1.1.1.1.0
-
-pub shape_of-firsts-in-Accepted : goal.shape_of-firsts-in-Accepted
-shape_of-firsts-in-Accepted c = c.sell-s.auto.1.1.1.1.1.1.1.0 ∙ c.load.auto.1.1.1.1.1.1.1.1.0
-
-pub shape_of-loadedsizes-in-Accepted : goal.shape_of-loadedsizes-in-Accepted
-shape_of-loadedsizes-in-Accepted c = c.sell-s.auto.1.1.1.1.1.1.1.1.0 ∙ c.load.auto.1.1.1.1.1.1.1.1.1.0
-
-pub shape_of-presentsizes-in-Accepted : goal.shape_of-presentsizes-in-Accepted
-shape_of-presentsizes-in-Accepted c = c.sell-s.auto.1.1.1.1.1.1.1.1.1.0 ∙ c.load.auto.1.1.1.1.1.1.1.1.1.1.0
-
-pub shape_of-counts : goal.shape_of-counts
-shape_of-counts c = c.sell-s.auto.1.1.1.1.1.1.1.1.1.1.0
-
-pub shape_of-gains : goal.shape_of-gains
-shape_of-gains c = c.sell-s.auto.1.1.1.1.1.1.1.1.1.1.1.0
-
-pub shape_of-index : goal.shape_of-index
-shape_of-index c = c.sell-s.auto.1.1.1.1.1.1.1.1.1.1.1.1.0
-
-pub shape_of-visited : goal.shape_of-visited
-shape_of-visited c = c.sell-s.auto.1.1.1.1.1.1.1.1.1.1.1.1.1.0
 
 pub returns-in-Accepted : goal.returns-in-Accepted
 returns-in-Accepted c =

@@ -4,7 +4,7 @@ use Rattle.beside.specs.Called.{back_none, back_some}
 use Rattle.beside.proofs.limits.back_over.Goals as goal
 
 pub returns-then-at-eq0 : goal.returns-then-at-eq0
-returns-then-at-eq0 c = back_none c.args.loads.now c.args.weights.now c.args.rooms.now (two c.args.t4.vertices c.args.t4.blocks c.args.t4.len) c.if-at-eq0.true
+returns-then-at-eq0 c = back_none c.args.loads.now c.args.weights.now c.args.rooms.now (two c.args.journal.vertices c.args.journal.blocks c.args.journal.len) c.if-at-eq0.true
 
 pub overflow_sub-b : goal.overflow_sub-b
 overflow_sub-b c = omega (arith, c.index-b.ensures, c.requires.block_in (omega (arith, c.if-at-eq0.false)))
@@ -19,4 +19,4 @@ pub fits-requires : goal.fits-requires
 fits-requires c = omega (arith, c.index-v.ensures, c.index-b.ensures, c.requires.vertex-in (omega (arith, c.if-at-eq0.false)), c.requires.block_in (omega (arith, c.if-at-eq0.false)), c.requires.loads-len)
 
 pub returns : goal.returns
-returns c = back_some c.args.loads.now c.args.weights.now c.args.rooms.now (two c.args.t4.vertices c.args.t4.blocks c.args.t4.len) c.if-at-eq0.false c.index-v.result c.index-b.result c.index-v.ensures c.index-b.ensures c.fits2.ensures
+returns c = back_some c.args.loads.now c.args.weights.now c.args.rooms.now (two c.args.journal.vertices c.args.journal.blocks c.args.journal.len) c.if-at-eq0.false c.index-v.result c.index-b.result c.index-v.ensures c.index-b.ensures c.fits.ensures

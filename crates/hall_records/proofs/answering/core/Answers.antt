@@ -15,7 +15,7 @@ returns c =
     let told = c.serve_hall-served.ensures in
     let ran = c.serve_hall-served.result in
     let last = c.serve_hall-served.new in
-    long-answers a.file.now a.output.now last.1.0 a.room last.1.1.0 last.1.1.1.0 last.1.1.1.1.0 last.1.1.1.1.1.0
+    long-answers a.file.now a.output.now last.output a.room last.weights last.blocks last.aboves last.fixed
     (hall_others a.loadedpins.now a.presentpins.now a.firsts.now a.loadedsizes.now a.presentsizes.now a.counts.now a.gains.now a.index.now a.visited.now)
-    (hall_others last.1.1.1.1.1.1.0 last.1.1.1.1.1.1.1.0 last.1.1.1.1.1.1.1.1.0 last.1.1.1.1.1.1.1.1.1.0 last.1.1.1.1.1.1.1.1.1.1.0 last.1.1.1.1.1.1.1.1.1.1.1.0 last.1.1.1.1.1.1.1.1.1.1.1.1.0 last.1.1.1.1.1.1.1.1.1.1.1.1.1.0 last.1.1.1.1.1.1.1.1.1.1.1.1.1.1.0)
+    (hall_others last.loadedpins last.presentpins last.firsts last.loadedsizes last.presentsizes last.counts last.gains last.index last.visited)
     ran.lots ran.code ran.written c.gather.result c.if-room-lt4096.false c.gather.ensures told.lots-are told.serves

@@ -26,7 +26,7 @@ returns c =
     record {
       fits = omega (arith, few, room);
       small = omega (arith, few, c.requires.lots-few);
-      serves = λ lots e. file-serves (limits_of a.limits) c.requires.few c.requires.sessions-few a.file.now _ _ _ _ (serves-records (limits_of a.limits) a.file.now a.output.now last.1.1.0 zeros zeros zeros zeros last.1.1.1.0 last.1.1.1.1.0 last.1.1.1.1.1.0 last.1.1.1.1.1.1.0
-          (others a.loadedpins.now a.presentpins.now a.firsts.now a.loadedsizes.now a.presentsizes.now a.counts.now a.gains.now a.index.now a.visited.now) (others last.1.1.1.1.1.1.1.0 last.1.1.1.1.1.1.1.1.0 last.1.1.1.1.1.1.1.1.1.0 last.1.1.1.1.1.1.1.1.1.1.0 last.1.1.1.1.1.1.1.1.1.1.1.0 last.1.1.1.1.1.1.1.1.1.1.1.1.0 last.1.1.1.1.1.1.1.1.1.1.1.1.1.0 last.1.1.1.1.1.1.1.1.1.1.1.1.1.1.0 last.1.1.1.1.1.1.1.1.1.1.1.1.1.1.1.0) c.gather-lots.result lots c.serve-served.result.lots _ _
+      serves = λ lots e. file-serves (limits_of a.limits) c.requires.few c.requires.sessions-few a.file.now _ _ _ _ (serves-records (limits_of a.limits) a.file.now a.output.now last.output zeros zeros zeros zeros last.weights last.blocks last.aboves last.fixed
+          (others a.loadedpins.now a.presentpins.now a.firsts.now a.loadedsizes.now a.presentsizes.now a.counts.now a.gains.now a.index.now a.visited.now) (others last.loadedpins last.presentpins last.firsts last.loadedsizes last.presentsizes last.counts last.gains last.index last.visited) c.gather-lots.result lots c.serve-served.result.lots _ _
           long long long long (omega (arith, e, room)) few c.gather-lots.ensures told.lots-are told.serves);
     }
