@@ -1,7 +1,6 @@
 /* The proved splitter as C functions: a sale file, or a hall of several, in, its report and its tables out.
- * Link target/staticlib/libengine.a, which `rt staticlib engine` writes; for kapokdrill_convert
- * target/staticlib/libhgr.a, which `rt staticlib hgr` writes; and for kapokdrill_sheets
- * target/staticlib/libsheets.a, which `rt staticlib sheets` writes.
+ * Link target/staticlib/libengine.a; for kapokdrill_convert target/staticlib/libhgr.a; and for
+ * kapokdrill_sheets target/staticlib/libsheets.a. `bash tools/archives` writes all three.
  *
  * The functions keep nothing between calls, so calls on different memory may run at the same time.
  * Beside what they are lent they need 0.6 MB of stack for a sale, 1 MB for a hall, 1.7 MB for
@@ -233,9 +232,8 @@ typedef struct {
 /* Reads a sale file, runs its calls and writes the buyers' sheets: for each buyer a line
  * `SHEET,buyer,visited`, then `AT,session,lot` for each lot marked that is in the sale, by session and
  * then lot number. A joined lot has its own number and the session of the lot that stands for it. The
- * calls' answers are not written. A file that begins with `HALL` is a hall's: its catalogues' sheets
- * follow each other, and each line is led by the catalogue's number and a comma. Output past what is
- * written keeps what it held; under 8 nothing is touched. No tables are lent: the function has its own. */
+ * calls' answers are not written. Output past what is written keeps what it held; under 8 nothing is
+ * touched. No tables are lent: the function has its own. */
 kapokdrill_sheets_result kapokdrill_sheets(
     const uint8_t *file, size_t file_length,
     uint8_t *output, size_t output_length);

@@ -1,6 +1,6 @@
 use std::path::Path;
 
-// Links the archives that `rt staticlib` of `engine`, `hgr` and `sheets` wrote to target/staticlib.
+// Links the archives that `tools/archives` wrote to target/staticlib.
 fn main() {
     let folder = Path::new(env!("CARGO_MANIFEST_DIR")).join("../../target/staticlib");
     println!("cargo:rustc-link-search=native={}", folder.display());
@@ -8,7 +8,7 @@ fn main() {
         let archive = folder.join(format!("lib{library}.a"));
         assert!(
             archive.is_file(),
-            "{} is missing: run `rt staticlib {library}`",
+            "{} is missing: run `bash tools/archives`",
             archive.display()
         );
         println!("cargo:rerun-if-changed={}", archive.display());
