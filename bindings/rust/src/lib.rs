@@ -248,10 +248,8 @@ pub fn convert(input: &[u8]) -> (u32, Vec<u8>) {
 }
 
 /// The buyers' sheets of a sale file after its calls: for each buyer `SHEET,buyer,visited`, then
-/// `AT,session,lot` for each lot marked, by session and then lot number. A file that begins with `HALL` is
-/// a hall's: its catalogues' sheets follow each other, each line led by the catalogue's number and a
-/// comma. The code is 0, or the number under which the file was turned down, with the line
-/// `NO,number,line`.
+/// `AT,session,lot` for each lot marked, by session and then lot number. The code is 0, or the number
+/// under which the file was turned down, with the line `NO,number,line`.
 pub fn sheets(file: &[u8]) -> (u32, Vec<u8>) {
     let mut output = vec![0; SHEETS_OUTPUT];
     let outcome = lent::sheets(file, &mut output);

@@ -122,11 +122,10 @@ fn the_status_is_the_code_of_every_hall_on_file() {
 }
 
 #[test]
-fn sheets_and_their_status_of_every_sale_and_hall_on_file() {
+fn sheets_and_their_status_of_every_sale_on_file() {
     let mut codes = BTreeSet::new();
-    let files = [on_file("sales", "sale"), on_file("sales", "hall")].concat();
-    for path in files {
-        let file = std::fs::read(&path).expect("a file");
+    for path in on_file("sales", "sale") {
+        let file = std::fs::read(&path).expect("a sale file");
         let (code, text) = sheets(&file);
         let end = on("sheets", &[&path]);
         assert_eq!(end.status.code(), Some(code as i32), "{}", path.display());
@@ -134,7 +133,7 @@ fn sheets_and_their_status_of_every_sale_and_hall_on_file() {
         assert_eq!(end.stderr.is_empty(), code == 0);
         codes.insert(code);
     }
-    assert_eq!(codes, BTreeSet::from([0, 1, 2, 3, 4, 5, 6, 7, 21, 24]));
+    assert_eq!(codes, BTreeSet::from([0, 1, 2, 3, 4, 5, 6, 7, 21]));
 }
 
 #[test]
@@ -158,7 +157,7 @@ fn refusals_are_told_in_words_with_their_line() {
     let catalogue = |lines: &[u8]| [&header[..], lines].concat();
     let calls = [&b"BUY,1,1\nBUY,1,2\n"[..], &b"P\n".repeat(513)].concat();
     let drafts = b"HALL,2,9\nSALE,1,0,2,1000\nLOT,5,1\nSALE,1,0,2,1000\nLOT,5,1\n";
-    let cases: [(&str, Vec<u8>, i32, &str); 16] = [
+    let cases: [(&str, Vec<u8>, i32, &str); 15] = [
         ("run", vec![b'1'; 60_001], 1, "over 60,000 bytes (1)\n"),
         ("run", vec![], 2, "line 1: badly written (2)\n"),
         (
@@ -199,12 +198,6 @@ fn refusals_are_told_in_words_with_their_line() {
         ),
         (
             "hall",
-            drafts.to_vec(),
-            24,
-            "line 5: drafts above the hall's limit together (24)\n",
-        ),
-        (
-            "sheets",
             drafts.to_vec(),
             24,
             "line 5: drafts above the hall's limit together (24)\n",
@@ -320,10 +313,6 @@ fn a_folder_stands_for_its_files_and_progress_is_shown_where_asked() {
     let reports = parts(&on("hall", &[&sales])).1;
     let names = reports.lines().filter(|line| line.ends_with(".hall"));
     assert_eq!(names.count(), halls.len());
-    let reports = parts(&on("sheets", &[&sales])).1;
-    let named = |line: &&str| line.ends_with(".sale") || line.ends_with(".hall");
-    let names = reports.lines().filter(named);
-    assert_eq!(names.count(), files.len() + halls.len());
 
     let inputs = on_file("hgr", "hgr");
     let end = program()
@@ -368,11 +357,6 @@ fn failed_reads_are_told_and_the_other_files_run() {
     assert_eq!((status, &*reports), (74, "NO,4,4\n"));
     assert!(told.contains("no file that ends in .sale"), "{told}");
     assert_eq!(parts(&on("run", &[&bad, &empty])).0, 4);
-    let told = parts(&on("sheets", &[&empty])).2;
-    assert!(
-        told.contains("no file that ends in .sale or .hall"),
-        "{told}"
-    );
 }
 
 #[test]

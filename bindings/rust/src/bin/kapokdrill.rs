@@ -14,12 +14,11 @@ const HELP: &str = "usage: kapokdrill run|fine|hall|sheets|convert [--progress] 
   run      runs each sale file and writes its report
   fine     the same through the superfine desk's entry, for 256 lots and 8 sessions
   hall     runs each hall file, of two to four catalogues under one limit, and writes its report
-  sheets   runs each sale or hall file and writes its buyers' sheets
+  sheets   runs each sale file and writes its buyers' sheets
   convert  writes an hMETIS file with its partition listing as a sale file without calls
 
 Without FILE, or where it is -, standard input is read. A folder stands for the files in it that end in
-.sale, for hall in .hall, for sheets in either, for convert in .hgr, in the order of their names. Reports
-go to standard output; where there is more than one file, a line with its name comes before each. A
+.sale, for hall in .hall, for convert in .hgr, in the order of their names. Reports go to standard output; where there is more than one file, a line with its name comes before each. A
 refusal is told on standard error too, in words and with its line. For several files or a folder the
 progress is shown there where it is a terminal, and anywhere with --progress. Words behind -- are names
 of files.
@@ -27,7 +26,7 @@ of files.
 Exit status: that of the first file for which it is not 0, where a file's is
   0           accepted; a refused call is an answer in the report
   1 to 8, 21  refused by run, fine, hall or sheets, with this number
-  24          drafts above the hall's limit together, refused by hall or sheets
+  24          drafts above the hall's limit together, refused by hall
   17 to 19    refused by convert, with this number
   74          it can't be read
 If the output can't be written, the rest is left and the status is 74; called with other words it is 64.";
@@ -92,9 +91,8 @@ fn request(words: Vec<OsString>) -> Result<Option<Request>, String> {
 /// The files of a folder with one of the task's endings, in the order of their names.
 fn files_of(folder: &Path, task: Task) -> io::Result<Vec<PathBuf>> {
     let endings: &[&str] = match task {
-        Task::Run(_) => &["sale"],
+        Task::Run(_) | Task::Sheets => &["sale"],
         Task::Hall => &["hall"],
-        Task::Sheets => &["sale", "hall"],
         Task::Convert => &["hgr"],
     };
     let mut files = Vec::new();
