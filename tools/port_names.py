@@ -44,7 +44,7 @@ def main():
     texts = {path: open(path, encoding="utf-8").read() for path in files(root)}
     for path, names in APART.items():
         path = os.path.join(root, path)
-        for old, new in names.items():
+        for old, new in names.items() if path in texts else ():
             texts[path] = re.sub(rf"(?<![\w'-]){old}(?![\w'-])", new, texts[path])
     before, made = {}, {}
     for path, text in texts.items():
