@@ -1,8 +1,9 @@
-use Rattle.std.proofs.Common.{◌≤◌, ◌-◌, ⊎_elim, arith, rules}
+use Rattle.std.proofs.Common.{◌≤◌, ◌-◌, arith}
 use Rattle.laws.specs.Place.{place}
 use Rattle.connectivity.specs.Row.{row}
 use Rattle.connectivity.specs.Laid.{Laid}
 use Rattle.connectivity.specs.Touch.{at_column, pin-in, column-start, column-done, column-skip, column-small, column-more}
+use Rattle.connectivity.proofs.shift_column.Goals.{then-q-x, else-q-x}
 use Rattle.connectivity.proofs.shift_column.Goals as goal
 
 pub loop-i-init : goal.loop-i-init
@@ -38,10 +39,10 @@ shift_at-requires c =
 pub loop-i-preserved : goal.loop-i-preserved
 loop-i-preserved c =
     let a = c.args in
-    ⊎_elim
-    (λ v. (omega arith, rw v.4 (column-more c.requires.rows a.x a.take a.a c.loop-i-test.true c.index-q.ensures c.loop-i.invariant.1 v.0.taken c.requires.le_a.0 c.requires.le_a.1 v.2.ensures)))
-    (λ v. (omega arith, rw v.1 (column-skip c.requires.rows a.x a.take a.a c.loop-i-test.true c.index-q.ensures c.loop-i.invariant.1 v.0.left)))
-    c.if-q-x.branch
+    elim c.if-q-x.branch [
+      | then-q-x v ↦ (omega arith, rw v.gains-is (column-more c.requires.rows a.x a.take a.a c.loop-i-test.true c.index-q.ensures c.loop-i.invariant.1 v.if-q-x.true c.requires.le_a.0 c.requires.le_a.1 v.shift_at.ensures))
+      | else-q-x v ↦ (omega arith, rw v.gains-is (column-skip c.requires.rows a.x a.take a.a c.loop-i-test.true c.index-q.ensures c.loop-i.invariant.1 v.if-q-x.false))
+    ]
 
 pub shape_of-gains : goal.shape_of-gains
 shape_of-gains c = c.loop-i.invariant.1.len

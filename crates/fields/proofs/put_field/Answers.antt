@@ -4,7 +4,7 @@ use Rattle.fields.proofs.Laws.{wrote-cons}
 use Rattle.fields.proofs.put_field.Goals as goal
 
 pub shape_of-out : goal.shape_of-out
-shape_of-out c = c.put_number.auto.0 ∙ simp length-set
+shape_of-out c = c.put_number.auto.out ∙ simp length-set
 
 pub returns : goal.returns
 returns c = wrote-cons (omega arith) (record { ends = c.put_number.ensures.0; is = c.put_number.ensures.1 })

@@ -11,7 +11,7 @@ put_word-p-requires c =
 
 pub put_tail-requires : goal.put_tail-requires
 put_tail-requires c =
-    omega (arith, length-append c.args.w.now (tail (numbers c.args.xs.now)), c.put_word-p.ensures.ends, c.put_word-p.auto.0)
+    omega (arith, length-append c.args.w.now (tail (numbers c.args.xs.now)), c.put_word-p.ensures.ends, c.put_word-p.auto.out)
 
 pub returns : goal.returns
 returns c =

@@ -13,7 +13,7 @@ put_field-p-requires c =
 pub loop-i-preserved : goal.loop-i-preserved
 loop-i-preserved c = (
   omega arith,
-  c.put_field-p.auto.0 ∙ c.loop-i.invariant.1,
+  c.put_field-p.auto.out ∙ c.loop-i.invariant.1,
   fields-more c.args.xs.now c.loop-i.i (omega arith) (omega arith) c.loop-i.invariant.2 c.put_field-p.ensures,
 )
 

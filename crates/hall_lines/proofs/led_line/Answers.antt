@@ -20,12 +20,11 @@ returns-in-Nothing c =
     let a = c.args in
     let f = c.read_number-f in
     let r = c.call_line in
-    led-bad a.s.now a.at a.end a.used (omega arith) (omega arith) f.result.value f.result.end f.ensures c.if-e-at.false c.if-e-end.false r.result a.operands.now _ r.ensures c.enum_told-1.given.1
+    led-bad a.s.now a.at a.end a.used (omega arith) (omega arith) f.result.value f.result.end f.ensures c.if-e-at.false c.if-e-end.false r.result a.operands.now _ r.ensures c.in-Nothing.is
 
 pub returns-in-Asks : goal.returns-in-Asks
 returns-in-Asks c =
     let a = c.args in
     let f = c.read_number-f in
     let r = c.call_line in
-    let k = c.k-1 in
-    led-call a.s.now a.at a.end a.used (omega arith) (omega arith) f.result.value f.result.end f.ensures c.if-e-at.false c.if-e-end.false r.result a.operands.now _ r.ensures k.given.0.0 k.given.0.1.0 k.given.0.1.1.0 k.given.0.1.1.1.0 k.given.1
+    led-call a.s.now a.at a.end a.used (omega arith) (omega arith) f.result.value f.result.end f.ensures c.if-e-at.false c.if-e-end.false r.result a.operands.now _ r.ensures c.in-Asks.k c.in-Asks.a c.in-Asks.b c.in-Asks.u c.in-Asks.is

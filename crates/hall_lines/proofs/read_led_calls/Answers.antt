@@ -45,7 +45,7 @@ returns-in-NotLed c =
     let l = c.loop-i in
     let e = c.line_end-e in
     let r = c.led_line in
-    led-unread a.count a.s.now a.at a.n a.calls.now a.operands.now l.calls l.operands l.i l.c l.used l.invariant (omega arith) e.result e.ensures (omega arith) (omega arith) r.result _ r.ensures c.enum_told-1.given.1
+    led-unread a.count a.s.now a.at a.n a.calls.now a.operands.now l.calls l.operands l.i l.c l.used l.invariant (omega arith) e.result e.ensures (omega arith) (omega arith) r.result _ r.ensures c.in-NotLed.is
 
 pub shape_of-calls-then-not-between : goal.shape_of-calls-then-not-between
 shape_of-calls-then-not-between c = c.loop-i.invariant.same
@@ -59,8 +59,7 @@ returns-then-not-between c =
     let l = c.loop-i in
     let e = c.line_end-e in
     let r = c.led_line in
-    let k = c.d-1 in
-    led-stranger a.count a.s.now a.at a.n a.calls.now a.operands.now l.calls l.operands l.i l.c l.used l.invariant (omega arith) e.result e.ensures (omega arith) (omega arith) r.result _ r.ensures k.given.0.0 k.given.0.1.0 k.given.0.1.1.0 k.given.0.1.1.1.0 k.given.0.1.1.1.1.0 k.given.1 (sym c.between.ensures ∙ c.if-not-between.true)
+    led-stranger a.count a.s.now a.at a.n a.calls.now a.operands.now l.calls l.operands l.i l.c l.used l.invariant (omega arith) e.result e.ensures (omega arith) (omega arith) r.result _ r.ensures c.in-Leads.d c.in-Leads.k c.in-Leads.a c.in-Leads.b c.in-Leads.u c.in-Leads.is (sym c.between.ensures ∙ c.if-not-between.true)
 
 pub bounds-calls-x-in-Leads : goal.bounds-calls-x-in-Leads
 bounds-calls-x-in-Leads c = simp length-set (omega arith)
@@ -77,8 +76,7 @@ loop-i-preserved c =
     let l = c.loop-i in
     let e = c.line_end-e in
     let r = c.led_line in
-    let k = c.d-1 in
-    led_on a.count a.s.now a.at a.n a.calls.now a.operands.now l.calls l.operands l.i l.c l.used l.invariant (omega arith) e.result e.ensures (omega arith) (omega arith) r.result _ r.ensures k.given.0.0 k.given.0.1.0 k.given.0.1.1.0 k.given.0.1.1.1.0 k.given.0.1.1.1.1.0 k.given.1 (sym c.between.ensures ∙ c.if-not-between.false)
+    led_on a.count a.s.now a.at a.n a.calls.now a.operands.now l.calls l.operands l.i l.c l.used l.invariant (omega arith) e.result e.ensures (omega arith) (omega arith) r.result _ r.ensures c.in-Leads.d c.in-Leads.k c.in-Leads.a c.in-Leads.b c.in-Leads.u c.in-Leads.is (sym c.between.ensures ∙ c.if-not-between.false)
 
 pub shape_of-calls : goal.shape_of-calls
 shape_of-calls c = c.loop-i.invariant.same

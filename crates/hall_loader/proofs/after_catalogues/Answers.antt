@@ -18,19 +18,19 @@ read_led_calls-requires c =
     (p.0.inside, p.1.short, p.0.high, p.1.calls-long, p.1.operands-long)
 
 pub shape_of-calls-in-Stop : goal.shape_of-calls-in-Stop
-shape_of-calls-in-Stop c = c.read_led_calls.auto.1.1.1.1.0
+shape_of-calls-in-Stop c = c.read_led_calls.auto.calls
 
 pub shape_of-operands-in-Stop : goal.shape_of-operands-in-Stop
-shape_of-operands-in-Stop c = c.read_led_calls.auto.1.1.1.1.1.0
+shape_of-operands-in-Stop c = c.read_led_calls.auto.operands
 
 pub returns-in-Stop : goal.returns-in-Stop
-returns-in-Stop c = calls-stop _ _ _ _ _ _ _ _ _ _ (sym c.if-drafts_above.false ∙ c.drafts_above.ensures) _ c.read_led_calls.ensures _ _ c.q-1.given.1
+returns-in-Stop c = calls-stop _ _ _ _ _ _ _ _ _ _ (sym c.if-drafts_above.false ∙ c.drafts_above.ensures) _ c.read_led_calls.ensures _ _ c.in-Stop.is
 
 pub shape_of-calls-in-Up : goal.shape_of-calls-in-Up
-shape_of-calls-in-Up c = c.read_led_calls.auto.1.1.1.1.0
+shape_of-calls-in-Up c = c.read_led_calls.auto.calls
 
 pub shape_of-operands-in-Up : goal.shape_of-operands-in-Up
-shape_of-operands-in-Up c = c.read_led_calls.auto.1.1.1.1.1.0
+shape_of-operands-in-Up c = c.read_led_calls.auto.operands
 
 pub returns-in-Up : goal.returns-in-Up
-returns-in-Up c = calls-up _ _ _ _ _ _ _ _ _ _ (sym c.if-drafts_above.false ∙ c.drafts_above.ensures) _ c.read_led_calls.ensures _ c.n-1.given.1
+returns-in-Up c = calls-up _ _ _ _ _ _ _ _ _ _ (sym c.if-drafts_above.false ∙ c.drafts_above.ensures) _ c.read_led_calls.ensures _ c.in-Up.is

@@ -46,8 +46,7 @@ shape_of-lows-in-Fails c = (one_alike _ _ _ _ _ _ _ _ _ _ c.loop-c.invariant c.l
 
 pub returns-in-Fails : goal.returns-in-Fails
 returns-in-Fails c =
-    let q = c.q-1.given in
-    sets-fail _ _ _ _ _ _ _ _ _ _ c.loop-c.invariant c.loop-c-test.true _ _ c.load_next.ensures q.0.0 q.0.1.0 q.1
+    sets-fail _ _ _ _ _ _ _ _ _ _ c.loop-c.invariant c.loop-c-test.true _ _ c.load_next.ensures c.in-Fails.q c.in-Fails.n c.in-Fails.is
 
 pub offset_bounds-sizes-c : goal.offset_bounds-sizes-c
 offset_bounds-sizes-c c = omega (arith, c.loop-c.invariant.few, c.loop-c-test.true)
@@ -56,36 +55,36 @@ pub bounds-sizes-c : goal.bounds-sizes-c
 bounds-sizes-c c = omega (arith, c.loop-c.invariant.few, c.loop-c-test.true)
 
 pub left-limits-requires : goal.left-limits-requires
-left-limits-requires c = can-subtract _ _ _ _ _ _ _ _ _ _ c.loop-c.invariant c.loop-c-test.true _ _ c.load_next.ensures c.z-1.given.0.0 c.z-1.given.0.1.0 c.z-1.given.1
+left-limits-requires c = can-subtract _ _ _ _ _ _ _ _ _ _ c.loop-c.invariant c.loop-c-test.true _ _ c.load_next.ensures c.in-Fits.z c.in-Fits.e c.in-Fits.is
 
 pub overflow_add-line : goal.overflow_add-line
 overflow_add-line c =
     let on = c.loop-c.invariant in
-    let can = can-subtract _ _ _ _ _ _ _ _ _ _ c.loop-c.invariant c.loop-c-test.true _ _ c.load_next.ensures c.z-1.given.0.0 c.z-1.given.0.1.0 c.z-1.given.1 in
+    let can = can-subtract _ _ _ _ _ _ _ _ _ _ c.loop-c.invariant c.loop-c-test.true _ _ c.load_next.ensures c.in-Fits.z c.in-Fits.e c.in-Fits.is in
     omega (arith, line-few _ _ _ _ _ _ _ _ _ _ on, on.within.lots-few, on.within.few.nets-few, can.lots, can.buyers)
 
 pub overflow_cast-line : goal.overflow_cast-line
 overflow_cast-line c =
     let on = c.loop-c.invariant in
-    let can = can-subtract _ _ _ _ _ _ _ _ _ _ c.loop-c.invariant c.loop-c-test.true _ _ c.load_next.ensures c.z-1.given.0.0 c.z-1.given.0.1.0 c.z-1.given.1 in
+    let can = can-subtract _ _ _ _ _ _ _ _ _ _ c.loop-c.invariant c.loop-c-test.true _ _ c.load_next.ensures c.in-Fits.z c.in-Fits.e c.in-Fits.is in
     omega (arith, line-few _ _ _ _ _ _ _ _ _ _ on, on.within.lots-few, on.within.few.nets-few, can.lots, can.buyers)
 
 pub overflow_add-line-in-Fits : goal.overflow_add-line-in-Fits
 overflow_add-line-in-Fits c =
     let on = c.loop-c.invariant in
-    let can = can-subtract _ _ _ _ _ _ _ _ _ _ c.loop-c.invariant c.loop-c-test.true _ _ c.load_next.ensures c.z-1.given.0.0 c.z-1.given.0.1.0 c.z-1.given.1 in
+    let can = can-subtract _ _ _ _ _ _ _ _ _ _ c.loop-c.invariant c.loop-c-test.true _ _ c.load_next.ensures c.in-Fits.z c.in-Fits.e c.in-Fits.is in
     omega (arith, line-few _ _ _ _ _ _ _ _ _ _ on, on.within.lots-few, on.within.few.nets-few, can.lots, can.buyers)
 
 pub overflow_cast-line-in-Fits : goal.overflow_cast-line-in-Fits
 overflow_cast-line-in-Fits c =
     let on = c.loop-c.invariant in
-    let can = can-subtract _ _ _ _ _ _ _ _ _ _ c.loop-c.invariant c.loop-c-test.true _ _ c.load_next.ensures c.z-1.given.0.0 c.z-1.given.0.1.0 c.z-1.given.1 in
+    let can = can-subtract _ _ _ _ _ _ _ _ _ _ c.loop-c.invariant c.loop-c-test.true _ _ c.load_next.ensures c.in-Fits.z c.in-Fits.e c.in-Fits.is in
     omega (arith, line-few _ _ _ _ _ _ _ _ _ _ on, on.within.lots-few, on.within.few.nets-few, can.lots, can.buyers)
 
 pub overflow_add-line-in-Fits-2 : goal.overflow_add-line-in-Fits-2
 overflow_add-line-in-Fits-2 c =
     let on = c.loop-c.invariant in
-    let can = can-subtract _ _ _ _ _ _ _ _ _ _ c.loop-c.invariant c.loop-c-test.true _ _ c.load_next.ensures c.z-1.given.0.0 c.z-1.given.0.1.0 c.z-1.given.1 in
+    let can = can-subtract _ _ _ _ _ _ _ _ _ _ c.loop-c.invariant c.loop-c-test.true _ _ c.load_next.ensures c.in-Fits.z c.in-Fits.e c.in-Fits.is in
     omega (arith, line-few _ _ _ _ _ _ _ _ _ _ on, on.within.lots-few, on.within.few.nets-few, can.lots, can.buyers)
 
 pub overflow_add-c : goal.overflow_add-c
@@ -96,8 +95,7 @@ loop-c-smaller c = omega (arith, c.loop-c-test.true)
 
 pub loop-c-preserved : goal.loop-c-preserved
 loop-c-preserved c =
-    let z = c.z-1.given in
-    sets-next _ _ _ _ _ _ _ _ _ _ c.loop-c.invariant c.loop-c-test.true _ _ c.load_next.ensures z.0.0 z.0.1.0 z.1 _ c.left-limits.ensures
+    sets-next _ _ _ _ _ _ _ _ _ _ c.loop-c.invariant c.loop-c-test.true _ _ c.load_next.ensures c.in-Fits.z c.in-Fits.e c.in-Fits.is _ c.left-limits.ensures
 
 pub shape_of-weights : goal.shape_of-weights
 shape_of-weights c = c.loop-c.invariant.alike.weights-same

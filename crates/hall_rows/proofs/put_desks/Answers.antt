@@ -46,7 +46,7 @@ overflow_add-c c = omega (arith, c.requires.few)
 pub loop-c-preserved : goal.loop-c-preserved
 loop-c-preserved c = (
   omega arith,
-  c.put_desk-p.auto.0 ∙ c.loop-c.invariant.1,
+  c.put_desk-p.auto.out ∙ c.loop-c.invariant.1,
   λ ds e d f. desks-more ds c.loop-c.c (omega (arith, e)) (omega (arith, f)) (c.loop-c.invariant.2 ds e d f) (c.put_desk-p.ensures (get_or ds c.loop-c.c no_desk) (d c.loop-c.c (omega (arith, e))) (desks-room ds c.loop-c.c (omega (arith, e)) (omega (arith, f)) (c.loop-c.invariant.2 ds e d f))),
 )
 

@@ -38,7 +38,7 @@ returns-in-Good c =
     let f = c.read_weight-f in
     let r = c.read_pins in
     buy-read a.s.now a.at a.end a.vertices a.most a.j a.first a.loadedpins.now a.stamps.now c.requires.5 f.result.value f.result.end f.ensures
-    (omega (arith, f.ensures.high)) (sym c.between.ensures ∙ c.if-not-between.false) r.result r.new.loadedpins r.new.stamps r.ensures c.m-1.given.0.0 c.m-1.given.1
+    (omega (arith, f.ensures.high)) (sym c.between.ensures ∙ c.if-not-between.false) r.result r.new.loadedpins r.new.stamps r.ensures c.in-Good.m c.in-Good.is
 
 pub returns-in-Wrong : goal.returns-in-Wrong
 returns-in-Wrong c =
@@ -46,4 +46,4 @@ returns-in-Wrong c =
     let f = c.read_weight-f in
     let r = c.read_pins in
     buy-wrong a.s.now a.at a.end a.vertices a.most a.j a.first a.loadedpins.now a.stamps.now c.requires.5 f.result.value f.result.end f.ensures
-    (omega (arith, f.ensures.high)) (sym c.between.ensures ∙ c.if-not-between.false) r.result r.new.loadedpins r.new.stamps r.ensures c.q-1.given.0.0 c.q-1.given.1
+    (omega (arith, f.ensures.high)) (sym c.between.ensures ∙ c.if-not-between.false) r.result r.new.loadedpins r.new.stamps r.ensures c.in-Wrong.q c.in-Wrong.is

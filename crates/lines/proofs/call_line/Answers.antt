@@ -11,7 +11,7 @@ returns-then-m-eq0 c =
     let a = c.args in
     let x = fields (slice a.at a.end a.s.now) in
     let r = c.late_line-m in
-    called-none x a.end a.used a.operands.now (omega arith) (subst (ShortRead x) c.enum_told-1.given.1 c.short_line.ensures) r.result _ r.ensures c.if-m-eq0.true
+    called-none x a.end a.used a.operands.now (omega arith) (subst (ShortRead x) c.in-Other.is c.short_line.ensures) r.result _ r.ensures c.if-m-eq0.true
 
 pub overflow_sub-result : goal.overflow_sub-result
 overflow_sub-result c = omega (arith, (c.late_line-m.ensures.good (omega arith)).two)
@@ -23,12 +23,11 @@ pub returns-in-Calls : goal.returns-in-Calls
 returns-in-Calls c =
     let a = c.args in
     let x = fields (slice a.at a.end a.s.now) in
-    let k = c.k-1 in
-    called-short x a.end a.used a.operands.now (omega arith) k.given.0.0 k.given.0.1.0 k.given.0.1.1.0 (subst (ShortRead x) k.given.1 c.short_line.ensures)
+    called-short x a.end a.used a.operands.now (omega arith) c.in-Calls.k c.in-Calls.a c.in-Calls.b (subst (ShortRead x) c.in-Calls.is c.short_line.ensures)
 
 pub returns-else-m-eq0 : goal.returns-else-m-eq0
 returns-else-m-eq0 c =
     let a = c.args in
     let x = fields (slice a.at a.end a.s.now) in
     let r = c.late_line-m in
-    called-late x a.end a.used a.operands.now (omega arith) (subst (ShortRead x) c.enum_told-1.given.1 c.short_line.ensures) r.result _ r.ensures c.if-m-eq0.false
+    called-late x a.end a.used a.operands.now (omega arith) (subst (ShortRead x) c.in-Other.is c.short_line.ensures) r.result _ r.ensures c.if-m-eq0.false

@@ -8,7 +8,7 @@ use Rattle.passes.proofs.Tables.{lots_from, lots-room, lots-more, lots-end}
 use Rattle.passes.proofs.put_lots.Given as goal
 
 abbrev pub invariant-loop-k : goal.invariant-loop-k
-invariant-loop-k l = (length weights ≡ 1024) × (length draft ≡ 1024) × (k ≤ n) × Remains out₀ p (lots_from n weights draft 0) out q (lots_from n weights draft k)
+invariant-loop-k l = (length l.weights ≡ 1024) × (length l.draft ≡ 1024) × (l.k ≤ l.n) × Remains l.initial.out l.p (lots_from l.n l.weights l.draft 0) l.out l.q (lots_from l.n l.weights l.draft l.k)
 
 abbrev pub decreases-loop-k : goal.decreases-loop-k
-decreases-loop-k l = n - k
+decreases-loop-k l = l.n - l.k

@@ -11,14 +11,14 @@ pub after_vertices-requires : goal.after_vertices-requires
 after_vertices-requires c =
     let p = c.requires in
     let kept = c.read_vertices.auto in
-    (omega (arith, p.1, p.4.l_le), record { at-le = c.read_vertices.ensures.inside c.i-1.given.0.0 c.i-1.given.1; range = p.2; long = record { l_le = p.4.l_le; w-len = omega (arith, p.4.w-len, kept.1.1.1.1.1.1.0); d-len = omega (arith, p.4.d-len, kept.1.1.1.1.1.1.1.0); nw-len = p.4.nw-len; lo-len = c.read_vertices.ensures.lo-len; f-len = p.4.f-len; c_len = p.4.c_len; few = p.4.few; wide = p.4.wide }; slen = refl; fresh = fresh_start })
+    (omega (arith, p.1, p.4.l_le), record { at-le = c.read_vertices.ensures.inside c.in-Up.i c.in-Up.is; range = p.2; long = record { l_le = p.4.l_le; w-len = omega (arith, p.4.w-len, kept.weights); d-len = omega (arith, p.4.d-len, kept.draft); nw-len = p.4.nw-len; lo-len = c.read_vertices.ensures.lo-len; f-len = p.4.f-len; c_len = p.4.c_len; few = p.4.few; wide = p.4.wide }; slen = refl; fresh = fresh_start })
 
 pub returns-in-Stop : goal.returns-in-Stop
 returns-in-Stop c =
     let a = c.args in
-    lots-cut a.line a.s.now a.at a.most a.vertices a.nets a.blocks a.imbalance a.estimated a.weights.now a.draft.now a.fixed.now a.firsts.now a.loadedsizes.now a.loadedpins.now _ _ _ _ c.read_vertices.result c.read_vertices.ensures c.q-1.given.0.0 c.q-1.given.0.1.0 c.q-1.given.1 a.netweights.now a.firsts.now a.loadedsizes.now a.loadedpins.now
+    lots-cut a.line a.s.now a.at a.most a.vertices a.nets a.blocks a.imbalance a.estimated a.weights.now a.draft.now a.fixed.now a.firsts.now a.loadedsizes.now a.loadedpins.now _ _ _ _ c.read_vertices.result c.read_vertices.ensures c.in-Stop.q c.in-Stop.n c.in-Stop.is a.netweights.now a.firsts.now a.loadedsizes.now a.loadedpins.now
 
 pub returns-in-Up : goal.returns-in-Up
 returns-in-Up c =
     let a = c.args in
-    lots-go a.line a.s.now a.at a.most a.vertices a.nets a.blocks a.imbalance a.estimated a.weights.now a.draft.now a.fixed.now a.firsts.now a.loadedsizes.now a.loadedpins.now _ _ _ _ c.read_vertices.result c.read_vertices.ensures c.i-1.given.0.0 c.i-1.given.1 c.after_vertices.result _ _ _ _ c.after_vertices.ensures
+    lots-go a.line a.s.now a.at a.most a.vertices a.nets a.blocks a.imbalance a.estimated a.weights.now a.draft.now a.fixed.now a.firsts.now a.loadedsizes.now a.loadedpins.now _ _ _ _ c.read_vertices.result c.read_vertices.ensures c.in-Up.i c.in-Up.is c.after_vertices.result _ _ _ _ c.after_vertices.ensures

@@ -16,14 +16,14 @@ overfull-requires c =
 pub returns-then-overfull : goal.returns-then-overfull
 returns-then-overfull c =
     let a = c.args in
-    nets-over a.last a.s.now a.at a.most a.vertices a.nets a.blocks a.imbalance a.weights.now a.draft.now a.lows.now a.firsts.now a.loadedsizes.now a.loadedpins.now _ _ _ _ c.requires.1.long.w-len c.read_nets.result c.read_nets.ensures c.i-1.given.0.0 c.i-1.given.0.1.0 c.i-1.given.1 c.overfull.result c.overfull.ensures c.if-overfull.true
+    nets-over a.last a.s.now a.at a.most a.vertices a.nets a.blocks a.imbalance a.weights.now a.draft.now a.lows.now a.firsts.now a.loadedsizes.now a.loadedpins.now _ _ _ _ c.requires.1.long.w-len c.read_nets.result c.read_nets.ensures c.in-All.i c.in-All.m c.in-All.is c.overfull.result c.overfull.ensures c.if-overfull.true
 
 pub returns-in-Cut : goal.returns-in-Cut
 returns-in-Cut c =
     let a = c.args in
-    nets-cut a.last a.s.now a.at a.most a.vertices a.nets a.blocks a.imbalance a.weights.now a.draft.now a.lows.now a.firsts.now a.loadedsizes.now a.loadedpins.now _ _ _ _ c.requires.1.long.w-len c.read_nets.result c.read_nets.ensures c.q-1.given.0.0 c.q-1.given.0.1.0 c.q-1.given.1
+    nets-cut a.last a.s.now a.at a.most a.vertices a.nets a.blocks a.imbalance a.weights.now a.draft.now a.lows.now a.firsts.now a.loadedsizes.now a.loadedpins.now _ _ _ _ c.requires.1.long.w-len c.read_nets.result c.read_nets.ensures c.in-Cut.q c.in-Cut.n c.in-Cut.is
 
 pub returns-else-overfull : goal.returns-else-overfull
 returns-else-overfull c =
     let a = c.args in
-    nets-all a.last a.s.now a.at a.most a.vertices a.nets a.blocks a.imbalance a.weights.now a.draft.now a.lows.now a.firsts.now a.loadedsizes.now a.loadedpins.now _ _ _ _ c.requires.1.long.w-len c.read_nets.result c.read_nets.ensures c.i-1.given.0.0 c.i-1.given.0.1.0 c.i-1.given.1 c.overfull.result c.overfull.ensures c.if-overfull.false
+    nets-all a.last a.s.now a.at a.most a.vertices a.nets a.blocks a.imbalance a.weights.now a.draft.now a.lows.now a.firsts.now a.loadedsizes.now a.loadedpins.now _ _ _ _ c.requires.1.long.w-len c.read_nets.result c.read_nets.ensures c.in-All.i c.in-All.m c.in-All.is c.overfull.result c.overfull.ensures c.if-overfull.false

@@ -47,7 +47,7 @@ returns-in-Nothing c =
     let l = c.loop-i in
     let e = c.line_end-e in
     let r = c.call_line in
-    calls-bad a.s.now a.at a.n a.calls.now a.operands.now l.calls l.operands l.i l.c l.used l.invariant (omega arith) e.result e.ensures (omega arith) (omega arith) r.result _ r.ensures c.enum_told-1.given.1
+    calls-bad a.s.now a.at a.n a.calls.now a.operands.now l.calls l.operands l.i l.c l.used l.invariant (omega arith) e.result e.ensures (omega arith) (omega arith) r.result _ r.ensures c.in-Nothing.is
 
 pub bounds-calls-x-in-Asks : goal.bounds-calls-x-in-Asks
 bounds-calls-x-in-Asks c = simp length-set (omega arith)
@@ -61,8 +61,7 @@ loop-i-preserved c =
     let l = c.loop-i in
     let e = c.line_end-e in
     let r = c.call_line in
-    let k = c.k-1 in
-    calls-on a.s.now a.at a.n a.calls.now a.operands.now l.calls l.operands l.i l.c l.used l.invariant (omega arith) e.result e.ensures (omega arith) (omega arith) r.result _ r.ensures k.given.0.0 k.given.0.1.0 k.given.0.1.1.0 k.given.0.1.1.1.0 k.given.1
+    calls-on a.s.now a.at a.n a.calls.now a.operands.now l.calls l.operands l.i l.c l.used l.invariant (omega arith) e.result e.ensures (omega arith) (omega arith) r.result _ r.ensures c.in-Asks.k c.in-Asks.a c.in-Asks.b c.in-Asks.u c.in-Asks.is
 
 pub shape_of-calls : goal.shape_of-calls
 shape_of-calls c = c.loop-i.invariant.same

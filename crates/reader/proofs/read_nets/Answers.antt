@@ -43,7 +43,7 @@ shape_of-loadedpins-in-NoBuy c =
 
 pub returns-in-NoBuy : goal.returns-in-NoBuy
 returns-in-NoBuy c =
-    let a = c.args in let l = c.loop-j in buys-stop a.last a.s.now a.at a.most a.vertices a.nets a.firsts.now a.loadedsizes.now a.loadedpins.now l.netweights l.firsts l.loadedsizes l.loadedpins l.stamps l.i l.j l.m l.invariant (omega arith) c.line_end-e.result c.line_end-e.ensures (omega arith) c.buy_line.result c.buy_line.new.loadedpins c.buy_line.new.stamps c.buy_line.ensures c.q-1.given.0.0 c.q-1.given.1
+    let a = c.args in let l = c.loop-j in buys-stop a.last a.s.now a.at a.most a.vertices a.nets a.firsts.now a.loadedsizes.now a.loadedpins.now l.netweights l.firsts l.loadedsizes l.loadedpins l.stamps l.i l.j l.m l.invariant (omega arith) c.line_end-e.result c.line_end-e.ensures (omega arith) c.buy_line.result c.buy_line.new.loadedpins c.buy_line.new.stamps c.buy_line.ensures c.in-NoBuy.q c.in-NoBuy.is
 
 pub overflow_cast-firsts : goal.overflow_cast-firsts
 overflow_cast-firsts c =
@@ -55,11 +55,11 @@ bounds-firsts-j c =
 
 pub overflow_sub-loadedsizes : goal.overflow_sub-loadedsizes
 overflow_sub-loadedsizes c =
-    omega (arith, (let g = c.buy_line.ensures.next c.w-1.given.0.0 c.w-1.given.0.1.0 c.w-1.given.1 in g.f-le))
+    omega (arith, (let g = c.buy_line.ensures.next c.in-Bought.w c.in-Bought.z c.in-Bought.is in g.f-le))
 
 pub overflow_cast-loadedsizes : goal.overflow_cast-loadedsizes
 overflow_cast-loadedsizes c =
-    omega (arith, (let g = c.buy_line.ensures.next c.w-1.given.0.0 c.w-1.given.0.1.0 c.w-1.given.1 in g.f-le), (let g = c.buy_line.ensures.next c.w-1.given.0.0 c.w-1.given.0.1.0 c.w-1.given.1 in g.m-le), c.loop-j.invariant.most-le)
+    omega (arith, (let g = c.buy_line.ensures.next c.in-Bought.w c.in-Bought.z c.in-Bought.is in g.f-le), (let g = c.buy_line.ensures.next c.in-Bought.w c.in-Bought.z c.in-Bought.is in g.m-le), c.loop-j.invariant.most-le)
 
 pub bounds-loadedsizes-j : goal.bounds-loadedsizes-j
 bounds-loadedsizes-j c =
@@ -67,7 +67,7 @@ bounds-loadedsizes-j c =
 
 pub loop-j-preserved : goal.loop-j-preserved
 loop-j-preserved c =
-    let a = c.args in let l = c.loop-j in buys-on a.last a.s.now a.at a.most a.vertices a.nets a.firsts.now a.loadedsizes.now a.loadedpins.now l.netweights l.firsts l.loadedsizes l.loadedpins l.stamps l.i l.j l.m l.invariant (omega arith) c.line_end-e.result c.line_end-e.ensures (omega arith) c.buy_line.result c.buy_line.new.loadedpins c.buy_line.new.stamps c.buy_line.ensures c.w-1.given.0.0 c.w-1.given.0.1.0 c.w-1.given.1
+    let a = c.args in let l = c.loop-j in buys-on a.last a.s.now a.at a.most a.vertices a.nets a.firsts.now a.loadedsizes.now a.loadedpins.now l.netweights l.firsts l.loadedsizes l.loadedpins l.stamps l.i l.j l.m l.invariant (omega arith) c.line_end-e.result c.line_end-e.ensures (omega arith) c.buy_line.result c.buy_line.new.loadedpins c.buy_line.new.stamps c.buy_line.ensures c.in-Bought.w c.in-Bought.z c.in-Bought.is
 
 pub shape_of-firsts : goal.shape_of-firsts
 shape_of-firsts c = c.loop-j.invariant.f-same

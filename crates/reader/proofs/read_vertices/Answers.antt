@@ -36,11 +36,11 @@ shape_of-fixed-in-NoLot c =
 
 pub returns-in-NoLot : goal.returns-in-NoLot
 returns-in-NoLot c =
-    let a = c.args in let l = c.loop-k in lots-stop a.line a.s.now a.at a.vertices a.blocks a.estimated a.weights.now a.draft.now a.fixed.now l.weights l.draft l.fixed l.lows l.i l.k l.invariant (omega arith) c.line_end-e.result c.line_end-e.ensures (omega arith) c.lot_line.result c.lot_line.ensures c.q-1.given.0.0 c.q-1.given.1
+    let a = c.args in let l = c.loop-k in lots-stop a.line a.s.now a.at a.vertices a.blocks a.estimated a.weights.now a.draft.now a.fixed.now l.weights l.draft l.fixed l.lows l.i l.k l.invariant (omega arith) c.line_end-e.result c.line_end-e.ensures (omega arith) c.lot_line.result c.lot_line.ensures c.in-NoLot.q c.in-NoLot.is
 
 pub loop-k-preserved : goal.loop-k-preserved
 loop-k-preserved c =
-    let a = c.args in let l = c.loop-k in lots-on a.line a.s.now a.at a.vertices a.blocks a.estimated a.weights.now a.draft.now a.fixed.now l.weights l.draft l.fixed l.lows l.i l.k l.invariant (omega arith) c.line_end-e.result c.line_end-e.ensures (omega arith) c.lot_line.result c.lot_line.ensures c.low-1.given.0.0 c.low-1.given.0.1.0 c.low-1.given.0.1.1.0 c.low-1.given.0.1.1.1.0 c.low-1.given.1
+    let a = c.args in let l = c.loop-k in lots-on a.line a.s.now a.at a.vertices a.blocks a.estimated a.weights.now a.draft.now a.fixed.now l.weights l.draft l.fixed l.lows l.i l.k l.invariant (omega arith) c.line_end-e.result c.line_end-e.ensures (omega arith) c.lot_line.result c.lot_line.ensures c.in-Of.low c.in-Of.high c.in-Of.b c.in-Of.f c.in-Of.is
 
 pub shape_of-weights : goal.shape_of-weights
 shape_of-weights c = c.loop-k.invariant.w-same

@@ -7,14 +7,14 @@ pub loop-i-init : goal.loop-i-init
 loop-i-init c = (omega arith, sym (sum-zero (λ x. get_or c.args.weights.now x 0)), omega arith)
 
 pub overflow_cast-t : goal.overflow_cast-t
-overflow_cast-t c = omega (arith, c.shared_slice_known-1.given c.loop-i.i)
+overflow_cast-t c = omega (arith, c.type_inv.weights c.loop-i.i)
 
 pub overflow_add-t : goal.overflow_add-t
-overflow_add-t c = omega (arith, c.shared_slice_known-1.given c.loop-i.i)
+overflow_add-t c = omega (arith, c.type_inv.weights c.loop-i.i)
 
 pub loop-i-preserved : goal.loop-i-preserved
 loop-i-preserved c =
-    let l = c.loop-i in let a = c.args in (omega arith, omega (arith, l.invariant.1, sum_step l.i (λ x. get_or a.weights.now x 0)), omega (arith, c.shared_slice_known-1.given c.loop-i.i, l.invariant.2))
+    let l = c.loop-i in let a = c.args in (omega arith, omega (arith, l.invariant.1, sum_step l.i (λ x. get_or a.weights.now x 0)), omega (arith, c.type_inv.weights c.loop-i.i, l.invariant.2))
 
 pub returns : goal.returns
 returns c = let l = c.loop-i in let a = c.args in (l.invariant.1 ∙ ap (λ n. sum n (λ x. get_or a.weights.now x 0)) (omega arith) ∙ sum-take a.n a.weights.now (omega arith), omega (arith, l.invariant.2))

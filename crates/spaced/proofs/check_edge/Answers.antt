@@ -6,7 +6,7 @@ use Rattle.spaced.proofs.check_edge.Goals as goal
 
 pub returns-then-not-x : goal.returns-then-not-x
 returns-then-not-x c =
-    let a = c.args in edge-bad a.s.now a.at a.end a.weighted c.read_lead-x.result.well c.read_lead-x.result.weight c.read_lead-x.result.first c.read_lead-x.ensures (omega arith) a.vertices a.j a.stamps.now c.requires.4 c.if-not-x.true
+    let a = c.args in edge-bad a.s.now a.at a.end a.weighted c.read_lead-x.result.well c.read_lead-x.result.weight c.read_lead-x.result.first c.read_lead-x.ensures (omega arith) a.vertices a.j a.stamps.now c.requires.4 (not-true _ c.if-not-x.true)
 
 pub check_pins-r-requires : goal.check_pins-r-requires
 check_pins-r-requires c =
@@ -22,4 +22,4 @@ overflow_add-size-2 c =
 
 pub returns : goal.returns
 returns c =
-    let a = c.args in edge-good a.s.now a.at a.end a.weighted c.read_lead-x.result.well c.read_lead-x.result.weight c.read_lead-x.result.first c.read_lead-x.ensures c.if-not-x.false a.vertices a.j _ _ _ _ c.check_pins-r.ensures c.between.result c.between.ensures c.both-good.result c.both-good.ensures c.width.result c.width.ensures.0 c.width.ensures.1
+    let a = c.args in edge-good a.s.now a.at a.end a.weighted c.read_lead-x.result.well c.read_lead-x.result.weight c.read_lead-x.result.first c.read_lead-x.ensures (not-false _ c.if-not-x.false) a.vertices a.j _ _ _ _ c.check_pins-r.ensures c.between.result c.between.ensures c.both-good.result c.both-good.ensures c.width.result c.width.ensures.0 c.width.ensures.1

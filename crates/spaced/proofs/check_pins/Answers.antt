@@ -8,7 +8,7 @@ loop-at-init c = let a = c.args in pins-start a.s.now a.at a.end a.vertices a.j 
 
 pub returns-then-not-x : goal.returns-then-not-x
 returns-then-not-x c =
-    let a = c.args in let l = c.loop-at in pins-stop a.s.now a.at a.end a.vertices a.j l.stamps l.i l.n l.good l.size l.invariant (omega arith) c.number-x.result.well c.number-x.result.value c.number-x.result.end c.number-x.ensures c.if-not-x.true
+    let a = c.args in let l = c.loop-at in pins-stop a.s.now a.at a.end a.vertices a.j l.stamps l.i l.n l.good l.size l.invariant (omega arith) c.number-x.result.well c.number-x.result.value c.number-x.result.end c.number-x.ensures (not-true _ c.if-not-x.true)
 
 pub stamp-requires : goal.stamp-requires
 stamp-requires c =
@@ -27,7 +27,7 @@ overflow_add-size-in-loop-at c =
 
 pub returns-then-e-end : goal.returns-then-e-end
 returns-then-e-end c =
-    let a = c.args in let l = c.loop-at in pins-last a.s.now a.at a.end a.vertices a.j l.stamps l.i l.n l.good l.size l.invariant (omega arith) c.number-x.result.well c.number-x.result.value c.number-x.result.end c.number-x.ensures c.if-not-x.false c.stamp.result _ c.stamp.ensures c.both-good.result c.both-good.ensures c.width.result c.width.ensures.0 c.width.ensures.1 c.if-e-end.true
+    let a = c.args in let l = c.loop-at in pins-last a.s.now a.at a.end a.vertices a.j l.stamps l.i l.n l.good l.size l.invariant (omega arith) c.number-x.result.well c.number-x.result.value c.number-x.result.end c.number-x.ensures (not-false _ c.if-not-x.false) c.stamp.result _ c.stamp.ensures c.both-good.result c.both-good.ensures c.width.result c.width.ensures.0 c.width.ensures.1 c.if-e-end.true
 
 pub overflow_add-e : goal.overflow_add-e
 overflow_add-e c =
@@ -43,4 +43,4 @@ loop-at-smaller c =
 
 pub loop-at-preserved : goal.loop-at-preserved
 loop-at-preserved c =
-    let a = c.args in let l = c.loop-at in pins-on a.s.now a.at a.end a.vertices a.j l.stamps l.i l.n l.good l.size l.invariant (omega arith) c.number-x.result.well c.number-x.result.value c.number-x.result.end c.number-x.ensures c.if-not-x.false c.stamp.result _ c.stamp.ensures c.both-good.result c.both-good.ensures c.width.result c.width.ensures.0 c.width.ensures.1 c.skip-i.result (omega (arith, c.number-x.ensures.high)) c.skip-i.ensures
+    let a = c.args in let l = c.loop-at in pins-on a.s.now a.at a.end a.vertices a.j l.stamps l.i l.n l.good l.size l.invariant (omega arith) c.number-x.result.well c.number-x.result.value c.number-x.result.end c.number-x.ensures (not-false _ c.if-not-x.false) c.stamp.result _ c.stamp.ensures c.both-good.result c.both-good.ensures c.width.result c.width.ensures.0 c.width.ensures.1 c.skip-i.result (omega (arith, c.number-x.ensures.high)) c.skip-i.ensures

@@ -17,7 +17,7 @@ put_field-q-requires c =
 
 pub shape_of-out-then-e-end : goal.shape_of-out-then-e-end
 shape_of-out-then-e-end c =
-    c.put_field-q.auto.0 ∙ c.loop-at.invariant.left.len
+    c.put_field-q.auto.out ∙ c.loop-at.invariant.left.len
 
 pub returns-then-e-end : goal.returns-then-e-end
 returns-then-e-end c =

@@ -9,11 +9,11 @@ returns-then-not-weighted c = let a = c.args in lead_plain a.s.now a.at a.end (o
 
 pub returns-then-not-x : goal.returns-then-not-x
 returns-then-not-x c =
-    let a = c.args in lead-bad a.s.now a.at a.end (omega arith) (omega arith) a.weighted c.if-not-weighted.false c.number-x.result.well c.number-x.result.value c.number-x.result.end c.number-x.ensures c.if-not-x.true
+    let a = c.args in lead-bad a.s.now a.at a.end (omega arith) (omega arith) a.weighted c.if-not-weighted.false c.number-x.result.well c.number-x.result.value c.number-x.result.end c.number-x.ensures (not-true _ c.if-not-x.true)
 
 pub returns-then-e-end : goal.returns-then-e-end
 returns-then-e-end c =
-    let a = c.args in lead-short a.s.now a.at a.end (omega arith) (omega arith) a.weighted c.if-not-weighted.false c.number-x.result.well c.number-x.result.value c.number-x.result.end c.number-x.ensures c.if-not-x.false c.if-e-end.true
+    let a = c.args in lead-short a.s.now a.at a.end (omega arith) (omega arith) a.weighted c.if-not-weighted.false c.number-x.result.well c.number-x.result.value c.number-x.result.end c.number-x.ensures (not-false _ c.if-not-x.false) c.if-e-end.true
 
 pub overflow_add-e : goal.overflow_add-e
 overflow_add-e c =
@@ -25,4 +25,4 @@ skip-f-requires c =
 
 pub returns : goal.returns
 returns c =
-    let a = c.args in lead-behind a.s.now a.at a.end (omega arith) (omega arith) a.weighted c.if-not-weighted.false c.number-x.result.well c.number-x.result.value c.number-x.result.end c.number-x.ensures c.if-not-x.false c.skip-f.result (omega (arith, c.number-x.ensures.high)) c.skip-f.ensures
+    let a = c.args in lead-behind a.s.now a.at a.end (omega arith) (omega arith) a.weighted c.if-not-weighted.false c.number-x.result.well c.number-x.result.value c.number-x.result.end c.number-x.ensures (not-false _ c.if-not-x.false) c.skip-f.result (omega (arith, c.number-x.ensures.high)) c.skip-f.ensures

@@ -1,7 +1,8 @@
 -- `text::read_number` meets its contract: a test that fails is why the field is no number.
-use Rattle.std.proofs.Common.{⊎_elim, arith, rules}
+use Rattle.std.proofs.Common.{arith}
 use Rattle.text.proofs.Walk.{first-here, first-none}
 use Rattle.text.proofs.Numbers.{number-zero, number-other, number-here}
+use Rattle.text.proofs.read_number.Goals.{then-e-at-gt1+else-s-at-eq48, else-e-at-gt1}
 use Rattle.text.proofs.read_number.Goals as goal
 
 pub read_digits-d-requires : goal.read_digits-d-requires
@@ -34,7 +35,7 @@ returns-else-s-e-ne44 c =
     let n = c.nine_digits-stop in
     let d = c.read_digits-d in
     number-here a.s.now a.at a.end n.result d.result.value d.result.end (omega arith) n.ensures d.ensures
-    (λ more zero. ⊎_elim (λ u. u.2.left zero) (λ u. omega arith) c.if-e-at-gt1.branch)
+    (λ more zero. elim c.if-e-at-gt1.branch [ then-e-at-gt1+else-s-at-eq48 w ↦ w.if-s-at-eq48.false zero | else-e-at-gt1 w ↦ omega arith ])
     (first-here a.s.now d.result.end a.end (omega arith) (omega arith) 44 (omega arith))
 
 pub returns-else-e-end : goal.returns-else-e-end
@@ -43,5 +44,5 @@ returns-else-e-end c =
     let n = c.nine_digits-stop in
     let d = c.read_digits-d in
     number-here a.s.now a.at a.end n.result d.result.value d.result.end (omega arith) n.ensures d.ensures
-    (λ more zero. ⊎_elim (λ u. u.2.left zero) (λ u. omega arith) c.if-e-at-gt1.branch)
+    (λ more zero. elim c.if-e-at-gt1.branch [ then-e-at-gt1+else-s-at-eq48 w ↦ w.if-s-at-eq48.false zero | else-e-at-gt1 w ↦ omega arith ])
     (first-none a.s.now d.result.end a.end 44 (omega (arith, d.ensures.high, n.ensures.high)))

@@ -11,15 +11,15 @@ best_join-best-requires c =
 pub returns-then-rating-eq0 : goal.returns-then-rating-eq0
 returns-then-rating-eq0 c =
     let a = c.args in
-    let b = c.best_join-best in record { best_join = b.ensures.0; planned = planned-none (rise_of a.bits.now a.presentpins.now a.firsts.now a.presentsizes.now a.net_weights.now a.blocks.now a.m) b.result c.if-rating-eq0.true b.ensures.1.0; blank_2 = b.ensures.1.1 }
+    let b = c.best_join-best in record { best_join = b.ensures.best_join; planned = planned-none (rise_of a.bits.now a.presentpins.now a.firsts.now a.presentsizes.now a.net_weights.now a.blocks.now a.m) b.result c.if-rating-eq0.true b.ensures.bounded_2; blank_2 = b.ensures.blank_2 }
 
 pub lift-requires : goal.lift-requires
 lift-requires c =
     let p = c.requires in
     let b = c.best_join-best in
-    let i = b.ensures.0.within (omega (arith, c.if-rating-eq0.false)) in record { tables_ok = p.tables_ok; bounds_len = (b.ensures.1.0.len, i.0, i.1, i.2, i.3) }
+    let i = b.ensures.best_join.within (omega (arith, c.if-rating-eq0.false)) in record { tables_ok = p.tables_ok; bounds_len = (b.ensures.bounded_2.len, i.0, i.1, i.2, i.3) }
 
 pub returns : goal.returns
 returns c =
     let a = c.args in
-    let b = c.best_join-best in record { best_join = b.ensures.0; planned = planned-some (rise_of a.bits.now a.presentpins.now a.firsts.now a.presentsizes.now a.net_weights.now a.blocks.now a.m) b.result (omega (arith, c.if-rating-eq0.false)) b.ensures.1.0 c.lift.ensures; blank_2 = b.ensures.1.1 }
+    let b = c.best_join-best in record { best_join = b.ensures.best_join; planned = planned-some (rise_of a.bits.now a.presentpins.now a.firsts.now a.presentsizes.now a.net_weights.now a.blocks.now a.m) b.result (omega (arith, c.if-rating-eq0.false)) b.ensures.bounded_2 c.lift.ensures; blank_2 = b.ensures.blank_2 }

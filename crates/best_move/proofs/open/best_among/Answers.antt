@@ -1,8 +1,9 @@
-use Rattle.std.proofs.Common.{arith, ◌∙◌, ⊎_elim, rules, ◌-◌, ◌+◌, ◌*◌}
+use Rattle.std.proofs.Common.{arith, ◌∙◌, ◌-◌, ◌+◌, ◌*◌}
 use Rattle.index.specs.Indexed.{Kept, kept-none, kept_then, kept-wide}
 use Rattle.laws.specs.Integer.{read32}
 use Rattle.best_move.specs.OpenLaw.{read64}
 use Rattle.best_move.specs.RisingLaw.{part-bit, Searched, among, searched-none, searched-more, searched-past, searched-ends}
+use Rattle.best_move.proofs.open.best_among.Goals.{then-j-size, else-j-size}
 use Rattle.best_move.proofs.open.best_among.Goals as goal
 
 pub loop-from-init : goal.loop-from-init
@@ -41,16 +42,16 @@ loop-from-preserved c =
     let better = c.least_better in
     let found = among a.candidates.now a.blocks.now a.weights.now a.loads.now a.ceilings.now a.rooms.now a.gains.now a.c a.size a.k c.requires.search_ok.1 c.requires.rooms _ l.best l.from j
     (read64 l.best.top c.struct_told-1.given.1.0.1) (read32 better.result better.type_inv) better.ensures c.loop-from-test.true l.invariant.0 c.next_rising-j.ensures in
-    ⊎_elim
-    (λ v. rw (v.5, v.6) (
-      searched-more a.candidates.now a.blocks.now a.weights.now a.loads.now a.ceilings.now a.rooms.now a.gains.now a.c a.size a.k _ l.best _ j (omega arith) found v.2.ensures.0,
-      kept_then l.invariant.1 (kept-wide (omega arith) v.2.ensures.1),
-    ))
-    (λ v. rw (v.1, v.2) (
-      searched-past a.candidates.now a.blocks.now a.weights.now a.loads.now a.ceilings.now a.rooms.now a.gains.now a.c a.size a.k _ l.best j (omega arith) found,
-      l.invariant.1,
-    ))
-    c.if-j-size.branch
+    elim c.if-j-size.branch [
+      | then-j-size v ↦ rw (v.index-is, v.best-is) (
+        searched-more a.candidates.now a.blocks.now a.weights.now a.loads.now a.ceilings.now a.rooms.now a.gains.now a.c a.size a.k _ l.best _ j (omega arith) found v.best_with-best.ensures.leads,
+        kept_then l.invariant.1 (kept-wide (omega arith) v.best_with-best.ensures.kept),
+      )
+      | else-j-size v ↦ rw (v.index-is, v.best-is) (
+        searched-past a.candidates.now a.blocks.now a.weights.now a.loads.now a.ceilings.now a.rooms.now a.gains.now a.c a.size a.k _ l.best j (omega arith) found,
+        l.invariant.1,
+      )
+    ]
 
 pub shape_of-index : goal.shape_of-index
 shape_of-index c = c.loop-from.invariant.1.len

@@ -1,5 +1,5 @@
 -- `best_among`: from one candidate that may have a better pair to the next.
-use Rattle.std.proofs.Common.{arith, ◌∙◌, ⊎_elim, rules, ◌-◌, ◌+◌, ◌*◌}
+use Rattle.std.proofs.Common.{arith, ◌∙◌, ◌-◌, ◌+◌, ◌*◌}
 use Rattle.index.specs.Indexed.{Kept, kept-none, kept_then, kept-wide}
 use Rattle.laws.specs.Integer.{read32}
 use Rattle.best_move.specs.OpenLaw.{read64}

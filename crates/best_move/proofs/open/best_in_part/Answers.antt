@@ -24,12 +24,12 @@ pub returns-then-less : goal.returns-then-less
 returns-then-less c =
     let a = c.args in
     let searched = c.best_among in
-    let e : 64 * a.c + c.least.result ≡ lesser (64 * a.c + 64) a.n = omega (arith, c.least.ensures, c.requires.peaked.1) in record { leads = λ h. subst (λ (to : ℕ). Leads searched.result (best_to (open_in a.candidates.now a.blocks.now a.weights.now a.loads.now a.ceilings.now) (gain_in a.gains.now) a.k to)) e (searched.ensures.0 h); kept = kept-wide (omega (arith, e)) searched.ensures.1 }
+    let e : 64 * a.c + c.least.result ≡ lesser (64 * a.c + 64) a.n = omega (arith, c.least.ensures, c.requires.peaked.1) in record { leads = λ h. subst (λ (to : ℕ). Leads searched.result (best_to (open_in a.candidates.now a.blocks.now a.weights.now a.loads.now a.ceilings.now) (gain_in a.gains.now) a.k to)) e (searched.ensures.leads h); kept = kept-wide (omega (arith, e)) searched.ensures.kept }
 
 pub returns : goal.returns
 returns c =
     let a = c.args in record {
       leads = λ h. passed_over (open_in a.candidates.now a.blocks.now a.weights.now a.loads.now a.ceilings.now) a.gains.now a.peaks.now a.n a.k a.c a.before c.requires.peaked.0 c.requires.peaked.1 c.peak-1.given
-          (sym (ap₂ (λ (x y : ℤ). lt_z x y) (read64 a.before.top c.struct_told-1.given.1.0.1) (read64 _ (cast-peak p).sfits ∙ read32 _ c.peak-1.given)) ∙ sym c.less.ensures ∙ c.if-less.false) h;
+          (sym (ap₂ (λ (x y : ℤ). lt_z x y) (read64 a.before.top c.struct_told-1.given.1.0.1) (read64 _ (wide_fits (get_or a.peaks.now a.c (pos 0)) (record { sfits = c.peak-1.given })).sfits ∙ read32 _ c.peak-1.given)) ∙ sym c.less.ensures ∙ c.if-less.false) h;
       kept = kept-none a.index.now;
     }

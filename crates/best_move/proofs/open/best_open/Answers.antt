@@ -30,10 +30,10 @@ loop-c-preserved c =
     let d : lesser (64 * c.loop-c.c + 64) a.n ≡ lesser (64 * (c.loop-c.c + 1)) a.n = omega arith in
     let searched = c.best_in_part-best in (
       omega (arith, c.requires.search_ok.n-to, c.loop-c-test),
-      kept_then c.loop-c.invariant.1 searched.ensures.1,
+      kept_then c.loop-c.invariant.1 searched.ensures.kept,
       c.loop-c.invariant.2,
       subst (λ (i : ℕ). Leads searched.result (best_to (open_in a.candidates.now a.blocks.now a.weights.now a.loads.now a.ceilings.now) (gain_in a.gains.now) a.k i)) d
-          (searched.ensures.0 (subst (λ (i : ℕ). Leads c.loop-c.best (best_to (open_in a.candidates.now a.blocks.now a.weights.now a.loads.now a.ceilings.now) (gain_in a.gains.now) a.k i)) e c.loop-c.invariant.3)),
+          (searched.ensures.leads (subst (λ (i : ℕ). Leads c.loop-c.best (best_to (open_in a.candidates.now a.blocks.now a.weights.now a.loads.now a.ceilings.now) (gain_in a.gains.now) a.k i)) e c.loop-c.invariant.3)),
     )
 
 pub pair_at-requires : goal.pair_at-requires

@@ -1,5 +1,4 @@
 use Rattle.std.proofs.Common.{arith, ◌≤◌, ◌-◌, refl, subst, rules}
-use Rattle.std.proofs.lemmas.Bool.{not-true}
 use Rattle.laws.specs.Integer.{read32}
 use Rattle.best_move.specs.Open.{Leads}
 use Rattle.best_move.specs.OpenLaw.{read64}
@@ -22,7 +21,7 @@ returns-then-not-is_above c =
     let gain = c.is_above-arg-1.given in
     let a = c.args in
     λ b h. first-low a.loads.now a.ceilings.now a.weight c.requires l.j _ (omega arith) c.block_at-b.ensures.is a.before b (read64 _ c.struct_told-1.given.1.0.1) (read32 _ gain) gain
-    c.is_above.ensures (not-true c.is_above.result c.if-not-is_above.true) l.invariant.1 h
+    c.is_above.ensures c.if-not-is_above.true l.invariant.1 h
 
 pub returns-then-has_space : goal.returns-then-has_space
 returns-then-has_space c =

@@ -9,4 +9,4 @@ pub overflow_cast-result : goal.overflow_cast-result
 overflow_cast-result c = wide_fits c.args.gain c.ranges.gain
 
 pub returns : goal.returns
-returns c = ap₂ lt_z (read64 c.args.top c.ranges.top.sfits) (read64 _ (cast-result c).sfits ∙ read32 c.args.gain c.ranges.gain.sfits)
+returns c = ap₂ lt_z (read64 c.args.top c.ranges.top.sfits) (read64 _ (wide_fits c.args.gain c.ranges.gain).sfits ∙ read32 c.args.gain c.ranges.gain.sfits)

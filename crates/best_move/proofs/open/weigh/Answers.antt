@@ -10,5 +10,5 @@ pub returns : goal.returns
 returns c =
     λ before h.
     weighed c.args.may c.args.here c.args.gain c.args.lead before c.requires c.ranges.gain h
-    (read64 _ (cast-worth s).sfits ∙ read32 _ c.ranges.gain.sfits) (read64 c.args.lead.top c.struct_told-1.given.1.0.1)
+    (read64 _ (wide_fits c.args.gain c.ranges.gain).sfits ∙ read32 _ c.ranges.gain.sfits) (read64 c.args.lead.top c.struct_told-1.given.1.0.1)
     c.less.ensures c.both-better.ensures c.either_place.ensures (read64 _ c.either_gain.type_inv ∙ c.either_gain.ensures)

@@ -1,4 +1,4 @@
-use Rattle.std.proofs.Common.{arith, ◌≡◌, sym, subst, rules, ℕ, ◌≤◌, ◌-◌, ◌+◌, ℤ, w32, of_z, to_z, to_z-of_z}
+use Rattle.std.proofs.Common.{arith, ◌≡◌, sym, subst, ℕ, ◌≤◌, ◌-◌, ◌+◌, ℤ, w32, of_z, to_z, to_z-of_z}
 use Rattle.laws.specs.Integer.{read32}
 use Rattle.best_move.specs.Peak.{RowPeak, row-begins, row-rises}
 use Rattle.best_move.proofs.peaks.row_peak.Goals as goal
@@ -20,5 +20,4 @@ pub returns : goal.returns
 returns c =
     let a = c.args in
     let e : c.loop-j.j ≡ a.k = omega arith in
-    subst (λ (z : ℤ). RowPeak a.gains.now a.x a.k z (to_z w32 c.loop-j.peak)) (to_z-of_z c.ranges.before)
-    (subst (λ (j : ℕ). RowPeak a.gains.now a.x j (to_z w32 (of_z w32 a.before)) (to_z w32 c.loop-j.peak)) e c.loop-j.invariant.1)
+    rw (← e, ← to_z-of_z {w = w32} c.ranges.before) c.loop-j.invariant.1

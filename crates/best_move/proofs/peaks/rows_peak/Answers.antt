@@ -1,4 +1,4 @@
-use Rattle.std.proofs.Common.{arith, ◌≡◌, sym, subst, rules, ℕ, ◌≤◌, ◌-◌, ◌+◌, ℤ, w32, to_z}
+use Rattle.std.proofs.Common.{arith, ◌≡◌, sym, subst, ℕ, ◌≤◌, ◌-◌, ◌+◌, ℤ}
 use Rattle.laws.specs.Integer.{read32}
 use Rattle.best_move.specs.Peak.{PartPeak, part-begins, part-rises}
 use Rattle.best_move.proofs.peaks.rows_peak.Goals as goal
@@ -18,4 +18,4 @@ pub returns : goal.returns
 returns c =
     let a = c.args in
     let e : c.loop-x.x ≡ a.to = omega (arith, c.loop-x.invariant.0) in
-    subst (λ (x : ℕ). PartPeak a.gains.now a.from x a.k (to_z w32 c.loop-x.peak)) e c.loop-x.invariant.1
+    rw (← e) c.loop-x.invariant.1

@@ -15,7 +15,7 @@ pub put_lots-q-requires : goal.put_lots-q-requires
 unfolding row bytes
 put_lots-q-requires c =
     let k = c.requires in
-    record { h = k.h; s = k.s; shown = ended-vertices k.ended; fits = omega (arith, c.put_row-p.ensures.ends, c.put_row-p.auto.0, closing-length k.ended, k.fits) }
+    record { h = k.h; s = k.s; shown = ended-vertices k.ended; fits = omega (arith, c.put_row-p.ensures.ends, c.put_row-p.auto.out, closing-length k.ended, k.fits) }
 
 pub put_nets-requires : goal.put_nets-requires
 unfolding row bytes
@@ -26,7 +26,7 @@ put_nets-requires c =
       h = k.h;
       s = k.s;
       shown = ended-nets k.ended;
-      fits = omega (arith, c.put_row-p.ensures.ends, c.put_row-p.auto.0, lots.ends, c.put_lots-q.auto.0, closing-length k.ended, k.fits);
+      fits = omega (arith, c.put_row-p.ensures.ends, c.put_row-p.auto.out, lots.ends, c.put_lots-q.auto.out, closing-length k.ended, k.fits);
     }
 
 pub returns : goal.returns

@@ -38,7 +38,7 @@ loop-i-preserved c =
     let w = c.loop-i.invariant.2 k.h k.s k.shown in
     let more = lots-room k.h k.s i c.Block-of.result (omega (arith, k.shown.all)) (c.Block-of.ensures k.h k.s c.args.n k.shown (omega arith)) (sale-stands k.h k.s k.shown.sound k.shown.inside k.shown.placed (i + 1) (omega arith) (omega (arith, k.shown.all))) in (
       omega arith,
-      c.put_present-p.auto.0 ∙ c.loop-i.invariant.1,
+      c.put_present-p.auto.out ∙ c.loop-i.invariant.1,
       λ h s t. lots-more h s i c.Block-of.result (c.Block-of.ensures h s c.args.n t (omega arith)) (sale-stands h s t.sound t.inside t.placed (i + 1) (omega arith) (omega (arith, t.all))) (omega (arith, w.ends, k.fits)) (c.loop-i.invariant.2 h s t) c.put_present-p.ensures,
     )
 

@@ -36,7 +36,7 @@ loop-i-preserved c =
     let w = c.loop-i.invariant.2 k.h k.s k.shown in
     let more = nets-room k.h k.s i bits (omega (arith, k.shown.all)) (k.shown.counts i (omega arith)) in (
       omega arith,
-      c.put_net-p.auto.0 ∙ c.loop-i.invariant.1,
+      c.put_net-p.auto.out ∙ c.loop-i.invariant.1,
       λ h s t. nets-more h s i bits (omega (arith, t.all)) (t.counts i (omega arith)) (omega (arith, w.ends, k.fits)) (c.loop-i.invariant.2 h s t) c.put_net-p.ensures,
     )
 
