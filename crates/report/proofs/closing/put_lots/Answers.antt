@@ -24,7 +24,7 @@ put_present-p-requires c =
     let k = c.requires in
     let i : ℕ = c.loop-i.i in
     let w = c.loop-i.invariant.2 k.h k.s k.shown in
-    let more = lots-room k.h k.s i c.Block-of.result (omega (arith, k.shown.all)) (c.Block-of.ensures k.h k.s c.args.n k.shown (omega arith)) (sale-stands k.h k.s k.shown.sound k.shown.inside k.shown.placed (i + 1) (omega arith) (omega (arith, k.shown.all))) in
+    let more = lots-room k.h k.s i c.block_of-block.result (omega (arith, k.shown.all)) (c.block_of-block.ensures k.h k.s c.args.n k.shown (omega arith)) (sale-stands k.h k.s k.shown.sound k.shown.inside k.shown.placed (i + 1) (omega arith) (omega (arith, k.shown.all))) in
     (omega (arith, k.shown.few), omega (arith, w.ends, k.fits, c.loop-i.invariant.1))
 
 pub overflow_add-i-in-loop-i : goal.overflow_add-i-in-loop-i
@@ -36,10 +36,10 @@ loop-i-preserved c =
     let k = c.requires in
     let i : ℕ = c.loop-i.i in
     let w = c.loop-i.invariant.2 k.h k.s k.shown in
-    let more = lots-room k.h k.s i c.Block-of.result (omega (arith, k.shown.all)) (c.Block-of.ensures k.h k.s c.args.n k.shown (omega arith)) (sale-stands k.h k.s k.shown.sound k.shown.inside k.shown.placed (i + 1) (omega arith) (omega (arith, k.shown.all))) in (
+    let more = lots-room k.h k.s i c.block_of-block.result (omega (arith, k.shown.all)) (c.block_of-block.ensures k.h k.s c.args.n k.shown (omega arith)) (sale-stands k.h k.s k.shown.sound k.shown.inside k.shown.placed (i + 1) (omega arith) (omega (arith, k.shown.all))) in (
       omega arith,
       c.put_present-p.auto.out ∙ c.loop-i.invariant.1,
-      λ h s t. lots-more h s i c.Block-of.result (c.Block-of.ensures h s c.args.n t (omega arith)) (sale-stands h s t.sound t.inside t.placed (i + 1) (omega arith) (omega (arith, t.all))) (omega (arith, w.ends, k.fits)) (c.loop-i.invariant.2 h s t) c.put_present-p.ensures,
+      λ h s t. lots-more h s i c.block_of-block.result (c.block_of-block.ensures h s c.args.n t (omega arith)) (sale-stands h s t.sound t.inside t.placed (i + 1) (omega arith) (omega (arith, t.all))) (omega (arith, w.ends, k.fits)) (c.loop-i.invariant.2 h s t) c.put_present-p.ensures,
     )
 
 pub shape_of-out : goal.shape_of-out
