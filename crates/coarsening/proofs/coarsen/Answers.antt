@@ -42,7 +42,7 @@ pub loop-s-preserved : goal.loop-s-preserved
 loop-s-preserved c =
     let v = c.loop-s.invariant in
     let o = c.coarsen_once-s in
-    (λ loads loaded. going_more refl refl refl refl refl (v.0 loads loaded) (o.ensures.0 loads loaded), o.ensures.1.0, o.ensures.1.1, omega (arith, v, o.auto), omega (arith, v, o.auto), omega (arith, v, o.auto), omega (arith, v, o.auto), omega (arith, v, o.auto), omega (arith, v, o.auto), omega (arith, v, o.auto), omega (arith, v, o.auto), omega (arith, v, o.auto))
+    (λ loads loaded. going_more refl refl refl refl refl (v.0 loads loaded) (o.ensures.by_index loads loaded), o.ensures.blank_2.0, o.ensures.blank_2.1, omega (arith, v, o.auto), omega (arith, v, o.auto), omega (arith, v, o.auto), omega (arith, v, o.auto), omega (arith, v, o.auto), omega (arith, v, o.auto), omega (arith, v, o.auto), omega (arith, v, o.auto), omega (arith, v, o.auto))
 
 pub shape_of-counts : goal.shape_of-counts
 shape_of-counts c =

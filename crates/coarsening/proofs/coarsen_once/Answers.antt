@@ -12,7 +12,7 @@ plan_join-pair-requires c =
 
 pub returns-then-rating-eq0 : goal.returns-then-rating-eq0
 returns-then-rating-eq0 c =
-    let j = c.plan_join-pair in record { by_index = λ loads loaded. once-none _ _ _ j.result c.requires.once_ok.some j.ensures.0 c.if-rating-eq0.true; blank_2 = (j.ensures.1.1, j.ensures.1.0.none c.if-rating-eq0.true) }
+    let j = c.plan_join-pair in record { by_index = λ loads loaded. once-none _ _ _ j.result c.requires.once_ok.some j.ensures.best_join c.if-rating-eq0.true; blank_2 = (j.ensures.blank_2, j.ensures.planned.none c.if-rating-eq0.true) }
 
 pub overflow_sub-u : goal.overflow_sub-u
 overflow_sub-u c =
@@ -69,4 +69,4 @@ returns c =
     let p = c.requires.once_ok in
     let j = c.plan_join-pair in
     let l = c.if-rating-eq0.false in
-    let t = c.join.ensures in record { by_index = λ loads loaded. once_join _ _ _ _ j.result _ _ _ _ _ p.some (omega (arith, once-room p)) j.ensures.0 (omega (arith, l)) refl refl (t loads loaded) c.narrow.ensures c.narrow-2.ensures c.push-stack.ensures; blank_2 = (j.ensures.1.1, once-bounds p _ j.result _ refl refl j.ensures.0 (omega (arith, l)) (t p.loads p.loaded) j.ensures.1.0) }
+    let t = c.join.ensures in record { by_index = λ loads loaded. once_join _ _ _ _ j.result _ _ _ _ _ p.some (omega (arith, once-room p)) j.ensures.best_join (omega (arith, l)) refl refl (t loads loaded) c.narrow.ensures c.narrow-2.ensures c.push-stack.ensures; blank_2 = (j.ensures.blank_2, once-bounds p _ j.result _ refl refl j.ensures.best_join (omega (arith, l)) (t p.loads p.loaded) j.ensures.planned) }

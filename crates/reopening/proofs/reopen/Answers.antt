@@ -9,7 +9,7 @@ copy-requires c =
 
 pub sort_nets-requires : goal.sort_nets-requires
 sort_nets-requires c =
-    sort-ok c.requires c.copy.ensures
+    let s = sort-ok c.requires c.copy.ensures in record { m_in_bounds = s.0; m_in_bounds_2 = s.1.0; sortable_nets = s.1.1 }
 
 pub copy-requires-2 : goal.copy-requires-2
 copy-requires-2 c =

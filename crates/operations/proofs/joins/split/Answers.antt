@@ -12,4 +12,4 @@ uncontract-requires c =
 
 pub returns : goal.returns
 returns c =
-    λ loads. let s = c.requires.splits.sound in split_done _ (u-below c.args.u c.args.v s) (v_below c.args.u c.args.v s) c.Clear-above.ensures.0 c.Clear-above.ensures.1 c.uncontract.ensures
+    λ loads. let s = c.requires.splits.sound in split_done _ (u-below c.args.u c.args.v s) (v_below c.args.u c.args.v s) c.clear_above.ensures.0 c.clear_above.ensures.1 c.uncontract.ensures

@@ -19,4 +19,4 @@ returns c =
     let l = c.loop-i in
     let a = c.args in
     let whole : l.i ≡ a.n = omega (arith, l.invariant.0) in
-    subst (λ (i : ℕ). Lengthened i a.t1 l.ys) whole l.invariant.1
+    subst (λ (i : ℕ). Lengthened i a.xs l.ys) whole l.invariant.1

@@ -5,8 +5,8 @@ use Rattle.change_rules.proofs.free.Free.next.Goals as goal
 
 pub returns-then-len-eq0 : goal.returns-then-len-eq0
 returns-then-len-eq0 c =
-    let a = c.args in next-first a.t1.numbers a.t1.len a.n c.if-len-eq0.true
+    let a = c.args in next-first a.self.numbers a.self.len a.n c.if-len-eq0.true
 
 pub returns : goal.returns
 returns c =
-    let a = c.args in next-latest a.t1.numbers a.t1.len a.n c.if-len-eq0.false
+    let a = c.args in next-latest a.self.numbers a.self.len a.n c.if-len-eq0.false
