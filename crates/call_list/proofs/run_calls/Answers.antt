@@ -72,50 +72,5 @@ pub loop-i-preserved : goal.loop-i-preserved
 loop-i-preserved c =
     (λ limits h old b. done_more b _ c.loop-i-test.true (c.loop-i.invariant.0 limits h old b) _ _ c.wide.ensures c.wide-in-loop-i.ensures c.step-course.ensures, omega (arith, c.loop-i.invariant, c.step-course.auto), omega (arith, c.loop-i.invariant, c.step-course.auto), omega (arith, c.loop-i.invariant, c.step-course.auto), omega (arith, c.loop-i.invariant, c.step-course.auto), omega (arith, c.loop-i.invariant, c.step-course.auto), omega (arith, c.loop-i.invariant, c.step-course.auto), omega (arith, c.loop-i.invariant, c.step-course.auto), omega (arith, c.loop-i.invariant, c.step-course.auto), omega (arith, c.loop-i.invariant, c.step-course.auto), omega (arith, c.loop-i.invariant, c.step-course.auto), omega (arith, c.loop-i.invariant, c.step-course.auto), omega (arith, c.loop-i.invariant, c.step-course.auto), omega (arith, c.loop-i.invariant, c.step-course.auto), omega (arith, c.loop-i.invariant, c.step-course.auto), omega (arith, c.loop-i.invariant, c.step-course.auto), omega (arith, c.loop-i-test.true))
 
-pub shape_of-output : goal.shape_of-output
-shape_of-output c = c.loop-i.invariant.1
-
-pub shape_of-counts : goal.shape_of-counts
-shape_of-counts c = c.loop-i.invariant.2
-
-pub shape_of-visited : goal.shape_of-visited
-shape_of-visited c = c.loop-i.invariant.3
-
-pub shape_of-gains : goal.shape_of-gains
-shape_of-gains c = c.loop-i.invariant.4
-
-pub shape_of-index : goal.shape_of-index
-shape_of-index c = c.loop-i.invariant.5
-
-pub shape_of-presentpins : goal.shape_of-presentpins
-shape_of-presentpins c = c.loop-i.invariant.6
-
-pub shape_of-presentsizes : goal.shape_of-presentsizes
-shape_of-presentsizes c = c.loop-i.invariant.7
-
-pub shape_of-bits : goal.shape_of-bits
-shape_of-bits c = c.loop-i.invariant.8
-
-pub shape_of-blocks : goal.shape_of-blocks
-shape_of-blocks c = c.loop-i.invariant.9
-
-pub shape_of-weights : goal.shape_of-weights
-shape_of-weights c = c.loop-i.invariant.10
-
-pub shape_of-aboves : goal.shape_of-aboves
-shape_of-aboves c = c.loop-i.invariant.11
-
-pub shape_of-fixed : goal.shape_of-fixed
-shape_of-fixed c = c.loop-i.invariant.12
-
-pub shape_of-loadedpins : goal.shape_of-loadedpins
-shape_of-loadedpins c = c.loop-i.invariant.13
-
-pub shape_of-firsts : goal.shape_of-firsts
-shape_of-firsts c = c.loop-i.invariant.14
-
-pub shape_of-loadedsizes : goal.shape_of-loadedsizes
-shape_of-loadedsizes c = c.loop-i.invariant.15
-
 pub returns : goal.returns
 returns c = λ limits h old b. done_all (omega (arith, c.loop-i-test.false, c.loop-i.invariant.16)) (c.loop-i.invariant.0 limits h old b)

@@ -52,55 +52,7 @@ pub loop-i-smaller : goal.loop-i-smaller
 loop-i-smaller c = omega (arith, c.requires.listed.few, c.requires.listed.long, c.loop-i-test.true)
 
 pub loop-i-preserved : goal.loop-i-preserved
-loop-i-preserved c = (ran-next c.requires c.loop-i.invariant.0 c.loop-i-test.true c.loop-i.invariant.17 _ _ c.wide.ensures c.wide-in-loop-i.ensures refl c.led-t.ensures, c.led-t.auto.0 ∙ c.loop-i.invariant.1, c.led-t.auto.1.0 ∙ c.loop-i.invariant.2, c.led-t.auto.1.1.0 ∙ c.loop-i.invariant.3, c.led-t.auto.1.1.1.0 ∙ c.loop-i.invariant.4, c.led-t.auto.1.1.1.1.0 ∙ c.loop-i.invariant.5, c.led-t.auto.1.1.1.1.1.0 ∙ c.loop-i.invariant.6, c.led-t.auto.1.1.1.1.1.1.0 ∙ c.loop-i.invariant.7, c.led-t.auto.1.1.1.1.1.1.1.0 ∙ c.loop-i.invariant.8, c.led-t.auto.1.1.1.1.1.1.1.1.0 ∙ c.loop-i.invariant.9, c.led-t.auto.1.1.1.1.1.1.1.1.1.0 ∙ c.loop-i.invariant.10, c.led-t.auto.1.1.1.1.1.1.1.1.1.1.0 ∙ c.loop-i.invariant.11, c.led-t.auto.1.1.1.1.1.1.1.1.1.1.1.0 ∙ c.loop-i.invariant.12, c.led-t.auto.1.1.1.1.1.1.1.1.1.1.1.1.0 ∙ c.loop-i.invariant.13, c.led-t.auto.1.1.1.1.1.1.1.1.1.1.1.1.1.0 ∙ c.loop-i.invariant.14, c.led-t.auto.1.1.1.1.1.1.1.1.1.1.1.1.1.1.0 ∙ c.loop-i.invariant.15, c.led-t.auto.1.1.1.1.1.1.1.1.1.1.1.1.1.1.1.0 ∙ c.loop-i.invariant.16, c.led-t.ensures.as_many ∙ c.loop-i.invariant.17, omega (arith, c.loop-i-test.true))
-
-pub shape_of-output : goal.shape_of-output
-shape_of-output c = c.loop-i.invariant.1
-
-pub shape_of-counts : goal.shape_of-counts
-shape_of-counts c = c.loop-i.invariant.2
-
-pub shape_of-visited : goal.shape_of-visited
-shape_of-visited c = c.loop-i.invariant.3
-
-pub shape_of-gains : goal.shape_of-gains
-shape_of-gains c = c.loop-i.invariant.4
-
-pub shape_of-index : goal.shape_of-index
-shape_of-index c = c.loop-i.invariant.5
-
-pub shape_of-presentpins : goal.shape_of-presentpins
-shape_of-presentpins c = c.loop-i.invariant.6
-
-pub shape_of-presentsizes : goal.shape_of-presentsizes
-shape_of-presentsizes c = c.loop-i.invariant.7
-
-pub shape_of-bits : goal.shape_of-bits
-shape_of-bits c = c.loop-i.invariant.8
-
-pub shape_of-blocks : goal.shape_of-blocks
-shape_of-blocks c = c.loop-i.invariant.9
-
-pub shape_of-weights : goal.shape_of-weights
-shape_of-weights c = c.loop-i.invariant.10
-
-pub shape_of-aboves : goal.shape_of-aboves
-shape_of-aboves c = c.loop-i.invariant.11
-
-pub shape_of-fixed : goal.shape_of-fixed
-shape_of-fixed c = c.loop-i.invariant.12
-
-pub shape_of-loads : goal.shape_of-loads
-shape_of-loads c = c.loop-i.invariant.13
-
-pub shape_of-loadedpins : goal.shape_of-loadedpins
-shape_of-loadedpins c = c.loop-i.invariant.14
-
-pub shape_of-firsts : goal.shape_of-firsts
-shape_of-firsts c = c.loop-i.invariant.15
-
-pub shape_of-loadedsizes : goal.shape_of-loadedsizes
-shape_of-loadedsizes c = c.loop-i.invariant.16
+loop-i-preserved c = (ran-next c.requires c.loop-i.invariant.0 c.loop-i-test.true c.loop-i.invariant.17 _ _ c.wide.ensures c.wide-in-loop-i.ensures refl c.led-t.ensures, c.led-t.auto.output ∙ c.loop-i.invariant.1, c.led-t.auto.counts ∙ c.loop-i.invariant.2, c.led-t.auto.visited ∙ c.loop-i.invariant.3, c.led-t.auto.gains ∙ c.loop-i.invariant.4, c.led-t.auto.index ∙ c.loop-i.invariant.5, c.led-t.auto.presentpins ∙ c.loop-i.invariant.6, c.led-t.auto.presentsizes ∙ c.loop-i.invariant.7, c.led-t.auto.bits ∙ c.loop-i.invariant.8, c.led-t.auto.blocks ∙ c.loop-i.invariant.9, c.led-t.auto.weights ∙ c.loop-i.invariant.10, c.led-t.auto.aboves ∙ c.loop-i.invariant.11, c.led-t.auto.fixed ∙ c.loop-i.invariant.12, c.led-t.auto.loads ∙ c.loop-i.invariant.13, c.led-t.auto.loadedpins ∙ c.loop-i.invariant.14, c.led-t.auto.firsts ∙ c.loop-i.invariant.15, c.led-t.auto.loadedsizes ∙ c.loop-i.invariant.16, c.led-t.ensures.as_many ∙ c.loop-i.invariant.17, omega (arith, c.loop-i-test.true))
 
 pub returns : goal.returns
 returns c = ran-all (omega (arith, c.loop-i-test.false, c.loop-i.invariant.18)) c.loop-i.invariant.0

@@ -33,10 +33,7 @@ pub loop-c-smaller : goal.loop-c-smaller
 loop-c-smaller c = omega (arith, c.loop-c-test.true)
 
 pub loop-c-preserved : goal.loop-c-preserved
-loop-c-preserved c = close_more c.loop-c.invariant c.loop-c-test.true c.close_set-p.auto.0 c.close_set-p.ensures
-
-pub shape_of-output : goal.shape_of-output
-shape_of-output c = c.loop-c.invariant.same
+loop-c-preserved c = close_more c.loop-c.invariant c.loop-c-test.true c.close_set-p.auto.output c.close_set-p.ensures
 
 pub returns : goal.returns
 returns c = close-all c.loop-c.invariant (omega (arith, c.loop-c-test.false))

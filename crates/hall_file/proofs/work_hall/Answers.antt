@@ -12,11 +12,11 @@ load_hall-loaded-requires c =
 
 pub refuse-end-requires : goal.refuse-end-requires
 refuse-end-requires c =
-    let refused = c.answer-1.given.1 in
+    let refused = c.in-Refused.is in
     ((small c.load_hall-loaded.ensures refused).1, omega (arith, line-fits c.load_hall-loaded.ensures refused, c.requires.spacious))
 
 pub overflow_cast-number : goal.overflow_cast-number
-overflow_cast-number c = omega (arith, (small c.load_hall-loaded.ensures c.answer-1.given.1).0)
+overflow_cast-number c = omega (arith, (small c.load_hall-loaded.ensures c.in-Refused.is).0)
 
 pub report_hall-end-requires : goal.report_hall-end-requires
 report_hall-end-requires c =
@@ -28,13 +28,13 @@ report_hall-end-requires c =
       estimated = _;
       old = _;
       lows = _;
-      catalogued = catalogued _ loaded.ensures c.answer-in-Accepted-1.given.1 long.long (record { weights-four = omega (arith, four.weights-four, loaded.auto.1.0); blocks-four = omega (arith, four.blocks-four, loaded.auto.1.1.0); aboves-four = omega (arith, four.aboves-four, loaded.auto.1.1.1.0); fixed-four = omega (arith, four.fixed-four, loaded.auto.1.1.1.1.0); loaded_pins-four = omega (arith, four.loaded_pins-four, loaded.auto.1.1.1.1.1.0); present_pins-four = omega (arith, four.present_pins-four, loaded.auto.1.1.1.1.1.1.0); firsts-four = omega (arith, four.firsts-four, loaded.auto.1.1.1.1.1.1.1.0); loaded_sizes-four = omega (arith, four.loaded_sizes-four, loaded.auto.1.1.1.1.1.1.1.1.0); present_sizes-four = omega (arith, four.present_sizes-four, loaded.auto.1.1.1.1.1.1.1.1.1.0); counts-four = four.counts-four; gains-four = four.gains-four; index-four = four.index-four; visited-four = four.visited-four }) (omega (arith, own-four (replicate 1024 0), loaded.auto.1.1.1.1.1.1.1.1.1.1.0)) (omega (arith, length-replicate {A = ℕ} 2048 0, loaded.auto.1.1.1.1.1.1.1.1.1.1.1.1.0));
+      catalogued = catalogued _ loaded.ensures c.in-Accepted.is long.long (record { weights-four = omega (arith, four.weights-four, loaded.auto.weights); blocks-four = omega (arith, four.blocks-four, loaded.auto.blocks); aboves-four = omega (arith, four.aboves-four, loaded.auto.aboves); fixed-four = omega (arith, four.fixed-four, loaded.auto.fixed); loaded_pins-four = omega (arith, four.loaded_pins-four, loaded.auto.loadedpins); present_pins-four = omega (arith, four.present_pins-four, loaded.auto.presentpins); firsts-four = omega (arith, four.firsts-four, loaded.auto.firsts); loaded_sizes-four = omega (arith, four.loaded_sizes-four, loaded.auto.loadedsizes); present_sizes-four = omega (arith, four.present_sizes-four, loaded.auto.presentsizes); counts-four = four.counts-four; gains-four = four.gains-four; index-four = four.index-four; visited-four = four.visited-four }) (omega (arith, own-four (replicate 1024 0), loaded.auto.netweights)) (omega (arith, length-replicate {A = ℕ} 2048 0, loaded.auto.calls));
       spacious = long.spacious;
     }
 
 pub returns-in-Refused : goal.returns-in-Refused
 returns-in-Refused c =
-    let refused = c.answer-1.given.1 in
+    let refused = c.in-Refused.is in
     (turned_down c.load_hall-loaded.ensures refused refl c.refuse-end.ensures, no-lots c.load_hall-loaded.ensures refused (λ d l. zeros-get 4 d))
 
 pub returns-in-Accepted : goal.returns-in-Accepted
@@ -42,5 +42,5 @@ returns-in-Accepted c =
     let long = c.requires in
     let four = long.four in
     let loaded = c.load_hall-loaded in
-    let told = c.report_hall-end.ensures _ _ _ _ (catalogued _ loaded.ensures c.answer-in-Accepted-1.given.1 long.long (record { weights-four = omega (arith, four.weights-four, loaded.auto.1.0); blocks-four = omega (arith, four.blocks-four, loaded.auto.1.1.0); aboves-four = omega (arith, four.aboves-four, loaded.auto.1.1.1.0); fixed-four = omega (arith, four.fixed-four, loaded.auto.1.1.1.1.0); loaded_pins-four = omega (arith, four.loaded_pins-four, loaded.auto.1.1.1.1.1.0); present_pins-four = omega (arith, four.present_pins-four, loaded.auto.1.1.1.1.1.1.0); firsts-four = omega (arith, four.firsts-four, loaded.auto.1.1.1.1.1.1.1.0); loaded_sizes-four = omega (arith, four.loaded_sizes-four, loaded.auto.1.1.1.1.1.1.1.1.0); present_sizes-four = omega (arith, four.present_sizes-four, loaded.auto.1.1.1.1.1.1.1.1.1.0); counts-four = four.counts-four; gains-four = four.gains-four; index-four = four.index-four; visited-four = four.visited-four }) (omega (arith, own-four (replicate 1024 0), loaded.auto.1.1.1.1.1.1.1.1.1.1.0)) (omega (arith, length-replicate {A = ℕ} 2048 0, loaded.auto.1.1.1.1.1.1.1.1.1.1.1.1.0))) in
+    let told = c.report_hall-end.ensures _ _ _ _ (catalogued _ loaded.ensures c.in-Accepted.is long.long (record { weights-four = omega (arith, four.weights-four, loaded.auto.weights); blocks-four = omega (arith, four.blocks-four, loaded.auto.blocks); aboves-four = omega (arith, four.aboves-four, loaded.auto.aboves); fixed-four = omega (arith, four.fixed-four, loaded.auto.fixed); loaded_pins-four = omega (arith, four.loaded_pins-four, loaded.auto.loadedpins); present_pins-four = omega (arith, four.present_pins-four, loaded.auto.presentpins); firsts-four = omega (arith, four.firsts-four, loaded.auto.firsts); loaded_sizes-four = omega (arith, four.loaded_sizes-four, loaded.auto.loadedsizes); present_sizes-four = omega (arith, four.present_sizes-four, loaded.auto.presentsizes); counts-four = four.counts-four; gains-four = four.gains-four; index-four = four.index-four; visited-four = four.visited-four }) (omega (arith, own-four (replicate 1024 0), loaded.auto.netweights)) (omega (arith, length-replicate {A = ℕ} 2048 0, loaded.auto.calls))) in
     (told.worked, told.lots-are)

@@ -31,7 +31,7 @@ pub bounds-courses-c : goal.bounds-courses-c
 bounds-courses-c c = omega (arith, (in-range c.requires.led_ready).0, c.requires.led_ready.cs-len)
 
 pub step_on-after-requires : goal.step_on-after-requires
-step_on-after-requires c = record { can_step = can-step c.requires.led_ready c.rooms-room.ensures c.ceilings-most.ensures c.lots_left-lots.ensures c.marks_left-marks.ensures _ refl c.put_lead-here.ensures.ends c.put_lead-here.auto.0 refl; le_y = c.requires.le_y }
+step_on-after-requires c = record { can_step = can-step c.requires.led_ready c.rooms-room.ensures c.ceilings-most.ensures c.lots_left-lots.ensures c.marks_left-marks.ensures _ refl c.put_lead-here.ensures.ends c.put_lead-here.auto.out refl; le_y = c.requires.le_y }
 
 pub offset_bounds-all-c : goal.offset_bounds-all-c
 offset_bounds-all-c c = omega (arith, (in-range c.requires.led_ready).0)

@@ -8,10 +8,10 @@ pub put_number-p-requires : goal.put_number-p-requires
 put_number-p-requires c = omega (arith, c.requires, length-append (digits c.args.desk) (44 ∷ []))
 
 pub bounds-out-p : goal.bounds-out-p
-bounds-out-p c = omega (arith, c.requires, length-append (digits c.args.desk) (44 ∷ []), c.put_number-p.ensures.0, c.put_number-p.auto.0)
+bounds-out-p c = omega (arith, c.requires, length-append (digits c.args.desk) (44 ∷ []), c.put_number-p.ensures.0, c.put_number-p.auto.out)
 
 pub overflow_add-result : goal.overflow_add-result
-overflow_add-result c = omega (arith, c.requires, length-append (digits c.args.desk) (44 ∷ []), c.put_number-p.ensures.0, c.put_number-p.auto.0)
+overflow_add-result c = omega (arith, c.requires, length-append (digits c.args.desk) (44 ∷ []), c.put_number-p.ensures.0, c.put_number-p.auto.out)
 
 pub returns : goal.returns
 returns c = wrote-snoc 44 (omega (arith, c.requires, length-append (digits c.args.desk) (44 ∷ []))) (record { ends = c.put_number-p.ensures.0; is = c.put_number-p.ensures.1 })

@@ -36,23 +36,5 @@ loop-c-smaller c = omega (arith, c.loop-c-test.true)
 pub loop-c-preserved : goal.loop-c-preserved
 loop-c-preserved c = open_more c.loop-c.invariant c.loop-c-test.true c.open_set.ensures
 
-pub shape_of-counts : goal.shape_of-counts
-shape_of-counts c = c.loop-c.invariant.same.counts_same
-
-pub shape_of-visited : goal.shape_of-visited
-shape_of-visited c = c.loop-c.invariant.same.visited-same
-
-pub shape_of-gains : goal.shape_of-gains
-shape_of-gains c = c.loop-c.invariant.same.gains-same
-
-pub shape_of-index : goal.shape_of-index
-shape_of-index c = c.loop-c.invariant.same.index_same
-
-pub shape_of-bits : goal.shape_of-bits
-shape_of-bits c = c.loop-c.invariant.same.bits-same
-
-pub shape_of-loads : goal.shape_of-loads
-shape_of-loads c = c.loop-c.invariant.same.loads-same
-
 pub returns : goal.returns
 returns c = open-all c.loop-c.invariant (omega (arith, c.loop-c-test.false))

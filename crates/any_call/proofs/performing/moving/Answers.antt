@@ -12,7 +12,7 @@ returns-then-letter-eq-M c =
 
 pub returns-then-letter-eq-B : goal.returns-then-letter-eq-B
 returns-then-letter-eq-B c =
-    record { by_index = λ aboves loaded S h ceiling q f. called-as (is-B c.args.letter c.args.x c.args.y c.if-letter-eq-M.false c.if-letter-eq-B.true) c.answer-then-letter-eq-B.ensures (c.Call-back.ensures.0 aboves loaded S h ceiling); keeps_right = c.Call-back.ensures.1 }
+    record { by_index = λ aboves loaded S h ceiling q f. called-as (is-B c.args.letter c.args.x c.args.y c.if-letter-eq-M.false c.if-letter-eq-B.true) c.answer-then-letter-eq-B.ensures (c.call_back-t.ensures.by_index aboves loaded S h ceiling); keeps_right = c.call_back-t.ensures.keeps_right }
 
 pub returns-then-letter-eq-W : goal.returns-then-letter-eq-W
 returns-then-letter-eq-W c =

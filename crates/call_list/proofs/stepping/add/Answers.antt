@@ -7,66 +7,24 @@ use Rattle.call_list.proofs.stepping.add.Goals as goal
 
 pub call_add-t-requires : goal.call_add-t-requires
 call_add-t-requires c =
-    let can = c.pre in
+    let can = c.requires in
     record { limits = can.limits; a = can.a; S = _; ceiling = capacities can.a.graph; asks = asks-add can.goes can.under; ceilings-whole = can.ceilings-whole }
 
 pub added-requires : goal.added-requires
 added-requires c =
-    let can = c.pre in
+    let can = c.requires in
     lot-small _ _ _ _ _ _ can.goes.stands.valid can.goes.stands.short (at-limit can.a (call_n _ _ _) can.under.lots-are (c.call_add-t.ensures.turns can.limits can.a _ (capacities can.a.graph) (asks-add can.goes can.under)))
 
 pub put_answer-end-requires : goal.put_answer-end-requires
 put_answer-end-requires c =
-    let can = c.pre in
+    let can = c.requires in
     late-fits can (c.added.ensures ∙ (at-limit can.a (call_n _ _ _) can.under.lots-are (c.call_add-t.ensures.turns can.limits can.a _ (capacities can.a.graph) (asks-add can.goes can.under))).says)
 
 pub mark_fixed-fixedmarks-requires : goal.mark_fixed-fixedmarks-requires
 mark_fixed-fixedmarks-requires c =
-    let can = c.pre in
+    let can = c.requires in
     let w = (at-limit can.a (call_n _ _ _) can.under.lots-are (c.call_add-t.ensures.turns can.limits can.a _ (capacities can.a.graph) (asks-add can.goes can.under))).stands in
     (omega (arith, all-lots w, w.valid.ranges.vertices-high, w.short), omega (arith, all-lots w, w.valid.ranges.vertices-high, w.long.fixed-long))
-
-pub shape_of-counts : goal.shape_of-counts
-shape_of-counts c = c.call_add-t.kept.0
-
-pub shape_of-visited : goal.shape_of-visited
-shape_of-visited c = c.call_add-t.kept.1.0
-
-pub shape_of-gains : goal.shape_of-gains
-shape_of-gains c = c.call_add-t.kept.1.1.0
-
-pub shape_of-index : goal.shape_of-index
-shape_of-index c = c.call_add-t.kept.1.1.1.0
-
-pub shape_of-presentpins : goal.shape_of-presentpins
-shape_of-presentpins c = c.call_add-t.kept.1.1.1.1.0
-
-pub shape_of-presentsizes : goal.shape_of-presentsizes
-shape_of-presentsizes c = c.call_add-t.kept.1.1.1.1.1.0
-
-pub shape_of-bits : goal.shape_of-bits
-shape_of-bits c = c.call_add-t.kept.1.1.1.1.1.1.0
-
-pub shape_of-blocks : goal.shape_of-blocks
-shape_of-blocks c = c.call_add-t.kept.1.1.1.1.1.1.1.0
-
-pub shape_of-weights : goal.shape_of-weights
-shape_of-weights c = c.call_add-t.kept.1.1.1.1.1.1.1.1.0
-
-pub shape_of-aboves : goal.shape_of-aboves
-shape_of-aboves c = c.call_add-t.kept.1.1.1.1.1.1.1.1.1.0
-
-pub shape_of-fixed : goal.shape_of-fixed
-shape_of-fixed c = c.call_add-t.kept.1.1.1.1.1.1.1.1.1.1.0
-
-pub shape_of-loadedpins : goal.shape_of-loadedpins
-shape_of-loadedpins c = c.call_add-t.kept.1.1.1.1.1.1.1.1.1.1.1.1.0
-
-pub shape_of-firsts : goal.shape_of-firsts
-shape_of-firsts c = c.call_add-t.kept.1.1.1.1.1.1.1.1.1.1.1.1.1.0
-
-pub shape_of-loadedsizes : goal.shape_of-loadedsizes
-shape_of-loadedsizes c = c.call_add-t.kept.1.1.1.1.1.1.1.1.1.1.1.1.1.1.0
 
 pub returns : goal.returns
 returns c =

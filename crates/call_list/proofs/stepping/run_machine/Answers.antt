@@ -4,7 +4,7 @@ use Rattle.call_list.specs.Machine.{can-perform, machine-fits, long_as, went-mac
 use Rattle.call_list.proofs.stepping.run_machine.Goals as goal
 
 pub perform-t-requires : goal.perform-t-requires
-perform-t-requires c = can-perform c.requires
+perform-t-requires c = let can = can-perform c.requires in record { ready_a = can.0; n_in_bounds = can.1 }
 
 pub put_answer-end-requires : goal.put_answer-end-requires
 put_answer-end-requires c =
@@ -15,6 +15,6 @@ pub returns : goal.returns
 returns c =
     record {
       went = λ limits a old g u. went-machine g _ (c.perform-t.ensures.called a.graph (capacities a.graph) u.average-is u.ceiling-is g.marked) refl refl refl refl refl c.perform-t.ensures.keeps_right
-          (long_as g.stands.long c.perform-t.auto.1.1.1.1.1.1.1.1.0 c.perform-t.auto.1.1.1.1.1.1.1.0 c.perform-t.auto.1.1.1.1.1.1.1.1.1.0 c.perform-t.auto.1.1.0 c.perform-t.auto.1.1.1.1.1.1.0 c.perform-t.auto.1.1.1.1.0 c.perform-t.auto.1.1.1.0)
+          (long_as g.stands.long c.perform-t.auto.weights c.perform-t.auto.blocks c.perform-t.auto.aboves c.perform-t.auto.gains c.perform-t.auto.bits c.perform-t.auto.presentpins c.perform-t.auto.index)
           c.put_answer-end.ensures;
     }

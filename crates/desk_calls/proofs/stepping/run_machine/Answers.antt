@@ -4,7 +4,7 @@ use Rattle.desk_calls.specs.Machine.{can-perform, machine-fits, went-machine}
 use Rattle.desk_calls.proofs.stepping.run_machine.Goals as goal
 
 pub perform_beside-t-requires : goal.perform_beside-t-requires
-perform_beside-t-requires c = can-perform c.requires
+perform_beside-t-requires c = let can = can-perform c.requires in record { ready_a = can.0; n_in_bounds = can.1 }
 
 pub put_answer-end-requires : goal.put_answer-end-requires
 put_answer-end-requires c =
@@ -15,6 +15,6 @@ pub returns : goal.returns
 returns c =
     record {
       went = λ o a old y. went-machine y _ (c.perform_beside-t.ensures.beside_called o a.graph y.fits.average-is y.fits.rooms-are y.goes.marked) refl refl refl refl refl c.perform_beside-t.ensures.keeps_right
-          (long_as y.goes.stands.long c.perform_beside-t.auto.1.1.1.1.1.1.1.1.0 c.perform_beside-t.auto.1.1.1.1.1.1.1.0 c.perform_beside-t.auto.1.1.1.1.1.1.1.1.1.0 c.perform_beside-t.auto.1.1.0 c.perform_beside-t.auto.1.1.1.1.1.1.0 c.perform_beside-t.auto.1.1.1.1.0 c.perform_beside-t.auto.1.1.1.0)
+          (long_as y.goes.stands.long c.perform_beside-t.auto.weights c.perform_beside-t.auto.blocks c.perform_beside-t.auto.aboves c.perform_beside-t.auto.gains c.perform_beside-t.auto.bits c.perform_beside-t.auto.presentpins c.perform_beside-t.auto.index)
           c.put_answer-end.ensures;
     }
