@@ -6,7 +6,7 @@ use mathlib.Core.Bool.{Bool, true, false, cond}
 use native.Mathlib.Omega.{arith}
 use lib.ListN.{length}
 use lib.Seq.{slice}
-use Rattle.model.specs.Grammar.{Fields, fields, parts, is_number, bytes, same, is_line, asked, nothing, Asked}
+use Rattle.model.specs.Grammar.{Fields, fields, is_number, bytes, same, is_line, asked, nothing, Asked}
 use Rattle.text.specs.Field.{NumberRead}
 use Rattle.text.proofs.Lines.{parts-on, parts_last, parts_first, field_end, field_found}
 use Rattle.lines.specs.Late.{answered, CallRead}

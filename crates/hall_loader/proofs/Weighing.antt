@@ -11,7 +11,7 @@ use lib.ListN.{length, get_or, take}
 use lib.Seq.{length-take-le, get_or-take}
 use Rattle.laws.specs.Fold.{sum_over, sum_over-more, all-get}
 use Rattle.laws.specs.Sum.{sum, sum_to, sum-zero, sum-suc, sum_step, sum_mono, sum-const, sum-sum_to, fold_to-none, fold_to-more, fold_to-found, fold_to-ext}
-use Rattle.model.specs.Catalogue.{vertices, loaded, drafted}
+use Rattle.model.specs.Catalogue.{loaded, drafted}
 use Rattle.model.specs.Measure.{block_weight}
 use Rattle.model.specs.Machine.{fresh}
 use Rattle.model.specs.Grammar.{Book}

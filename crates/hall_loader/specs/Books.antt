@@ -1,6 +1,6 @@
 -- The catalogues that sizes and sets of tables show, and what loading them one after another promises. Rests on Sets and on loader's promise of a catalogue.
 -- Assumes nothing.
-use Rattle.std.specs.Prelude.{ℕ, zero, suc, ◌+◌, ◌-◌, ◌≤◌, ◌<◌, ◌≡◌, Bool, cond, List, [], ◌∷◌, ◌++◌, length, get_or}
+use Rattle.std.specs.Prelude.{ℕ, zero, suc, ◌-◌, ◌≤◌, ◌<◌, ◌≡◌, Bool, cond, List, [], ◌∷◌, ◌++◌, length, get_or}
 use Rattle.std.proofs.Math.Seq.{slice}
 use Rattle.model.specs.Catalogue.{Limits, main_limits}
 use Rattle.model.specs.Grammar.{Book, unread, parts}

@@ -8,20 +8,19 @@ use mathlib.Core.List.{List}
 use lib.Dec.{leb}
 use lib.ListN.{length, get_or, take}
 use Rattle.laws.specs.Choice.{and_left, and_right}
-use Rattle.model.specs.Catalogue.{main_limits, vertices}
+use Rattle.model.specs.Catalogue.{main_limits}
 use Rattle.model.specs.Sale.{Sale}
 use Rattle.model.specs.Engine.{Outcome}
 use Rattle.model.specs.Memory.{Tables, long_tables, Holds}
 use Rattle.model.specs.Hall.{no_desk, desk_of, hall_after, fresh_desks}
 use Rattle.model.specs.HallText.{HallBook, HallReading, hall_unread, in_catalogue, in_calls, hall_stopped, graphs, parse_hall, hall_outcome}
-use Rattle.model.specs.HallDemand.{HallMemory, long_hall, Numbered, HallLeft, SetsLeft}
+use Rattle.model.specs.HallDemand.{long_hall, HallLeft, SetsLeft}
 use Rattle.model.specs.Sheets.{hall_sheets, hall_sheets_outcome, sheets_of_hall, Printed}
 use Rattle.guarantees.specs.Reached.{Valid}
 use Rattle.hall_guarantees.specs.Loading.{hall-opens}
 use Rattle.hall_guarantees.specs.Fits.{graphs-length, hall-refused-in}
 use Rattle.sheet_guarantees.specs.Fits.{ended-fine, hall-sheets-fit}
 use Rattle.fields.specs.Wrote.{Wrote}
-use Rattle.sheet_rows.specs.Tables.{Ended}
 use Rattle.sheet_rows.proofs.Promise.{long-is, ended-lots}
 use Rattle.sheet_rows.proofs.Printed.{report-in, report-is, prints}
 use Rattle.hall_rows.specs.Desks.{HallEnded, Catalogues}

@@ -4,7 +4,7 @@ use Rattle.model.specs.Report.{digits}
 use Rattle.model.specs.Sale.{Sale}
 use Rattle.model.specs.Hall.{no_desk}
 use Rattle.model.specs.Sheets.{sheets, hall_sheets}
-use Rattle.sheet_rows.specs.Tables.{Ended, SaleFits}
+use Rattle.sheet_rows.specs.Tables.{Ended}
 
 -- the sheets of the catalogue at place c fit
 pub record DeskFits (room at c : ℕ) (blocks aboves pins firsts sizes visited : List ℕ) : Type 0 where

@@ -1,6 +1,6 @@
 -- What the hall's entry left for a file, in memory in which the lots above and the buyers' first places of every set held 65,535. Rests on model's
 -- HallDemand. Assumes nothing.
-use Rattle.std.specs.Prelude.{ℕ, suc, ◌<◌, ◌≤◌, ◌≡◌, true, List, [], length, get_or}
+use Rattle.std.specs.Prelude.{ℕ, suc, ◌<◌, ◌≡◌, true, List, [], length, get_or}
 use Rattle.model.specs.Memory.{Tables}
 use Rattle.model.specs.HallText.{parse_hall}
 use Rattle.model.specs.HallDemand.{HallMemory, long_hall, HallWorked}

@@ -1,19 +1,15 @@
 -- What is carried over, by a plan of a well-written input: edges, weights, listing. Rests on Check of specs.
-use Prim.Native.Nat.{ℕ, zero, suc, ◌+◌, ◌-◌, ◌≤◌, ◌<◌}
+use Prim.Native.Nat.{ℕ, zero, suc, ◌≤◌}
 use native.Mathlib.Omega.{arith}
-use native.Mathlib.Numerals.{add-one}
 use mathlib.Core.Path.{◌≡◌, refl, ap, ap₂, sym, ◌∙◌, subst}
-use mathlib.Core.Bool.{Bool, true, false, not, ◌&&◌, cond, true≢false}
-use mathlib.Core.List.{List, [], ◌∷◌, map}
-use borrow.Author.Tests.{eq-eqb, ne_eqb, le-leb, lt-leb, leb-true}
-use lib.Dec.{eqb, leb, ltb}
-use lib.ListN.{length, take, drop, replicate, length-replicate, length-map, length-drop}
-use Rattle.laws.specs.Fold.{sum_over, all}
-use Rattle.laws.specs.Choice.{and_left, and_right}
-use Rattle.model.specs.Grammar.{is_number, value, within, at}
+use mathlib.Core.Bool.{Bool, true, false, ◌&&◌, cond}
+use mathlib.Core.List.{List, ◌∷◌, map}
+use lib.Dec.{leb}
+use lib.ListN.{length, take, replicate, length-replicate, length-map, length-drop}
+use Rattle.laws.specs.Fold.{all}
+use Rattle.model.specs.Grammar.{is_number, value, within}
 use Rattle.guarantees.specs.Reading.{within-range}
-use Rattle.model.specs.CatalogueText.{buy_text}
-use Rattle.model.specs.Hmetis.{Edge, is_edge, edge_of, edges_weighted, vertices_weighted, Hmetis, first_line, body, code, edge_count, vertex_count, weight_count, edge_lines, weight_lines, said}
+use Rattle.model.specs.Hmetis.{is_edge, edge_of, edges_weighted, vertices_weighted, Hmetis, body, code, edge_lines, said}
 use Rattle.model.specs.Convert.{carried}
 use Rattle.conversion.specs.Well.{edges-count}
 use Rattle.conversion.specs.Carries.{carried-parts}

@@ -1,16 +1,14 @@
 -- Weight codes and headers. Rests on Form of specs.
-use Prim.Native.Nat.{ℕ, zero, suc, ◌+◌, ◌≤◌, ◌<◌}
+use Prim.Native.Nat.{ℕ, suc, ◌≤◌, ◌<◌}
 use native.Mathlib.Omega.{arith}
-use mathlib.Core.Path.{◌≡◌, refl, ap, sym, ◌∙◌, subst}
+use mathlib.Core.Path.{◌≡◌, refl, ap, sym, ◌∙◌}
 use mathlib.Core.Bool.{Bool, true, false, ◌&&◌, ◌||◌, cond, true≢false}
-use mathlib.Core.List.{List, [], ◌∷◌}
+use mathlib.Core.List.{List, []}
 use borrow.Author.Tests.{eqb-true, eq-eqb, ne_eqb, le-leb}
-use lib.Dec.{eqb, leb}
-use lib.ListN.{length}
+use lib.Dec.{eqb}
 use Rattle.laws.specs.Fold.{all}
-use Rattle.laws.specs.Choice.{and_left, and_right}
-use Rattle.model.specs.Grammar.{Fields, bytes, parts, is_number, at}
-use Rattle.model.specs.Hmetis.{later, words, numbers_in, is_header, code_in, edges_weighted, vertices_weighted}
+use Rattle.model.specs.Grammar.{bytes, parts, is_number, at}
+use Rattle.model.specs.Hmetis.{later, words, numbers_in, is_header, code_in}
 use Rattle.spaced.specs.Row.{Numbers}
 use Rattle.spaced.proofs.Edges.{numbers-are}
 use Rattle.hgr.specs.Form.{known_code, code_or}

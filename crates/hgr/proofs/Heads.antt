@@ -1,18 +1,17 @@
 -- The first line and the header of an input. Rests on Codes and on passes' laws of rows.
-use Prim.Native.Nat.{ℕ, zero, suc, ◌+◌, ◌-◌, ◌≤◌, ◌<◌}
+use Prim.Native.Nat.{ℕ, ◌+◌, ◌-◌, ◌≤◌, ◌<◌}
 use native.Mathlib.Omega.{arith}
-use mathlib.Core.Path.{◌≡◌, refl, ap, sym, ◌∙◌, subst}
-use mathlib.Core.Bool.{Bool, true, false, ◌&&◌, cond, true≢false}
+use mathlib.Core.Path.{◌≡◌, refl, ap, sym, ◌∙◌}
+use mathlib.Core.Bool.{Bool, true, false, true≢false}
 use mathlib.Core.List.{List, [], ◌∷◌}
 use borrow.Author.Tests.{eq-eqb, ne_eqb}
-use lib.Dec.{eqb}
 use lib.ListN.{length, get_or, drop}
 use lib.Seq.{slice, take-length}
 use Rattle.laws.specs.Fold.{all}
-use Rattle.model.specs.Grammar.{Fields, bytes, same, parts, fields, at, is_number, is_line, is_line_of}
+use Rattle.model.specs.Grammar.{Fields, bytes, same, parts, fields, at, is_line, is_line_of}
 use Rattle.text.specs.Field.{FirstAt, form_of, Numbered}
 use Rattle.text.proofs.Lines.{numbered, line-yes, line-no}
-use Rattle.model.specs.Hmetis.{lines_of, is_ended, is_part, Sections, with_line, sections, words, is_header, code_in, first_line}
+use Rattle.model.specs.Hmetis.{lines_of, is_ended, is_part, Sections, words, is_header, code_in, first_line}
 use Rattle.conversion.specs.Well.{Well}
 use Rattle.passes.specs.Rows.{lines_at, sections_at, rows_at, RowAt}
 use Rattle.passes.proofs.Lines.{lines-on, lines_none}

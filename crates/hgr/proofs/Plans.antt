@@ -1,27 +1,27 @@
 -- A whole input checked: rows behind the header, PART, the listing; and what the flags that are kept on the way say. Rests on Heads and on
 -- conversion's Well.
-use Prim.Native.Nat.{ℕ, zero, suc, ◌+◌, ◌-◌, ◌≤◌, ◌<◌}
+use Prim.Native.Nat.{ℕ, suc, ◌+◌, ◌-◌, ◌≤◌}
 use native.Mathlib.Omega.{arith}
 use native.Mathlib.Decide.{ℕ_discrete}
 use mathlib.Core.Path.{◌≡◌, refl, ap, ap₂, sym, ◌∙◌, subst}
 use mathlib.Core.Bool.{Bool, true, false, ◌&&◌, cond, true≢false}
-use mathlib.Core.List.{List, [], ◌∷◌, map}
+use mathlib.Core.List.{List, [], map}
 use borrow.Author.Tests.{eqb-true, eq-eqb, ne_eqb}
 use lib.Dec.{eqb, leb, ltb}
 use lib.ListN.{length, get_or, take, drop, replicate, length-drop, length-map}
 use Rattle.laws.specs.Fold.{sum_over, all}
 use Rattle.laws.specs.Choice.{and_left, and_right}
-use Rattle.model.specs.Grammar.{is_number, value, within, at, is_line_of}
+use Rattle.model.specs.Grammar.{is_number, value, within, at}
 use Rattle.guarantees.specs.Reading.{within-range}
 use Rattle.model.specs.CatalogueText.{buy_text}
-use Rattle.model.specs.Hmetis.{Sections, sections, lines_of, is_header, code_in, words, Edge, is_edge, edge_of, edges_weighted, vertices_weighted, first_line, body, header, code, edge_count, vertex_count, weight_count, edge_lines, weight_lines, said}
+use Rattle.model.specs.Hmetis.{Sections, sections, is_header, code_in, words, Edge, is_edge, edge_of, edges_weighted, vertices_weighted, body, header, code, edge_count, vertex_count, weight_count, edge_lines, weight_lines, said}
 use Rattle.model.specs.Convert.{is_carried, carried, listed, net_of}
 use Rattle.conversion.specs.Well.{Well, well-not, edges-count}
 use Rattle.passes.specs.Rows.{lines_at, sections_at, rows_at, RowsPassed, PartPassed, list_count}
 use Rattle.passes.specs.Read.{BlocksRead, edges_at, EdgesRead}
 use Rattle.passes.proofs.Rows.{well-all, all-well}
-use Rattle.hgr.specs.Form.{FirstRead, HeaderRead, Begun, Sound}
-use Rattle.hgr.specs.Check.{in_range, weights_from, Weighed, Seen, Checked, Planned}
+use Rattle.hgr.specs.Form.{FirstRead, HeaderRead, Begun}
+use Rattle.hgr.specs.Check.{in_range, weights_from, Weighed, Checked, Planned}
 use Rattle.hgr.specs.declared.Plan.{Plan}
 
 pub checked-bad : (s : List ℕ) (well c l : Bool) (size : ℕ) (w d : List ℕ) → well ≡ false → (Well s → ⊥) → Checked s well c l size w d

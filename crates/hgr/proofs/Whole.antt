@@ -1,17 +1,17 @@
 -- A verdict on a well-written input, its text, and the converter's answer. Rests on Checks and on conversion's Loads.
-use Prim.Native.Nat.{ℕ, zero, suc, ◌+◌, ◌-◌, ◌≤◌, ◌<◌}
+use Prim.Native.Nat.{ℕ, suc, ◌+◌, ◌≤◌, ◌<◌}
 use native.Mathlib.Nat.{zero-add}
 use native.Mathlib.Omega.{arith}
 use mathlib.Core.Path.{◌≡◌, refl, ap, ap₂, sym, ◌∙◌, subst}
-use mathlib.Core.Bool.{Bool, true, false, not, ◌&&◌, cond, true≢false, and-false}
+use mathlib.Core.Bool.{Bool, true, false, not, ◌&&◌, cond, and-false}
 use mathlib.Core.List.{List, [], ◌∷◌, ◌++◌, map, append-nil}
-use borrow.Author.Tests.{eq-eqb, ne_eqb, le-leb, lt-leb, le-ltb, lt-ltb, leb-true, not-true, not-false}
-use lib.Dec.{eqb, leb, ltb}
+use borrow.Author.Tests.{eq-eqb, ne_eqb, le-leb, lt-leb, le-ltb, lt-ltb, leb-true, not-false}
+use lib.Dec.{leb, ltb}
 use lib.ListN.{length, take, drop, length-append, length-map, length-take}
 use lib.Seq.{take_all}
 use Rattle.laws.specs.Choice.{cond-zero, and_right}
 use Rattle.laws.specs.Fold.{sum_over}
-use Rattle.model.specs.Catalogue.{Net, Hypergraph, vertices}
+use Rattle.model.specs.Catalogue.{Hypergraph, vertices}
 use Rattle.model.specs.Grammar.{bytes, overfull}
 use Rattle.model.specs.Report.{digits, tail, row}
 use Rattle.model.specs.Memory.{Written}
@@ -23,9 +23,9 @@ use Rattle.fields.proofs.Laws.{remains-all, remains-more, remains-none, remains-
 use Rattle.reader.specs.Seen.{lots_graph}
 use Rattle.reader.specs.Buyers.{with_nets}
 use Rattle.reader.specs.Whole.{overfull_is}
-use Rattle.model.specs.Hmetis.{Edge, edges_weighted, Hmetis, first_line, vertex_count, well_written, said}
-use Rattle.model.specs.Convert.{carried, listed, net_of, catalogue_of, fits, refusal, converted, LoadsAs, Kept, Answered, Converts}
-use Rattle.conversion.specs.Well.{Well, vertices-are}
+use Rattle.model.specs.Hmetis.{Edge, edges_weighted, Hmetis, well_written, said}
+use Rattle.model.specs.Convert.{carried, listed, net_of, catalogue_of, fits, refusal, converted, Answered, Converts}
+use Rattle.conversion.specs.Well.{vertices-are}
 use Rattle.conversion.specs.Loads.{loads-as}
 use Rattle.passes.specs.Read.{edges_at}
 use Rattle.hgr.specs.Form.{Sound}

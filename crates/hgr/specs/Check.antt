@@ -1,9 +1,9 @@
 -- What is carried over, the tables that hold it, and its text. Rests on Form and on Convert. Assumes nothing.
-use Rattle.std.specs.Prelude.{ℕ, suc, ◌+◌, ◌≤◌, ◌≡◌, Bool, true, false, not, ◌&&◌, cond, List, [], ◌∷◌, ◌++◌, map, leb, length, take, replicate}
+use Rattle.std.specs.Prelude.{ℕ, suc, ◌≤◌, ◌≡◌, Bool, true, false, not, ◌&&◌, cond, List, [], ◌∷◌, map, leb, length, take, replicate}
 use Rattle.laws.specs.Fold.{all}
 use Rattle.model.specs.Grammar.{is_number, value, within}
-use Rattle.model.specs.Report.{digits, row}
-use Rattle.model.specs.CatalogueText.{numbers, lot_text, buy_text, catalogue_text}
+use Rattle.model.specs.Report.{row}
+use Rattle.model.specs.CatalogueText.{numbers, buy_text}
 use Rattle.model.specs.Hmetis.{vertices_weighted, well_written, said}
 use Rattle.model.specs.Convert.{carried, listed, net_of, catalogue_of, fits}
 use Rattle.conversion.specs.Well.{Well}

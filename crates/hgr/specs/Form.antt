@@ -1,7 +1,7 @@
 -- The form of an input: its first line, its header, its numbers, and where its edges start. Rests on passes' Rows. Assumes nothing.
-use Rattle.std.specs.Prelude.{ℕ, suc, ◌≤◌, ◌≡◌, Bool, true, false, ◌||◌, cond, List, [], ◌∷◌, eqb, length, get_or, drop}
+use Rattle.std.specs.Prelude.{ℕ, suc, ◌≤◌, ◌≡◌, true, ◌||◌, cond, List, [], ◌∷◌, eqb, length, get_or, drop}
 use Rattle.model.specs.Grammar.{at, is_line_of}
-use Rattle.model.specs.Hmetis.{is_ended, lines_of, Sections, is_header, code_in, words, first_line, body, header, code, edge_count, vertex_count}
+use Rattle.model.specs.Hmetis.{is_ended, lines_of, is_header, code_in, words, first_line, body, header, code, edge_count, vertex_count}
 use Rattle.conversion.specs.Well.{Well}
 use Rattle.passes.specs.Rows.{lines_at, sections_at, rows_at}
 use Rattle.hgr.specs.declared.Plan.{Plan}

@@ -11,7 +11,7 @@ use lib.Dec.{leb}
 use borrow.Author.Tests.{le-leb, lt-leb}
 use Rattle.laws.specs.Fold.{all}
 use Rattle.model.specs.Sale.{call_n}
-use Rattle.model.specs.Grammar.{Fields, bytes, same, parts, fields, at, is_line, is_number, value, values, Asked, asks, nothing, asked, stretch_of, late_of, call_of}
+use Rattle.model.specs.Grammar.{Fields, bytes, same, parts, fields, at, is_line, is_number, value, values, nothing, asked, late_of, call_of}
 use Rattle.model.specs.ListEntry.{is_entry}
 use Rattle.text.specs.Field.{FirstAt, NumberRead}
 use Rattle.text.proofs.Walk.{slice_is}

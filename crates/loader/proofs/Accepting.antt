@@ -1,6 +1,6 @@
 -- An accepted catalogue: its tables are those of a fresh machine, its numbers fit, and no session is above its cap. Rests on Fill, Stretches and guarantees'
 -- laws of a catalogue that is read whole.
-use Prim.Native.Nat.{ℕ, zero, suc, ◌+◌, ◌-◌, ◌*◌, ◌/◌, ◌≤◌, ◌<◌}
+use Prim.Native.Nat.{ℕ, zero, suc, ◌+◌, ◌-◌, ◌*◌, ◌≤◌, ◌<◌}
 use mathlib.Core.Path.{◌≡◌, refl, ap, sym, ◌∙◌}
 use mathlib.Core.Bool.{Bool, true, false, cond}
 use mathlib.Core.List.{List, []}
@@ -12,7 +12,7 @@ use lib.Seq.{slice, length-take-le, get_or-take}
 use Rattle.laws.specs.Fold.{sum_over, sum_over-le}
 use Rattle.laws.specs.Occurrence.{occ, occ-distinct}
 use Rattle.laws.specs.Choice.{one, one-le}
-use Rattle.model.specs.Catalogue.{Limits, Hypergraph, vertices, fixed_entry, drafted, nearest, capacity, capacities}
+use Rattle.model.specs.Catalogue.{Limits, Hypergraph, vertices, fixed_entry, drafted, nearest, capacities}
 use Rattle.model.specs.Measure.{pin, size, weight}
 use Rattle.model.specs.Machine.{fresh}
 use Rattle.model.specs.Grammar.{Book, unread, whole, parts}

@@ -9,8 +9,8 @@ use lib.Dec.{eqb}
 use lib.ListN.{length}
 use lib.Seq.{slice, take-length}
 use Rattle.model.specs.Catalogue.{Limits, vertices}
-use Rattle.model.specs.Grammar.{Book, Reading, unread, reading, stopped, whole, parts, lines, parse}
-use Rattle.model.specs.Through.{Stage, through}
+use Rattle.model.specs.Grammar.{Book, unread, reading, stopped, whole, parts, lines, parse}
+use Rattle.model.specs.Through.{through}
 use Rattle.model.specs.Lent.{Lists}
 use Rattle.guarantees.specs.Through.{onward, lines-through}
 use Rattle.text.proofs.Walk.{parts-some}

@@ -1,12 +1,11 @@
 -- Laws of the lines from a cursor on: one line further, and a comment passed over. Rests on text's laws of parts.
-use Prim.Native.Nat.{ℕ, zero, suc, ◌+◌, ◌-◌, ◌≤◌, ◌<◌}
+use Prim.Native.Nat.{ℕ, suc, ◌+◌, ◌≤◌, ◌<◌}
 use native.Mathlib.Omega.{arith}
 use native.Mathlib.Decide.{ℕ_discrete}
 use mathlib.Core.Path.{◌≡◌, refl, ap, sym, ◌∙◌}
-use mathlib.Core.Bool.{Bool, true, false, ◌&&◌, cond, true≢false}
+use mathlib.Core.Bool.{Bool, true, false, ◌&&◌, cond}
 use mathlib.Core.List.{List, [], ◌∷◌}
 use borrow.Author.Tests.{eq-eqb, ne_eqb}
-use lib.Dec.{eqb}
 use lib.ListN.{length, get_or}
 use lib.Seq.{slice, slice_empty}
 use Rattle.laws.specs.Fold.{all}
@@ -14,7 +13,7 @@ use Rattle.model.specs.Grammar.{Fields, bytes, same, parts, is_number}
 use Rattle.text.specs.Field.{FirstAt}
 use Rattle.text.proofs.Walk.{slice_at, slice-head, first_on, parts-some}
 use Rattle.text.proofs.Lines.{parts-on, parts_last}
-use Rattle.model.specs.Hmetis.{all_but_last, lines_of, is_comment, is_part, Sections, with_line, sections}
+use Rattle.model.specs.Hmetis.{all_but_last, lines_of, is_comment, is_part, with_line, sections}
 use Rattle.passes.specs.Rows.{lines_at, sections_at, line_then, no_sections, at_part, RowAt, list_count}
 
 all-but-more : (l : List ℕ) (ls : Fields) → (ls ≡ [] → ⊥) → all_but_last (l ∷ ls) ≡ l ∷ all_but_last ls

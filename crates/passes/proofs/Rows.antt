@@ -1,20 +1,19 @@
 -- Laws of the rows from a cursor on: which forms they have, the next one, the first n. Rests on Lines.
 use Prim.Native.Nat.{ℕ, zero, suc, ◌+◌, ◌-◌, ◌≤◌, ◌<◌}
-use native.Mathlib.Nat.{zero-add}
 use native.Mathlib.Omega.{arith}
 use native.Mathlib.Decide.{ℕ_discrete}
-use mathlib.Core.Path.{◌≡◌, refl, ap, sym, ◌∙◌, subst}
+use mathlib.Core.Path.{◌≡◌, refl, ap, sym, ◌∙◌}
 use mathlib.Core.Bool.{Bool, true, false, ◌&&◌, cond, true≢false, and-false}
-use mathlib.Core.List.{List, [], ◌∷◌, map}
+use mathlib.Core.List.{List, [], ◌∷◌}
 use borrow.Author.Tests.{eqb-true, ne_eqb, le-leb, lt-leb, leb-true, leb-false}
 use lib.Dec.{eqb, leb}
-use lib.ListN.{length, get_or, take, drop}
+use lib.ListN.{length, take, drop}
 use lib.Seq.{slice, drop-drop}
 use Rattle.laws.specs.Fold.{all}
 use Rattle.laws.specs.Choice.{and_left, and_right}
-use Rattle.model.specs.Grammar.{Fields, bytes, same, parts, onto, is_digit, leading_zero, is_number}
-use Rattle.model.specs.Hmetis.{is_part, Sections, with_line, sections, later, spread, words, numbers_in, is_edge}
-use Rattle.passes.specs.Rows.{lines_at, sections_at, rows_at, line_then, no_sections, at_part, RowAt, well_rows, RowsPassed, PartPassed}
+use Rattle.model.specs.Grammar.{Fields, bytes, same, parts, is_number}
+use Rattle.model.specs.Hmetis.{is_part, Sections, with_line, sections, later, words, numbers_in, is_edge}
+use Rattle.passes.specs.Rows.{lines_at, sections_at, rows_at, line_then, at_part, RowAt, well_rows, RowsPassed, PartPassed}
 
 -- ---- PART is no row of numbers
 same-is : (l m : List ℕ) → same l m ≡ true → l ≡ m

@@ -1,8 +1,8 @@
 -- Rows read into tables, checked, and written. Rests on Rows and on Convert. Assumes nothing.
-use Rattle.std.specs.Prelude.{ℕ, suc, ◌+◌, ◌≤◌, ◌≡◌, Bool, true, false, List, [], ◌∷◌, ◌++◌, map, ltb, length, take}
+use Rattle.std.specs.Prelude.{ℕ, suc, ◌≤◌, ◌≡◌, Bool, true, List, map, ltb, length, take}
 use Rattle.laws.specs.Fold.{sum_over, all}
 use Rattle.model.specs.Grammar.{is_number, value, within}
-use Rattle.model.specs.CatalogueText.{lot_text, buy_text}
+use Rattle.model.specs.CatalogueText.{buy_text}
 use Rattle.model.specs.Hmetis.{Edge, is_edge, edge_of}
 use Rattle.model.specs.Convert.{is_carried, net_of}
 use Rattle.passes.specs.Rows.{rows_at, lines_at, RowsPassed, list_count}

@@ -1,6 +1,6 @@
 -- The lines and rows of an input from a cursor on, and what is said of a run of them. A row is a line of the hypergraph file that is no
 -- comment. Rests on Hmetis. Assumes nothing.
-use Rattle.std.specs.Prelude.{ℕ, ◌+◌, ◌-◌, ◌≤◌, ◌<◌, ◌≡◌, Bool, true, false, ◌&&◌, cond, List, [], ◌∷◌, eqb, leb, length, take, drop}
+use Rattle.std.specs.Prelude.{ℕ, ◌+◌, ◌≤◌, ◌<◌, ◌≡◌, Bool, true, false, ◌&&◌, cond, List, [], eqb, leb, length, take, drop}
 use Rattle.std.proofs.Math.Seq.{slice}
 use Rattle.laws.specs.Fold.{all}
 use Rattle.model.specs.Grammar.{is_number}

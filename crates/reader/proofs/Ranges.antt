@@ -1,5 +1,5 @@
 -- The phases of a catalogue joined: after its last line, after the lots, after the first line, the whole catalogue. Rests on Turns and NetLines.
-use Prim.Native.Nat.{ℕ, zero, suc, ◌+◌, ◌-◌, ◌≤◌, ◌<◌}
+use Prim.Native.Nat.{ℕ, zero, suc, ◌+◌, ◌≤◌, ◌<◌}
 use mathlib.Core.Path.{◌≡◌, refl, ap, sym, ◌∙◌}
 use mathlib.Core.List.{List, []}
 use mathlib.Core.Bool.{Bool, true, false, ◌&&◌, cond}
@@ -9,9 +9,9 @@ use lib.Seq.{slice, length-take-le}
 use lib.Dec.{eqb}
 use borrow.Author.Tests.{eq-eqb}
 use Rattle.laws.specs.Fold.{sum_over}
-use Rattle.model.specs.Catalogue.{Limits, Net}
+use Rattle.model.specs.Catalogue.{Limits}
 use Rattle.model.specs.Grammar.{Book, Reading, reading, stopped, parts, grown, whole, overfull, unread, fields, line}
-use Rattle.model.specs.Through.{Stage, ended, refused, through}
+use Rattle.model.specs.Through.{ended, refused, through}
 use Rattle.guarantees.specs.Through.{unfinished, through-stopped, through-whole}
 use Rattle.text.specs.Field.{FirstAt}
 use Rattle.lines.specs.Line.{book, opened, SaleRead}

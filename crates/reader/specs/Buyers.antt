@@ -1,5 +1,5 @@
 -- The buyers that the tables show, and what the buyers' lines are read as. Rests on Seen. Assumes nothing.
-use Rattle.std.specs.Prelude.{ℕ, zero, suc, ◌+◌, ◌-◌, ◌≤◌, ◌<◌, ◌≡◌, Bool, List, [], ◌∷◌, ◌++◌, length, get_or}
+use Rattle.std.specs.Prelude.{ℕ, zero, suc, ◌+◌, ◌≤◌, ◌<◌, ◌≡◌, Bool, List, [], ◌∷◌, ◌++◌, length, get_or}
 use Rattle.std.proofs.Math.Seq.{slice}
 use Rattle.laws.specs.Sum.{sum}
 use Rattle.model.specs.Catalogue.{Limits, Net, Hypergraph, vertices}

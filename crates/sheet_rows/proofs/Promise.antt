@@ -14,8 +14,8 @@ use lib.ListN.{length, get_or, take, drop, length-drop, get_or-append}
 use lib.Pow.{pow_pos, pow_mono}
 use lib.Seq.{get_or-take, get_or-drop, get_or-append-add, length-take-le, ext_get_or, take_at}
 use Rattle.laws.specs.Choice.{one, and_left, and_right}
-use Rattle.laws.specs.Fold.{any, any_at, All, all-get, all_map}
-use Rattle.laws.specs.Sum.{sum, sum_to, sum-front, sum-sum_to, sum_to-nil, sum_to-suc, count_to, fold_to, fold_to-zero, fold_to-ext, fold_to-skip}
+use Rattle.laws.specs.Fold.{any_at, All, all-get, all_map}
+use Rattle.laws.specs.Sum.{sum, sum_to, sum-front, sum-sum_to, sum_to-nil, sum_to-suc, count_to, fold_to-zero, fold_to-ext, fold_to-skip}
 use Rattle.laws.specs.Bit.{bit, ones-bits}
 use Rattle.model.specs.Catalogue.{Limits, Net, Hypergraph, vertices, in_sale}
 use Rattle.model.specs.Measure.{Contraction, above, on_board, representative, pin_count, connectivity}
@@ -30,12 +30,12 @@ use Rattle.guarantees.specs.Clumps.{Within, representative-in, representative-sa
 use Rattle.guarantees.specs.Reached.{Valid}
 use Rattle.guarantees.specs.Splits.{AllInside}
 use Rattle.guarantees.specs.Stretches.{stretch-le, marks-le}
-use Rattle.sheet_guarantees.specs.Rows.{kept, joined}
+use Rattle.sheet_guarantees.specs.Rows.{kept}
 use Rattle.text.specs.Output.{written}
 use Rattle.fields.specs.Wrote.{Wrote}
-use Rattle.sheet_rows.specs.Order.{Known, InOrder, Apart, entry_of, lots_by, is_in, printed_of, by_in, by_apart, by_le, by-ext, printed-ext, printed-by}
+use Rattle.sheet_rows.specs.Order.{Known, Apart, entry_of, lots_by, is_in, printed_of, by_in, by_apart, by_le, by-ext, printed-ext, printed-by}
 use Rattle.sheet_rows.specs.Use.{InUse, column-in-use}
-use Rattle.sheet_rows.specs.Tables.{Aboves, seat, Lots, Seats, Buyers, Seated, Promised, Ended}
+use Rattle.sheet_rows.specs.Tables.{seat, Lots, Seats, Buyers, Seated, Promised, Ended}
 
 -- ---- lengths
 -- the tables that sheets are read from

@@ -1,6 +1,6 @@
 -- How many lots and buyers a sale has, read from the tables that the engine left, where each of them held 65,535 before: no entry in use holds that.
 -- Rests on Tables and guarantees' Stretches. Assumes nothing.
-use Rattle.std.specs.Prelude.{ℕ, suc, ◌+◌, ◌-◌, ◌≤◌, ◌<◌, ◌≡◌, Bool, cond, List, ltb, length, get_or}
+use Rattle.std.specs.Prelude.{ℕ, suc, ◌+◌, ◌≤◌, ◌<◌, ◌≡◌, Bool, cond, List, length, get_or}
 use Rattle.std.proofs.Common.{arith, ap, ◌∙◌, lt-ltb, le-ltb}
 use Rattle.std.proofs.Math.Decide.{dec_lt}
 use Rattle.model.specs.Memory.{Column}

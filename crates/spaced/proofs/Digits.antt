@@ -1,8 +1,8 @@
 -- A word read digit by digit: what the bytes before a place have told of it. Rests on Words and on text's laws of a number.
-use Prim.Native.Nat.{ℕ, zero, suc, ◌+◌, ◌-◌, ◌*◌, ◌^◌, ◌≤◌, ◌<◌}
+use Prim.Native.Nat.{ℕ, ◌+◌, ◌-◌, ◌*◌, ◌^◌, ◌≤◌, ◌<◌}
 use native.Mathlib.Omega.{arith}
 use native.Mathlib.Nat.{one-le-pow}
-use mathlib.Core.Path.{◌≡◌, refl, ap, sym, ◌∙◌, subst}
+use mathlib.Core.Path.{◌≡◌, refl, ap, sym, ◌∙◌}
 use mathlib.Core.Bool.{Bool, true, false, ◌&&◌, true≢false}
 use mathlib.Core.List.{List, [], ◌∷◌}
 use borrow.Author.Tests.{le-leb, lt-leb}
@@ -11,7 +11,7 @@ use lib.ListN.{length, get_or}
 use lib.Seq.{slice, slice_empty, length-slice}
 use Rattle.laws.specs.Fold.{all}
 use Rattle.model.specs.Grammar.{is_digit, is_number, onward, value}
-use Rattle.text.specs.Field.{first, FirstAt}
+use Rattle.text.specs.Field.{first}
 use Rattle.text.proofs.Walk.{slice_at, slice-head, first-here, first_on, first-none}
 use Rattle.text.proofs.Numbers.{all_digits, all_none, empty-bad, long-bad, zero-bad, other-bad, well, value-from, onward-cons, onward-none, ten-room, ten-more}
 use Rattle.spaced.specs.Row.{DigitsRead, WordRead}

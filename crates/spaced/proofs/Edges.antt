@@ -10,7 +10,6 @@ use lib.Dec.{eqb, leb}
 use lib.ListN.{length, get_or, set, length-append, length-map}
 use lib.Seq.{slice}
 use Rattle.laws.specs.Fold.{any, all}
-use Rattle.laws.specs.Choice.{and_left, and_right}
 use Rattle.model.specs.Grammar.{Fields, is_number, value, at, within, bytes}
 use Rattle.model.specs.Report.{digits, tail, row}
 use Rattle.text.specs.Field.{FirstAt, counted}

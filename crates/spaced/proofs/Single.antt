@@ -1,5 +1,5 @@
 -- Laws of a number that stands alone between two places: it has no comma. Rests on text's laws of a field.
-use Prim.Native.Nat.{ℕ, zero, suc, ◌+◌, ◌-◌, ◌≤◌, ◌<◌}
+use Prim.Native.Nat.{ℕ, zero, suc, ◌≤◌, ◌<◌}
 use native.Mathlib.Decide.{ℕ_discrete}
 use native.Mathlib.Omega.{arith}
 use mathlib.Core.Path.{◌≡◌, refl, ap, sym, ◌∙◌}
@@ -11,7 +11,7 @@ use lib.ListN.{length, get_or}
 use lib.Seq.{slice, slice_empty, length-slice}
 use Rattle.laws.specs.Fold.{all}
 use Rattle.laws.specs.Choice.{and_left, and_right}
-use Rattle.model.specs.Grammar.{Fields, is_digit, leading_zero, is_number, fields, parts, value}
+use Rattle.model.specs.Grammar.{Fields, is_digit, leading_zero, is_number, fields, value}
 use Rattle.text.specs.Field.{first, FirstAt, NumberEnd, FieldRead, Numbered}
 use Rattle.text.proofs.Lines.{parts_last, field_end, field_found}
 

@@ -1,17 +1,15 @@
 -- Laws of the words of a line from a cursor on. Rests on text's laws of parts.
-use Prim.Native.Nat.{ℕ, zero, suc, ◌+◌, ◌≤◌, ◌<◌}
+use Prim.Native.Nat.{ℕ, suc, ◌+◌, ◌≤◌, ◌<◌}
 use native.Mathlib.Nat.{zero-add}
 use native.Mathlib.Omega.{arith}
 use mathlib.Core.Path.{◌≡◌, refl, ap, sym, ◌∙◌}
 use mathlib.Core.Bool.{Bool, true, false, cond, true≢false}
 use mathlib.Core.List.{List, [], ◌∷◌}
-use borrow.Author.Tests.{ne_eqb}
-use lib.Dec.{eqb}
 use lib.ListN.{length, get_or}
 use lib.Seq.{slice, slice_empty}
 use Rattle.laws.specs.Fold.{all}
 use Rattle.laws.specs.Choice.{cond_no, and_left, and_right}
-use Rattle.model.specs.Grammar.{Fields, onto, parts, is_number, value}
+use Rattle.model.specs.Grammar.{Fields, onto, parts, is_number}
 use Rattle.text.specs.Field.{first, FirstAt, counted}
 use Rattle.text.proofs.Walk.{slice_at, first-here, first-within, parts-some}
 use Rattle.text.proofs.Lines.{parts-on, parts_last, parts_first, counted-on, counted-end, counted-no}

@@ -1,5 +1,5 @@
 -- `fields::put_field` meets its contract.
-use Rattle.std.proofs.Common.{arith, ◌∙◌, length-set, rules}
+use Rattle.std.proofs.Common.{arith, ◌∙◌, length-set}
 use Rattle.fields.proofs.Laws.{wrote-cons}
 use Rattle.fields.proofs.put_field.Goals as goal
 

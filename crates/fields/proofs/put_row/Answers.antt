@@ -1,5 +1,5 @@
 -- `fields::put_row` meets its contract.
-use Rattle.std.proofs.Common.{arith, length-append, rules}
+use Rattle.std.proofs.Common.{arith, length-append}
 use Rattle.model.specs.Report.{tail}
 use Rattle.model.specs.CatalogueText.{numbers}
 use Rattle.fields.proofs.Laws.{wrote-append}

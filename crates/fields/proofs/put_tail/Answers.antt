@@ -1,6 +1,5 @@
-use Rattle.std.proofs.Common.{◌-◌, ◌≤◌, arith, ◌≡◌, ◌∙◌, length, take, length-set, rules}
-use Rattle.fields.specs.Wrote.{Wrote}
-use Rattle.fields.proofs.Laws.{fields-none, fields-room, fields-more, fields-last, fields-end, commas}
+use Rattle.std.proofs.Common.{arith, ◌∙◌, length-set, rules}
+use Rattle.fields.proofs.Laws.{fields-none, fields-room, fields-more, fields-last, fields-end}
 use Rattle.fields.proofs.put_tail.Goals as goal
 
 pub loop-i-init : goal.loop-i-init

@@ -1,7 +1,7 @@
 -- `fields::put_tail` meets its contract. The loop's invariant: the first i fields are written.
-use Rattle.std.proofs.Common.{◌-◌, ◌≤◌, arith, ◌≡◌, ◌∙◌, length, take, length-set, rules}
+use Rattle.std.proofs.Common.{◌-◌, ◌≤◌, ◌≡◌, length, take}
 use Rattle.fields.specs.Wrote.{Wrote}
-use Rattle.fields.proofs.Laws.{fields-none, fields-room, fields-more, fields-last, fields-end, commas}
+use Rattle.fields.proofs.Laws.{commas}
 use Rattle.fields.proofs.put_tail.Given as goal
 
 abbrev pub invariant-loop-i : goal.invariant-loop-i

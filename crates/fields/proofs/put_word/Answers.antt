@@ -1,5 +1,4 @@
-use Rattle.std.proofs.Common.{◌+◌, ◌-◌, ◌≤◌, arith, add-zero, ◌≡◌, length, take, length-set, take_all, rules}
-use Rattle.fields.specs.Wrote.{Wrote}
+use Rattle.std.proofs.Common.{◌+◌, arith, add-zero, ◌≡◌, length-set, take_all, rules}
 use Rattle.fields.proofs.Laws.{wrote_none, wrote-byte}
 use Rattle.fields.proofs.put_word.Goals as goal
 

@@ -1,7 +1,6 @@
 -- `fields::put_word` meets its contract. The loop's invariant: the first i bytes of the word are written.
-use Rattle.std.proofs.Common.{◌+◌, ◌-◌, ◌≤◌, arith, add-zero, ◌≡◌, length, take, length-set, take_all, rules}
+use Rattle.std.proofs.Common.{◌+◌, ◌-◌, ◌≤◌, ◌≡◌, length, take}
 use Rattle.fields.specs.Wrote.{Wrote}
-use Rattle.fields.proofs.Laws.{wrote_none, wrote-byte}
 use Rattle.fields.proofs.put_word.Given as goal
 
 abbrev pub invariant-loop-i : goal.invariant-loop-i

@@ -1,7 +1,6 @@
 -- `hall_lines::hall_line` meets its contract.
-use Rattle.std.proofs.Common.{sym, ◌∙◌, rules}
+use Rattle.std.proofs.Common.{sym, ◌∙◌}
 use Rattle.std.proofs.Math.Seq.{slice}
-use Rattle.std.proofs.lemmas.Bool.{not-true, not-false}
 use Rattle.hall_lines.proofs.Headings.{head-form, head-count, head-limit, head_read}
 use Rattle.hall_lines.proofs.hall_line.Goals as goal
 

@@ -1,5 +1,5 @@
 -- `hall_lines::led_line` meets its contract.
-use Rattle.std.proofs.Common.{arith, rules}
+use Rattle.std.proofs.Common.{arith}
 use Rattle.hall_lines.proofs.Leads.{led-none, led-alone, led-bad, led-call}
 use Rattle.hall_lines.proofs.led_line.Goals as goal
 

@@ -1,6 +1,5 @@
-use Rattle.std.proofs.Common.{◌-◌, length, length-set, arith, sym, ◌∙◌, rules}
-use Rattle.std.proofs.lemmas.Bool.{not-true, not-false}
-use Rattle.hall_lines.proofs.LedTurns.{OnLed, led-start, led-done, led-full, led-unended, led-unread, led-stranger, led_on}
+use Rattle.std.proofs.Common.{length-set, arith, sym, ◌∙◌}
+use Rattle.hall_lines.proofs.LedTurns.{led-start, led-done, led-full, led-unended, led-unread, led-stranger, led_on}
 use Rattle.hall_lines.proofs.read_led_calls.Goals as goal
 
 pub loop-i-init : goal.loop-i-init

@@ -1,7 +1,6 @@
 -- `hall_lines::read_led_calls` meets its contract.
-use Rattle.std.proofs.Common.{◌-◌, length, length-set, arith, sym, ◌∙◌, rules}
-use Rattle.std.proofs.lemmas.Bool.{not-true, not-false}
-use Rattle.hall_lines.proofs.LedTurns.{OnLed, led-start, led-done, led-full, led-unended, led-unread, led-stranger, led_on}
+use Rattle.std.proofs.Common.{◌-◌, length}
+use Rattle.hall_lines.proofs.LedTurns.{OnLed}
 use Rattle.hall_lines.proofs.read_led_calls.Given as goal
 
 abbrev pub invariant-loop-i : goal.invariant-loop-i

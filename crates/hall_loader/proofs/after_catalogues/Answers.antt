@@ -1,5 +1,5 @@
 -- `hall_loader::after_catalogues` meets its contract.
-use Rattle.std.proofs.Common.{arith, rules, sym, ◌∙◌}
+use Rattle.std.proofs.Common.{arith, sym, ◌∙◌}
 use Rattle.hall_loader.proofs.Halls.{drafts-over, calls-stop, calls-up}
 use Rattle.hall_loader.proofs.after_catalogues.Goals as goal
 

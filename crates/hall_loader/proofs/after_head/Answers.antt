@@ -1,5 +1,5 @@
 -- `hall_loader::after_head` meets its contract.
-use Rattle.std.proofs.Common.{arith, rules}
+use Rattle.std.proofs.Common.{arith}
 use Rattle.hall_loader.proofs.Weighing.{accepted-light}
 use Rattle.hall_loader.proofs.Halls.{body-cut, body-past}
 use Rattle.hall_loader.proofs.after_head.Goals as goal

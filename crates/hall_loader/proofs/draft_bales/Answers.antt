@@ -1,5 +1,5 @@
-use Rattle.std.proofs.Common.{arith, ◌-◌}
-use Rattle.hall_loader.proofs.Weighing.{OnBales, bales-start, more-le, bales-on, bales-done}
+use Rattle.std.proofs.Common.{arith}
+use Rattle.hall_loader.proofs.Weighing.{bales-start, more-le, bales-on, bales-done}
 use Rattle.hall_loader.proofs.draft_bales.Goals as goal
 
 pub loop-c-init : goal.loop-c-init

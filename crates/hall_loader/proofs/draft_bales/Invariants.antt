@@ -1,6 +1,6 @@
 -- `hall_loader::draft_bales` meets its contract.
-use Rattle.std.proofs.Common.{arith, ◌-◌}
-use Rattle.hall_loader.proofs.Weighing.{OnBales, bales-start, more-le, bales-on, bales-done}
+use Rattle.std.proofs.Common.{◌-◌}
+use Rattle.hall_loader.proofs.Weighing.{OnBales}
 use Rattle.hall_loader.proofs.draft_bales.Given as goal
 
 abbrev pub invariant-loop-c : goal.invariant-loop-c

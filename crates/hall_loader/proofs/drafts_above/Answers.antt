@@ -1,5 +1,5 @@
-use Rattle.std.proofs.Common.{arith, ◌-◌}
-use Rattle.hall_loader.proofs.Weighing.{OnAbove, above-start, above-found, above_on, above-done}
+use Rattle.std.proofs.Common.{arith}
+use Rattle.hall_loader.proofs.Weighing.{above-start, above-found, above_on, above-done}
 use Rattle.hall_loader.proofs.drafts_above.Goals as goal
 
 pub loop-t-init : goal.loop-t-init

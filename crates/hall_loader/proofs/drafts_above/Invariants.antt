@@ -1,6 +1,6 @@
 -- `hall_loader::drafts_above` meets its contract.
-use Rattle.std.proofs.Common.{arith, ◌-◌}
-use Rattle.hall_loader.proofs.Weighing.{OnAbove, above-start, above-found, above_on, above-done}
+use Rattle.std.proofs.Common.{◌-◌}
+use Rattle.hall_loader.proofs.Weighing.{OnAbove}
 use Rattle.hall_loader.proofs.drafts_above.Given as goal
 
 abbrev pub invariant-loop-t : goal.invariant-loop-t

@@ -1,6 +1,5 @@
-use Rattle.std.proofs.Common.{arith, rules, ◌-◌, refl}
-use Rattle.hall_loader.specs.Sets.{sets}
-use Rattle.hall_loader.proofs.Series.{OnSets, sets-start, still-wide, line-few, one_alike, sets-fail, can-subtract, sets-next, sets-done}
+use Rattle.std.proofs.Common.{arith, refl}
+use Rattle.hall_loader.proofs.Series.{sets-start, still-wide, line-few, one_alike, sets-fail, can-subtract, sets-next, sets-done}
 use Rattle.hall_loader.proofs.load_catalogues.Goals as goal
 
 pub loop-c-init : goal.loop-c-init

@@ -1,7 +1,7 @@
 -- `hall_loader::load_catalogues` meets its contract.
-use Rattle.std.proofs.Common.{arith, rules, ◌-◌, refl}
+use Rattle.std.proofs.Common.{◌-◌}
 use Rattle.hall_loader.specs.Sets.{sets}
-use Rattle.hall_loader.proofs.Series.{OnSets, sets-start, still-wide, line-few, one_alike, sets-fail, can-subtract, sets-next, sets-done}
+use Rattle.hall_loader.proofs.Series.{OnSets}
 use Rattle.hall_loader.proofs.load_catalogues.Given as goal
 
 abbrev pub invariant-loop-c : goal.invariant-loop-c

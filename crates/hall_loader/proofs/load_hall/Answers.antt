@@ -1,5 +1,5 @@
 -- `hall_loader::load_hall` meets its contract.
-use Rattle.std.proofs.Common.{arith, rules}
+use Rattle.std.proofs.Common.{arith}
 use Rattle.hall_loader.proofs.Halls.{file-long, file-unended, head-refused, file-loads}
 use Rattle.hall_loader.proofs.load_hall.Goals as goal
 

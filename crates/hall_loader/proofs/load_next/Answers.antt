@@ -1,5 +1,5 @@
 -- `hall_loader::load_next` meets its contract.
-use Rattle.std.proofs.Common.{arith, rules, refl}
+use Rattle.std.proofs.Common.{arith, refl}
 use Rattle.model.specs.Lent.{lists}
 use Rattle.hall_loader.proofs.load_next.Goals as goal
 

@@ -1,5 +1,4 @@
-use Rattle.std.proofs.Common.{ℕ, ◌-◌, ◌≤◌, arith, sym, ◌∙◌, length, rules}
-use Rattle.hall_rows.specs.Desks.{Catalogues}
+use Rattle.std.proofs.Common.{arith, sym, ◌∙◌}
 use Rattle.hall_rows.proofs.Desks.{count-found, count-more, count-all}
 use Rattle.hall_rows.proofs.catalogues.Goals as goal
 

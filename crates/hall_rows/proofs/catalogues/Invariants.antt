@@ -1,7 +1,6 @@
 -- `hall_rows::catalogues` meets its contract. The loop's invariant: the first c sets are a catalogue's.
-use Rattle.std.proofs.Common.{ℕ, ◌-◌, ◌≤◌, arith, sym, ◌∙◌, length, rules}
+use Rattle.std.proofs.Common.{ℕ, ◌-◌, ◌≤◌, length}
 use Rattle.hall_rows.specs.Desks.{Catalogues}
-use Rattle.hall_rows.proofs.Desks.{count-found, count-more, count-all}
 use Rattle.hall_rows.proofs.catalogues.Given as goal
 
 abbrev pub invariant-loop-c : goal.invariant-loop-c

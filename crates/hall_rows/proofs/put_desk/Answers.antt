@@ -1,5 +1,4 @@
 -- `hall_rows::put_desk` meets its contract: the lead is the catalogue's number and a comma.
-use Rattle.std.proofs.Common.{sym, rules}
 use Rattle.hall_rows.proofs.Desks.{lead_is}
 use Rattle.hall_rows.proofs.put_desk.Goals as goal
 

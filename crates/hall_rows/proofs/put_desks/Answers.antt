@@ -1,10 +1,7 @@
-use Rattle.std.proofs.Common.{ℕ, ◌+◌, ◌-◌, ◌≤◌, arith, ◌≡◌, ◌∙◌, List, length, get_or, drop, rules}
-use Rattle.model.specs.Sale.{Sale}
+use Rattle.std.proofs.Common.{ℕ, arith, ◌∙◌, get_or, rules}
 use Rattle.model.specs.Hall.{no_desk}
 use Rattle.model.specs.Sheets.{hall_sheets}
-use Rattle.fields.specs.Wrote.{Remains}
 use Rattle.fields.proofs.Laws.{remains-all, remains-none}
-use Rattle.hall_rows.specs.Desks.{HallEnded}
 use Rattle.hall_rows.proofs.Desks.{desks-end, desks-room, desks-more}
 use Rattle.hall_rows.proofs.put_desks.Goals as goal
 

@@ -1,12 +1,9 @@
 -- `hall_rows::put_desks` meets its contract. The loop's invariant: the sheets of the catalogues from place c on are still to be written.
-use Rattle.std.proofs.Common.{ℕ, ◌+◌, ◌-◌, ◌≤◌, arith, ◌≡◌, ◌∙◌, List, length, get_or, drop, rules}
+use Rattle.std.proofs.Common.{◌+◌, ◌-◌, ◌≤◌, ◌≡◌, List, length, drop}
 use Rattle.model.specs.Sale.{Sale}
-use Rattle.model.specs.Hall.{no_desk}
 use Rattle.model.specs.Sheets.{hall_sheets}
 use Rattle.fields.specs.Wrote.{Remains}
-use Rattle.fields.proofs.Laws.{remains-all, remains-none}
 use Rattle.hall_rows.specs.Desks.{HallEnded}
-use Rattle.hall_rows.proofs.Desks.{desks-end, desks-room, desks-more}
 use Rattle.hall_rows.proofs.put_desks.Given as goal
 
 abbrev pub invariant-loop-c : goal.invariant-loop-c

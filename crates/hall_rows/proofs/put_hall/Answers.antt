@@ -1,5 +1,5 @@
 -- `hall_rows::put_hall` meets its contract: the tables tell how many catalogues there are.
-use Rattle.std.proofs.Common.{arith, sym, rules}
+use Rattle.std.proofs.Common.{arith, sym}
 use Rattle.hall_rows.proofs.put_hall.Goals as goal
 
 pub put_desks-requires : goal.put_desks-requires

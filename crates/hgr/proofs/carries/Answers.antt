@@ -1,5 +1,5 @@
 -- `hgr::carries` meets its contract.
-use Rattle.std.proofs.Common.{◌∙◌, ap, Bool, ◌&&◌, leb, rules}
+use Rattle.std.proofs.Common.{◌∙◌, ap, Bool, ◌&&◌, leb}
 use Rattle.hgr.proofs.carries.Goals as goal
 
 pub returns : goal.returns

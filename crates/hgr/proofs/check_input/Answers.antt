@@ -1,6 +1,5 @@
 -- `hgr::check_input` meets its contract.
-use Rattle.std.proofs.Common.{◌≡◌, refl, sym, ◌∙◌, ap, arith, rules}
-use Rattle.std.proofs.lemmas.Bool.{not-true, not-false}
+use Rattle.std.proofs.Common.{arith}
 use Rattle.hgr.proofs.Plans.{planned-bad, no_header, begun, planned}
 use Rattle.hgr.proofs.check_input.Goals as goal
 

@@ -1,7 +1,5 @@
 -- `hgr::check_rows` meets its contract.
-use Rattle.std.proofs.Common.{◌≡◌, refl, sym, ◌∙◌, ap, arith, rules}
-use Rattle.std.proofs.lemmas.Bool.{not-true, not-false}
-use Rattle.hgr.proofs.Checks.{ones-long}
+use Rattle.std.proofs.Common.{arith}
 use Rattle.hgr.proofs.Plans.{checked-bad, edges-bad, weights-bad, part-bad, lines-bad, rows-checked}
 use Rattle.hgr.proofs.check_rows.Goals as goal
 

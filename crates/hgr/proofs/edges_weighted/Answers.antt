@@ -1,5 +1,4 @@
 -- `hgr::edges_weighted` meets its contract.
-use Rattle.std.proofs.Common.{arith, rules}
 use Rattle.hgr.proofs.Codes.{or_yes, or-next}
 use Rattle.hgr.proofs.edges_weighted.Goals as goal
 

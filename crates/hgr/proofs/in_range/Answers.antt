@@ -1,6 +1,5 @@
 -- `hgr::in_range` meets its contract.
-use Rattle.std.proofs.Common.{◌≡◌, refl, sym, ◌∙◌, ap, arith, rules, true, false, leb}
-use Rattle.std.proofs.lemmas.Bool.{not-true, not-false}
+use Rattle.std.proofs.Common.{refl, sym, ◌∙◌, true, false, leb}
 use Rattle.hgr.proofs.Checks.{range-is}
 use Rattle.hgr.proofs.in_range.Goals as goal
 

@@ -1,5 +1,5 @@
 -- `hgr::judge` meets its contract.
-use Rattle.std.proofs.Common.{◌≡◌, refl, sym, ◌∙◌, ap, arith, rules}
+use Rattle.std.proofs.Common.{arith}
 use Rattle.std.proofs.lemmas.Bool.{not-true, not-false}
 use Rattle.hgr.proofs.Whole.{judged-carried, judged-listed, judged-full, judged-long, judged-good}
 use Rattle.hgr.proofs.judge.Goals as goal

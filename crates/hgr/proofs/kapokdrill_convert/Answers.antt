@@ -1,5 +1,5 @@
 -- `hgr::kapokdrill_convert` meets its contract.
-use Rattle.std.proofs.Common.{Bool, ℕ, ◌≡◌, refl, sym, ◌∙◌, ap, arith, rules}
+use Rattle.std.proofs.Common.{ℕ, refl, sym, ◌∙◌, arith}
 use Rattle.std.proofs.lemmas.Bool.{not-true, not-false}
 use Rattle.std.proofs.lemmas.List.{length-replicate}
 use Rattle.conversion.specs.Well.{parts-well}

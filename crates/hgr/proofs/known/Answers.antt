@@ -1,5 +1,4 @@
 -- `hgr::known` meets its contract.
-use Rattle.std.proofs.Common.{arith, rules}
 use Rattle.hgr.proofs.Codes.{known-one, known-ten, known-eleven, known-none}
 use Rattle.hgr.proofs.known.Goals as goal
 

@@ -1,6 +1,5 @@
 -- `hgr::length_of` meets its contract.
-use Rattle.std.proofs.Common.{◌≡◌, refl, sym, ◌∙◌, ap, arith, rules}
-use Rattle.std.proofs.lemmas.Bool.{not-true, not-false}
+use Rattle.std.proofs.Common.{arith}
 use Rattle.hgr.proofs.Whole.{sale-size}
 use Rattle.hgr.proofs.length_of.Goals as goal
 

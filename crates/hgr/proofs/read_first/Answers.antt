@@ -1,6 +1,5 @@
 -- `hgr::read_first` meets its contract.
-use Rattle.std.proofs.Common.{◌≡◌, refl, sym, ◌∙◌, ap, arith, rules}
-use Rattle.std.proofs.lemmas.Bool.{not-true, not-false}
+use Rattle.std.proofs.Common.{arith}
 use Rattle.hgr.proofs.Heads.{first-none, first-open, first_short, first-bad, first-number, first_good}
 use Rattle.hgr.proofs.read_first.Goals as goal
 

@@ -1,6 +1,5 @@
 -- `hgr::read_header` meets its contract.
-use Rattle.std.proofs.Common.{◌≡◌, refl, sym, ◌∙◌, ap, arith, rules}
-use Rattle.std.proofs.lemmas.Bool.{not-true, not-false}
+use Rattle.std.proofs.Common.{sym, ◌∙◌, arith}
 use Rattle.hgr.proofs.Codes.{header-numbers}
 use Rattle.hgr.proofs.Heads.{header-short, header-bad, is-header, header-good}
 use Rattle.hgr.proofs.read_header.Goals as goal

@@ -1,6 +1,5 @@
 -- `hgr::refuse` meets its contract.
-use Rattle.std.proofs.Common.{◌≡◌, refl, sym, ◌∙◌, ap, arith, rules}
-use Rattle.std.proofs.lemmas.Bool.{not-true, not-false}
+use Rattle.std.proofs.Common.{refl, arith}
 use Rattle.model.specs.Grammar.{bytes}
 use Rattle.model.specs.Report.{row}
 use Rattle.hgr.proofs.refuse.Goals as goal

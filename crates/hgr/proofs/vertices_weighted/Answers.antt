@@ -1,5 +1,4 @@
 -- `hgr::vertices_weighted` meets its contract.
-use Rattle.std.proofs.Common.{arith, rules}
 use Rattle.hgr.proofs.Codes.{or_yes, or-next}
 use Rattle.hgr.proofs.vertices_weighted.Goals as goal
 

@@ -1,6 +1,5 @@
 -- `hgr::weigh` meets its contract.
-use Rattle.std.proofs.Common.{◌≡◌, refl, sym, ◌∙◌, ap, arith, rules}
-use Rattle.std.proofs.lemmas.Bool.{not-true, not-false}
+use Rattle.std.proofs.Common.{sym, ◌∙◌, arith}
 use Rattle.hgr.proofs.Checks.{ones-long, weigh-rows, weigh-ones}
 use Rattle.hgr.proofs.weigh.Goals as goal
 

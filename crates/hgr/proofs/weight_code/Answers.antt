@@ -1,7 +1,5 @@
 -- `hgr::weight_code` meets its contract.
-use Rattle.std.proofs.Common.{◌≡◌, refl, sym, ◌∙◌, ap, arith, rules}
-use Rattle.std.proofs.Math.Seq.{slice}
-use Rattle.std.proofs.lemmas.Bool.{not-true, not-false}
+use Rattle.std.proofs.Common.{◌∙◌, ap, arith}
 use Rattle.hgr.specs.Form.{known_code}
 use Rattle.hgr.proofs.Codes.{code-none, code-bad, code-three, numbers-upto}
 use Rattle.hgr.proofs.weight_code.Goals as goal

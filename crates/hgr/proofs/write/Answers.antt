@@ -1,6 +1,4 @@
 -- `hgr::write` meets its contract: the first line, the lots, the buyers, one after another.
-use Rattle.std.proofs.Common.{◌≡◌, refl, sym, ◌∙◌, ap, arith, rules}
-use Rattle.std.proofs.lemmas.Bool.{not-true, not-false}
 use Rattle.model.specs.Grammar.{bytes}
 use Rattle.model.specs.Report.{row}
 use Rattle.hgr.proofs.Checks.{edges-well}

@@ -1,5 +1,5 @@
 -- `lines::before_k` meets its contract.
-use Rattle.std.proofs.Common.{arith, rules}
+use Rattle.std.proofs.Common.{arith}
 use Rattle.lines.proofs.Ends.{ends-short, ends-other, ends-joined, ends-k}
 use Rattle.lines.proofs.before_k.Goals as goal
 

@@ -1,6 +1,5 @@
 -- `lines::buy_line` meets its contract.
-use Rattle.std.proofs.Common.{arith, sym, ◌∙◌, leb, leb-true, rules}
-use Rattle.std.proofs.lemmas.Bool.{not-true, not-false}
+use Rattle.std.proofs.Common.{arith, sym, ◌∙◌, leb, leb-true}
 use Rattle.laws.specs.Choice.{and_right}
 use Rattle.lines.proofs.Bids.{buy-bad, buy-range, buy-read, buy-wrong}
 use Rattle.lines.proofs.buy_line.Goals as goal

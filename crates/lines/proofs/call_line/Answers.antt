@@ -1,5 +1,5 @@
 -- `lines::call_line` meets its contract.
-use Rattle.std.proofs.Common.{subst, arith, rules}
+use Rattle.std.proofs.Common.{subst, arith}
 use Rattle.std.proofs.Math.Seq.{slice}
 use Rattle.model.specs.Grammar.{fields}
 use Rattle.lines.specs.Line.{ShortRead}

@@ -1,7 +1,6 @@
 -- `lines::late_line` meets its contract.
-use Rattle.std.proofs.Common.{ap, sym, ◌∙◌, arith, rules}
+use Rattle.std.proofs.Common.{ap, sym, ◌∙◌, arith}
 use Rattle.std.proofs.Math.Seq.{slice}
-use Rattle.std.proofs.lemmas.Bool.{not-true, not-false}
 use Rattle.model.specs.Grammar.{same}
 use Rattle.lines.proofs.Asks.{word-N}
 use Rattle.lines.proofs.Operands.{late-other, late-none, late-bad, late-here}

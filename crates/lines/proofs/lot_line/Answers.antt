@@ -1,5 +1,5 @@
 -- `lines::lot_line` meets its contract.
-use Rattle.std.proofs.Common.{◌-◌, arith, ap, ap₂, ◌∙◌, get_or, rules}
+use Rattle.std.proofs.Common.{◌-◌, arith, ap, ap₂, ◌∙◌, get_or}
 use Rattle.std.proofs.Math.Seq.{slice}
 use Rattle.model.specs.Grammar.{at as field_at, fields}
 use Rattle.lines.specs.Line.{first_of}

@@ -1,5 +1,5 @@
 -- `lines::put_pin` meets its contract.
-use Rattle.std.proofs.Common.{arith, rules}
+use Rattle.std.proofs.Common.{arith}
 use Rattle.lines.proofs.Stamps.{mark-low, mark-high, mark-twice, mark-full, mark-new}
 use Rattle.lines.proofs.put_pin.Goals as goal
 

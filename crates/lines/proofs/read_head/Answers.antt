@@ -1,7 +1,6 @@
 -- `lines::read_head` meets its contract.
-use Rattle.std.proofs.Common.{arith, sym, ◌∙◌, rules}
+use Rattle.std.proofs.Common.{arith, sym, ◌∙◌}
 use Rattle.std.proofs.Math.Seq.{slice}
-use Rattle.std.proofs.lemmas.Bool.{not-true, not-false}
 use Rattle.model.specs.Grammar.{fields}
 use Rattle.lines.specs.Line.{limits_of}
 use Rattle.lines.proofs.Ranges.{no-sale, sale-ranges}

@@ -1,5 +1,5 @@
-use Rattle.std.proofs.Common.{◌-◌, arith, ◌∙◌, length-set}
-use Rattle.lines.proofs.Operands.{OnOperands, operands-start, operands-bad, operands-last, operands-on}
+use Rattle.std.proofs.Common.{arith, ◌∙◌, length-set}
+use Rattle.lines.proofs.Operands.{operands-start, operands-bad, operands-last, operands-on}
 use Rattle.lines.proofs.read_operands.Goals as goal
 
 pub loop-i-init : goal.loop-i-init

@@ -1,6 +1,6 @@
 -- `lines::read_operands` meets its contract. The invariant: the operands are the numbers before `i`, and twice as many bytes stand before it.
-use Rattle.std.proofs.Common.{◌-◌, arith, ◌∙◌, length-set}
-use Rattle.lines.proofs.Operands.{OnOperands, operands-start, operands-bad, operands-last, operands-on}
+use Rattle.std.proofs.Common.{◌-◌}
+use Rattle.lines.proofs.Operands.{OnOperands}
 use Rattle.lines.proofs.read_operands.Given as goal
 
 abbrev pub invariant-loop-i : goal.invariant-loop-i

@@ -1,5 +1,5 @@
-use Rattle.std.proofs.Common.{◌-◌, arith, ◌∙◌}
-use Rattle.lines.proofs.Fields.{OnMarks, marks-start, marks-bad, marks-stop, marks-last, marks-on}
+use Rattle.std.proofs.Common.{arith, ◌∙◌}
+use Rattle.lines.proofs.Fields.{marks-start, marks-bad, marks-stop, marks-last, marks-on}
 use Rattle.lines.proofs.read_pins.Goals as goal
 
 pub loop-i-init : goal.loop-i-init

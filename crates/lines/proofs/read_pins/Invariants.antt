@@ -1,6 +1,6 @@
 -- `lines::read_pins` meets its contract. The invariant: what the marks of the line say, those from `i` on say after the marks in the table.
-use Rattle.std.proofs.Common.{◌-◌, arith, ◌∙◌}
-use Rattle.lines.proofs.Fields.{OnMarks, marks-start, marks-bad, marks-stop, marks-last, marks-on}
+use Rattle.std.proofs.Common.{◌-◌}
+use Rattle.lines.proofs.Fields.{OnMarks}
 use Rattle.lines.proofs.read_pins.Given as goal
 
 abbrev pub invariant-loop-i : goal.invariant-loop-i

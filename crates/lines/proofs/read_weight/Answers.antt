@@ -1,7 +1,6 @@
 -- `lines::read_weight` meets its contract.
-use Rattle.std.proofs.Common.{ap, sym, ◌∙◌, arith, rules}
+use Rattle.std.proofs.Common.{ap, sym, ◌∙◌, arith}
 use Rattle.std.proofs.Math.Seq.{slice}
-use Rattle.std.proofs.lemmas.Bool.{not-true, not-false}
 use Rattle.model.specs.Grammar.{same}
 use Rattle.lines.proofs.Asks.{word-BUY}
 use Rattle.lines.proofs.Bids.{weight-other, weight-none, weight-bad, weight-here}

@@ -1,5 +1,5 @@
 -- `lines::refusal` meets its contract.
-use Rattle.std.proofs.Common.{ap, sym, ◌∙◌, Bool, cond, rules}
+use Rattle.std.proofs.Common.{ap, sym, ◌∙◌, Bool, cond}
 use Rattle.std.proofs.Math.Seq.{slice}
 use Rattle.model.specs.Grammar.{parts}
 use Rattle.lines.proofs.Fields.{form-bad, form-good}

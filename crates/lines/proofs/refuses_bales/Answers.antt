@@ -1,6 +1,5 @@
 -- `lines::refuses_bales` meets its contract.
-use Rattle.std.proofs.Common.{arith, sym, ◌∙◌, true, false, rules, lt-ltb, le-ltb}
-use Rattle.std.proofs.lemmas.Bool.{not-true, not-false}
+use Rattle.std.proofs.Common.{arith, sym, ◌∙◌, true, false, lt-ltb, le-ltb}
 use Rattle.lines.proofs.LotLines.{bales-low, bales-high, bales-right}
 use Rattle.lines.proofs.refuses_bales.Goals as goal
 

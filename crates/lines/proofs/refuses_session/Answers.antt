@@ -1,5 +1,5 @@
 -- `lines::refuses_session` meets its contract.
-use Rattle.std.proofs.Common.{sym, ◌∙◌, rules}
+use Rattle.std.proofs.Common.{sym, ◌∙◌}
 use Rattle.lines.proofs.refuses_session.Goals as goal
 
 pub returns-then-between : goal.returns-then-between

@@ -1,5 +1,5 @@
 -- `lines::sale_line` meets its contract.
-use Rattle.std.proofs.Common.{[], ◌∷◌, arith, rules}
+use Rattle.std.proofs.Common.{[], ◌∷◌, arith}
 use Rattle.std.proofs.Math.Seq.{slice}
 use Rattle.model.specs.Grammar.{fields}
 use Rattle.text.proofs.Lines.{line-no}

@@ -1,5 +1,5 @@
 -- `lines::short_line` meets its contract.
-use Rattle.std.proofs.Common.{[], ◌∷◌, arith, sym, ◌∙◌, rules}
+use Rattle.std.proofs.Common.{[], ◌∷◌, arith, sym, ◌∙◌}
 use Rattle.std.proofs.Math.Seq.{slice}
 use Rattle.model.specs.Grammar.{fields}
 use Rattle.text.proofs.Lines.{numbered, line-yes, line-no}

@@ -1,7 +1,6 @@
 -- `loader::clear` meets its contract.
-use Rattle.std.proofs.Common.{arith, subst, ℕ, ◌-◌, ◌≤◌, refl, ltb}
+use Rattle.std.proofs.Common.{◌-◌, ◌≤◌, ltb}
 use Rattle.model.specs.Memory.{Filled}
-use Rattle.loader.proofs.Fill.{filled_none, filled_more}
 use Rattle.loader.proofs.clear.Given as goal
 
 abbrev pub invariant-loop-i : goal.invariant-loop-i

@@ -1,4 +1,4 @@
-use Rattle.std.proofs.Common.{arith, subst, ℕ, ◌-◌, ◌≤◌, refl, ltb, get_or}
+use Rattle.std.proofs.Common.{arith, subst, ℕ, refl, ltb, get_or}
 use Rattle.model.specs.Memory.{Filled}
 use Rattle.loader.proofs.Fill.{filled_none, filled_more}
 use Rattle.loader.proofs.copy.Goals as goal

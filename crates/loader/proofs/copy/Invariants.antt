@@ -1,7 +1,6 @@
 -- `loader::copy` meets its contract.
-use Rattle.std.proofs.Common.{arith, subst, ℕ, ◌-◌, ◌≤◌, refl, ltb, get_or}
+use Rattle.std.proofs.Common.{◌-◌, ◌≤◌, ltb, get_or}
 use Rattle.model.specs.Memory.{Filled}
-use Rattle.loader.proofs.Fill.{filled_none, filled_more}
 use Rattle.loader.proofs.copy.Given as goal
 
 abbrev pub invariant-loop-i : goal.invariant-loop-i

@@ -1,5 +1,5 @@
 -- `loader::load` meets its contract.
-use Rattle.std.proofs.Common.{arith, refl, rules}
+use Rattle.std.proofs.Common.{arith, refl}
 use Rattle.lines.specs.Line.{limits_of}
 use Rattle.loader.proofs.Sales.{too_long, file-fails, calls-fail, file-fits}
 use Rattle.loader.proofs.load.Goals as goal

@@ -1,5 +1,5 @@
 -- `loader::load_catalogue` meets its contract.
-use Rattle.std.proofs.Common.{arith, sym, rules}
+use Rattle.std.proofs.Common.{arith, sym}
 use Rattle.lines.specs.Line.{limits_of}
 use Rattle.loader.proofs.Accepting.{fails, small, sortable, fits}
 use Rattle.loader.proofs.load_catalogue.Goals as goal

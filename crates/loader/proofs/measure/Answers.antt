@@ -1,5 +1,5 @@
 -- `loader::measure` meets its contract.
-use Rattle.std.proofs.Common.{arith, ◌∙◌, ap, ℕ, ◌+◌, ◌*◌, mul-le-mul_right, take, rules}
+use Rattle.std.proofs.Common.{arith, ◌∙◌, ap, ℕ, ◌+◌, ◌*◌, mul-le-mul_right, take}
 use Rattle.model.specs.Catalogue.{nearest}
 use Rattle.guarantees.specs.Capacity.{near}
 use Rattle.reader.specs.Whole.{average_of}

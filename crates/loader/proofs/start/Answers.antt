@@ -1,5 +1,5 @@
 -- `loader::start`: the loaded marks are copied, and can then be put in order.
-use Rattle.std.proofs.Common.{ℕ, get_or, arith, rules}
+use Rattle.std.proofs.Common.{get_or, arith}
 use Rattle.pins.specs.Sorting.{sortable-as}
 use Rattle.loader.proofs.Fill.{filled_in}
 use Rattle.loader.proofs.start.Goals as goal

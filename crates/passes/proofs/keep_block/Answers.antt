@@ -1,5 +1,5 @@
 -- `passes::keep_block` meets its contract.
-use Rattle.std.proofs.Common.{refl, ap, ℕ, set, length-set, arith, rules}
+use Rattle.std.proofs.Common.{ap, ℕ, set, length-set, arith}
 use Rattle.passes.proofs.keep_block.Goals as goal
 
 pub returns-then-k-ge1024 : goal.returns-then-k-ge1024

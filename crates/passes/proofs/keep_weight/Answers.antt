@@ -1,5 +1,5 @@
 -- `passes::keep_weight` meets its contract.
-use Rattle.std.proofs.Common.{refl, length-set, arith, rules}
+use Rattle.std.proofs.Common.{refl, length-set, arith}
 use Rattle.passes.proofs.keep_weight.Goals as goal
 
 pub returns-then-k-ge1024 : goal.returns-then-k-ge1024

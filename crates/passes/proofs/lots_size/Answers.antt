@@ -1,6 +1,6 @@
-use Rattle.std.proofs.Common.{ℕ, ◌≤◌, ◌+◌, ◌-◌, ◌*◌, ◌≡◌, refl, sym, ◌∙◌, ap, length, arith, rules}
+use Rattle.std.proofs.Common.{ℕ, ap, length, arith}
 use Rattle.model.specs.Report.{digits}
-use Rattle.passes.proofs.Tables.{lots_from, lots-size-on, lots-none}
+use Rattle.passes.proofs.Tables.{lots-size-on, lots-none}
 use Rattle.passes.proofs.lots_size.Goals as goal
 
 pub loop-k-init : goal.loop-k-init

@@ -1,7 +1,6 @@
 -- `passes::lots_size` meets its contract. The invariant: k lines are counted, and the others are still to be.
-use Rattle.std.proofs.Common.{ℕ, ◌≤◌, ◌+◌, ◌-◌, ◌*◌, ◌≡◌, refl, sym, ◌∙◌, ap, length, arith, rules}
-use Rattle.model.specs.Report.{digits}
-use Rattle.passes.proofs.Tables.{lots_from, lots-size-on, lots-none}
+use Rattle.std.proofs.Common.{◌≤◌, ◌+◌, ◌-◌, ◌*◌, ◌≡◌, length}
+use Rattle.passes.proofs.Tables.{lots_from}
 use Rattle.passes.proofs.lots_size.Given as goal
 
 abbrev pub invariant-loop-k : goal.invariant-loop-k

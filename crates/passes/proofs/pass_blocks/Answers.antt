@@ -1,6 +1,5 @@
-use Rattle.std.proofs.Common.{◌-◌, ◌≡◌, sym, ◌∙◌, arith, rules, length}
-use Rattle.std.proofs.lemmas.Bool.{not-true, not-false}
-use Rattle.passes.proofs.Tables.{OnBlocks, blocks_start, blocks_end, blocks-none, blocks-bad, blocks-on}
+use Rattle.std.proofs.Common.{sym, ◌∙◌, arith}
+use Rattle.passes.proofs.Tables.{blocks_start, blocks_end, blocks-none, blocks-bad, blocks-on}
 use Rattle.passes.proofs.pass_blocks.Goals as goal
 
 pub loop-i-init : goal.loop-i-init

@@ -1,7 +1,6 @@
 -- `passes::pass_blocks` meets its contract. The invariant: k blocks are passed over and in the table, and the others are still to be read.
-use Rattle.std.proofs.Common.{◌-◌, ◌≡◌, sym, ◌∙◌, arith, rules, length}
-use Rattle.std.proofs.lemmas.Bool.{not-true, not-false}
-use Rattle.passes.proofs.Tables.{OnBlocks, blocks_start, blocks_end, blocks-none, blocks-bad, blocks-on}
+use Rattle.std.proofs.Common.{◌-◌, length}
+use Rattle.passes.proofs.Tables.{OnBlocks}
 use Rattle.passes.proofs.pass_blocks.Given as goal
 
 abbrev pub invariant-loop-i : goal.invariant-loop-i

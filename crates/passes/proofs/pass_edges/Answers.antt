@@ -1,9 +1,9 @@
-use Rattle.std.proofs.Common.{ℕ, ◌-◌, ◌≡◌, refl, sym, ◌∙◌, arith, rules}
+use Rattle.std.proofs.Common.{ℕ, arith}
 use Rattle.std.proofs.lemmas.List.{length-replicate}
 use Rattle.laws.specs.Fold.{zeros-get}
 use Rattle.model.specs.Hmetis.{is_edge}
 use Rattle.passes.proofs.Rows.{rows_short}
-use Rattle.passes.proofs.Tables.{OnEdges, edges-start, edges-bad, edges-done, edges-stop, edges-on}
+use Rattle.passes.proofs.Tables.{edges-start, edges-bad, edges-done, edges-stop, edges-on}
 use Rattle.passes.proofs.pass_edges.Goals as goal
 
 pub loop-k-init : goal.loop-k-init

@@ -1,7 +1,6 @@
 -- `passes::pass_part` meets its contract.
-use Rattle.std.proofs.Common.{◌≡◌, sym, ◌∙◌, ap, arith, rules}
-use Rattle.std.proofs.lemmas.Bool.{not-true, not-false}
-use Rattle.model.specs.Grammar.{same, bytes}
+use Rattle.std.proofs.Common.{sym, ◌∙◌, arith}
+use Rattle.model.specs.Grammar.{bytes}
 use Rattle.passes.proofs.Rows.{part-short, part-other, part-here}
 use Rattle.passes.proofs.pass_part.Goals as goal
 

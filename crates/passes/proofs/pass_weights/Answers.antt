@@ -1,8 +1,7 @@
-use Rattle.std.proofs.Common.{◌-◌, ◌≡◌, sym, ◌∙◌, arith, rules}
-use Rattle.std.proofs.lemmas.Bool.{not-true, not-false}
+use Rattle.std.proofs.Common.{sym, ◌∙◌, arith}
 use Rattle.model.specs.Grammar.{is_number}
 use Rattle.passes.proofs.Rows.{rows_short, rows-bad}
-use Rattle.passes.proofs.Tables.{OnWeights, weights-start, weights-bad, weights-done, weights-on}
+use Rattle.passes.proofs.Tables.{weights-start, weights-bad, weights-done, weights-on}
 use Rattle.passes.proofs.pass_weights.Goals as goal
 
 pub loop-k-init : goal.loop-k-init

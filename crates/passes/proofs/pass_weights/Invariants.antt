@@ -1,9 +1,6 @@
 -- `passes::pass_weights` meets its contract. The invariant: k weights are passed over and in the table, and the others are still to be read.
-use Rattle.std.proofs.Common.{◌-◌, ◌≡◌, sym, ◌∙◌, arith, rules}
-use Rattle.std.proofs.lemmas.Bool.{not-true, not-false}
-use Rattle.model.specs.Grammar.{is_number}
-use Rattle.passes.proofs.Rows.{rows_short, rows-bad}
-use Rattle.passes.proofs.Tables.{OnWeights, weights-start, weights-bad, weights-done, weights-on}
+use Rattle.std.proofs.Common.{◌-◌}
+use Rattle.passes.proofs.Tables.{OnWeights}
 use Rattle.passes.proofs.pass_weights.Given as goal
 
 abbrev pub invariant-loop-k : goal.invariant-loop-k

@@ -1,9 +1,8 @@
-use Rattle.std.proofs.Common.{◌≤◌, ◌-◌, ◌≡◌, refl, sym, ◌∙◌, ap, subst, List, ℕ, length, arith, rules}
-use Rattle.fields.specs.Wrote.{Remains}
-use Rattle.fields.proofs.Laws.{remains-all, remains-none}
+use Rattle.std.proofs.Common.{arith}
+use Rattle.fields.proofs.Laws.{remains-all}
 use Rattle.model.specs.Grammar.{bytes}
 use Rattle.model.specs.Report.{row}
-use Rattle.passes.proofs.Tables.{lots_from, lots-room, lots-more, lots-end}
+use Rattle.passes.proofs.Tables.{lots-room, lots-more, lots-end}
 use Rattle.passes.proofs.put_lots.Goals as goal
 
 pub loop-k-init : goal.loop-k-init

@@ -1,10 +1,7 @@
 -- `passes::put_lots` meets its contract. The invariant: the lines of the lots from the k-th on are still to be written.
-use Rattle.std.proofs.Common.{◌≤◌, ◌-◌, ◌≡◌, refl, sym, ◌∙◌, ap, subst, List, ℕ, length, arith, rules}
+use Rattle.std.proofs.Common.{◌≤◌, ◌-◌, ◌≡◌, length}
 use Rattle.fields.specs.Wrote.{Remains}
-use Rattle.fields.proofs.Laws.{remains-all, remains-none}
-use Rattle.model.specs.Grammar.{bytes}
-use Rattle.model.specs.Report.{row}
-use Rattle.passes.proofs.Tables.{lots_from, lots-room, lots-more, lots-end}
+use Rattle.passes.proofs.Tables.{lots_from}
 use Rattle.passes.proofs.put_lots.Given as goal
 
 abbrev pub invariant-loop-k : goal.invariant-loop-k

@@ -1,7 +1,7 @@
-use Rattle.std.proofs.Common.{◌-◌, ◌≡◌, refl, sym, ◌∙◌, arith, rules}
+use Rattle.std.proofs.Common.{◌-◌, arith}
 use Rattle.model.specs.Hmetis.{is_edge}
 use Rattle.passes.proofs.Rows.{part_edge, row_here}
-use Rattle.passes.proofs.Tables.{OnNets, nets-start, nets-done, nets-room, nets-on}
+use Rattle.passes.proofs.Tables.{nets-start, nets-done, nets-room, nets-on}
 use Rattle.passes.proofs.put_nets.Goals as goal
 
 pub loop-k-init : goal.loop-k-init

@@ -1,8 +1,6 @@
 -- `passes::put_nets` meets its contract. The invariant: the lines of the edges from the k-th on are still to be written.
-use Rattle.std.proofs.Common.{◌-◌, ◌≡◌, refl, sym, ◌∙◌, arith, rules}
-use Rattle.model.specs.Hmetis.{is_edge}
-use Rattle.passes.proofs.Rows.{part_edge, row_here}
-use Rattle.passes.proofs.Tables.{OnNets, nets-start, nets-done, nets-room, nets-on}
+use Rattle.std.proofs.Common.{◌-◌}
+use Rattle.passes.proofs.Tables.{OnNets}
 use Rattle.passes.proofs.put_nets.Given as goal
 
 abbrev pub invariant-loop-k : goal.invariant-loop-k

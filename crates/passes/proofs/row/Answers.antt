@@ -1,5 +1,4 @@
-use Rattle.std.proofs.Common.{◌≤◌, ◌-◌, ◌≡◌, refl, ◌∙◌, arith, rules, length}
-use Rattle.passes.specs.Rows.{sections_at}
+use Rattle.std.proofs.Common.{refl, ◌∙◌, arith}
 use Rattle.passes.proofs.Lines.{comment-line, sections-none, sections-end, row-none, row-found}
 use Rattle.passes.proofs.row.Goals as goal
 

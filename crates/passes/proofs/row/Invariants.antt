@@ -1,7 +1,6 @@
 -- `passes::row` meets its contract. The invariant: the sections from `at` on are those from `i` on.
-use Rattle.std.proofs.Common.{◌≤◌, ◌-◌, ◌≡◌, refl, ◌∙◌, arith, rules, length}
+use Rattle.std.proofs.Common.{◌≤◌, ◌-◌, ◌≡◌, length}
 use Rattle.passes.specs.Rows.{sections_at}
-use Rattle.passes.proofs.Lines.{comment-line, sections-none, sections-end, row-none, row-found}
 use Rattle.passes.proofs.row.Given as goal
 
 abbrev pub invariant-loop-i : goal.invariant-loop-i

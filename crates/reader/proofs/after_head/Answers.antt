@@ -1,5 +1,5 @@
 -- `reader::after_head` meets its contract.
-use Rattle.std.proofs.Common.{arith, refl, rules}
+use Rattle.std.proofs.Common.{arith, refl}
 use Rattle.reader.proofs.Ranges.{lots-cut, lots-go, fresh_start}
 use Rattle.reader.proofs.after_head.Goals as goal
 

@@ -1,5 +1,5 @@
 -- `reader::after_vertices` meets its contract.
-use Rattle.std.proofs.Common.{arith, rules}
+use Rattle.std.proofs.Common.{arith}
 use Rattle.reader.proofs.Ranges.{nets-cut, nets-over, nets-all}
 use Rattle.reader.proofs.after_vertices.Goals as goal
 

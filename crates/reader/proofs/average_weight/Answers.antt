@@ -1,5 +1,5 @@
 -- `reader::average_weight` meets its contract.
-use Rattle.std.proofs.Common.{arith, ap, rules, ℕ, ◌+◌, ◌-◌, ◌/◌, div-le_self}
+use Rattle.std.proofs.Common.{arith, ap, ℕ, ◌+◌, ◌-◌, ◌/◌, div-le_self}
 use Rattle.reader.proofs.average_weight.Goals as goal
 
 pub returns : goal.returns

@@ -1,5 +1,5 @@
 -- `reader::capacity` meets its contract.
-use Rattle.std.proofs.Common.{arith, ◌+◌, mul-le-mul_right, rules}
+use Rattle.std.proofs.Common.{arith, ◌+◌, mul-le-mul_right}
 use Rattle.reader.proofs.capacity.Goals as goal
 
 pub overflow_mul-imbalance : goal.overflow_mul-imbalance

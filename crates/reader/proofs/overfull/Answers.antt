@@ -1,6 +1,5 @@
-use Rattle.std.proofs.Common.{arith, ◌≡◌, rules, ℕ, ◌-◌, ◌≤◌, false, List}
-use Rattle.model.specs.Catalogue.{Net}
-use Rattle.reader.proofs.Loads.{up_to, over_none, over-next, over-found, over-all}
+use Rattle.std.proofs.Common.{arith}
+use Rattle.reader.proofs.Loads.{over_none, over-next, over-found, over-all}
 use Rattle.reader.proofs.overfull.Goals as goal
 
 pub loop-b-init : goal.loop-b-init

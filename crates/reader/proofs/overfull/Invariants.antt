@@ -1,7 +1,7 @@
 -- `reader::overfull` meets its contract.
-use Rattle.std.proofs.Common.{arith, ◌≡◌, rules, ℕ, ◌-◌, ◌≤◌, false, List}
+use Rattle.std.proofs.Common.{◌≡◌, ℕ, ◌-◌, ◌≤◌, false, List}
 use Rattle.model.specs.Catalogue.{Net}
-use Rattle.reader.proofs.Loads.{up_to, over_none, over-next, over-found, over-all}
+use Rattle.reader.proofs.Loads.{up_to}
 use Rattle.reader.proofs.overfull.Given as goal
 
 abbrev pub invariant-loop-b : goal.invariant-loop-b

@@ -1,5 +1,5 @@
-use Rattle.std.proofs.Common.{◌-◌, length, length-set, arith, ◌∙◌, rules}
-use Rattle.reader.proofs.Turns.{OnCalls, calls-start, calls-done, calls-full, calls-unended, calls-bad, calls-on}
+use Rattle.std.proofs.Common.{length-set, arith, ◌∙◌}
+use Rattle.reader.proofs.Turns.{calls-start, calls-done, calls-full, calls-unended, calls-bad, calls-on}
 use Rattle.reader.proofs.read_calls.Goals as goal
 
 pub loop-i-init : goal.loop-i-init

@@ -1,6 +1,6 @@
 -- `reader::read_calls` meets its contract.
-use Rattle.std.proofs.Common.{◌-◌, length, length-set, arith, ◌∙◌, rules}
-use Rattle.reader.proofs.Turns.{OnCalls, calls-start, calls-done, calls-full, calls-unended, calls-bad, calls-on}
+use Rattle.std.proofs.Common.{◌-◌, length}
+use Rattle.reader.proofs.Turns.{OnCalls}
 use Rattle.reader.proofs.read_calls.Given as goal
 
 abbrev pub invariant-loop-i : goal.invariant-loop-i

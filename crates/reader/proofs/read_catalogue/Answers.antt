@@ -1,5 +1,5 @@
 -- `reader::read_catalogue` meets its contract.
-use Rattle.std.proofs.Common.{arith, rules}
+use Rattle.std.proofs.Common.{arith}
 use Rattle.lines.specs.Line.{limits_of}
 use Rattle.reader.proofs.Ranges.{no_line, bad-sale, catalogue-cut, catalogue-all}
 use Rattle.reader.proofs.read_catalogue.Goals as goal

@@ -1,5 +1,5 @@
-use Rattle.std.proofs.Common.{◌-◌, arith, ◌∙◌, rules}
-use Rattle.reader.proofs.NetLines.{OnBuys, buys-start, buys-none, buys-stop, buys-on, buys-done}
+use Rattle.std.proofs.Common.{arith, ◌∙◌}
+use Rattle.reader.proofs.NetLines.{buys-start, buys-none, buys-stop, buys-on, buys-done}
 use Rattle.reader.proofs.read_nets.Goals as goal
 
 pub loop-j-init : goal.loop-j-init

@@ -1,6 +1,6 @@
 -- `reader::read_nets` meets its contract.
-use Rattle.std.proofs.Common.{◌-◌, arith, ◌∙◌, rules}
-use Rattle.reader.proofs.NetLines.{OnBuys, buys-start, buys-none, buys-stop, buys-on, buys-done}
+use Rattle.std.proofs.Common.{◌-◌}
+use Rattle.reader.proofs.NetLines.{OnBuys}
 use Rattle.reader.proofs.read_nets.Given as goal
 
 abbrev pub invariant-loop-j : goal.invariant-loop-j

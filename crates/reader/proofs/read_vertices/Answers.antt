@@ -1,5 +1,5 @@
-use Rattle.std.proofs.Common.{arith, rules, ◌-◌}
-use Rattle.reader.proofs.Lots.{OnLots, lots-start, lots-none, lots-stop, lots-on, lots-done}
+use Rattle.std.proofs.Common.{arith}
+use Rattle.reader.proofs.Lots.{lots-start, lots-none, lots-stop, lots-on, lots-done}
 use Rattle.reader.proofs.read_vertices.Goals as goal
 
 pub loop-k-init : goal.loop-k-init

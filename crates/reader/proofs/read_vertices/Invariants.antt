@@ -1,6 +1,6 @@
 -- `reader::read_vertices` meets its contract.
-use Rattle.std.proofs.Common.{arith, rules, ◌-◌}
-use Rattle.reader.proofs.Lots.{OnLots, lots-start, lots-none, lots-stop, lots-on, lots-done}
+use Rattle.std.proofs.Common.{◌-◌}
+use Rattle.reader.proofs.Lots.{OnLots}
 use Rattle.reader.proofs.read_vertices.Given as goal
 
 abbrev pub invariant-loop-k : goal.invariant-loop-k

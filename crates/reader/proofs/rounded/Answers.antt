@@ -1,5 +1,4 @@
 -- `reader::rounded` meets its contract.
-use Rattle.std.proofs.Common.{arith, rules}
 use Rattle.reader.proofs.Loads.{nearest-down, nearest-half, nearest-up}
 use Rattle.reader.proofs.rounded.Goals as goal
 

@@ -1,4 +1,4 @@
-use Rattle.std.proofs.Common.{arith, ◌≡◌, sym, ◌∙◌, ap, ◌-◌, ◌*◌, ◌≤◌, get_or}
+use Rattle.std.proofs.Common.{arith, sym, ◌∙◌, ap, get_or}
 use Rattle.laws.specs.Sum.{sum, sum-zero, sum_step}
 use Rattle.reader.proofs.Loads.{sum-take}
 use Rattle.reader.proofs.total_weight.Goals as goal

@@ -1,7 +1,6 @@
 -- `reader::total_weight` meets its contract.
-use Rattle.std.proofs.Common.{arith, ◌≡◌, sym, ◌∙◌, ap, ◌-◌, ◌*◌, ◌≤◌, get_or}
-use Rattle.laws.specs.Sum.{sum, sum-zero, sum_step}
-use Rattle.reader.proofs.Loads.{sum-take}
+use Rattle.std.proofs.Common.{◌≡◌, ◌-◌, ◌*◌, ◌≤◌, get_or}
+use Rattle.laws.specs.Sum.{sum}
 use Rattle.reader.proofs.total_weight.Given as goal
 
 abbrev pub invariant-loop-i : goal.invariant-loop-i

@@ -1,5 +1,5 @@
 -- `spaced::check_edge` meets its contract.
-use Rattle.std.proofs.Common.{sym, ◌∙◌, arith, rules}
+use Rattle.std.proofs.Common.{arith}
 use Rattle.std.proofs.lemmas.Bool.{not-true, not-false}
 use Rattle.spaced.proofs.Edges.{edge-bad, edge-good}
 use Rattle.spaced.proofs.check_edge.Goals as goal

@@ -1,6 +1,6 @@
-use Rattle.std.proofs.Common.{◌-◌, ◌≡◌, sym, ◌∙◌, arith, rules}
+use Rattle.std.proofs.Common.{arith}
 use Rattle.std.proofs.lemmas.Bool.{not-true, not-false}
-use Rattle.spaced.proofs.Edges.{OnPins, pins-start, pins-stop, pins-last, pins-on}
+use Rattle.spaced.proofs.Edges.{pins-start, pins-stop, pins-last, pins-on}
 use Rattle.spaced.proofs.check_pins.Goals as goal
 
 pub loop-at-init : goal.loop-at-init

@@ -1,7 +1,6 @@
 -- `spaced::check_pins` meets its contract. The invariant: what the words from `at` on say, those from `i` on say after the vertices seen.
-use Rattle.std.proofs.Common.{◌-◌, ◌≡◌, sym, ◌∙◌, arith, rules}
-use Rattle.std.proofs.lemmas.Bool.{not-true, not-false}
-use Rattle.spaced.proofs.Edges.{OnPins, pins-start, pins-stop, pins-last, pins-on}
+use Rattle.std.proofs.Common.{◌-◌}
+use Rattle.spaced.proofs.Edges.{OnPins}
 use Rattle.spaced.proofs.check_pins.Given as goal
 
 abbrev pub invariant-loop-at : goal.invariant-loop-at

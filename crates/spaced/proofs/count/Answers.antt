@@ -1,8 +1,4 @@
-use Rattle.std.proofs.Common.{◌≤◌, ◌-◌, ◌≡◌, refl, sym, ◌∙◌, arith, rules}
-use Rattle.std.proofs.Math.Seq.{slice}
-use Rattle.std.proofs.lemmas.Bool.{not-true, not-false}
-use Rattle.text.specs.Field.{counted}
-use Rattle.model.specs.Hmetis.{words, numbers_in}
+use Rattle.std.proofs.Common.{sym, ◌∙◌, arith}
 use Rattle.spaced.proofs.Words.{numbers-counted, count-bad, count-last, count-on}
 use Rattle.spaced.proofs.count.Goals as goal
 

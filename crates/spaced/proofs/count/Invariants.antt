@@ -1,10 +1,8 @@
 -- `spaced::count` meets its contract. The invariant: what the line's words count to, those from `i` on do after k.
-use Rattle.std.proofs.Common.{◌≤◌, ◌-◌, ◌≡◌, refl, sym, ◌∙◌, arith, rules}
+use Rattle.std.proofs.Common.{◌≤◌, ◌-◌, ◌≡◌}
 use Rattle.std.proofs.Math.Seq.{slice}
-use Rattle.std.proofs.lemmas.Bool.{not-true, not-false}
 use Rattle.text.specs.Field.{counted}
 use Rattle.model.specs.Hmetis.{words, numbers_in}
-use Rattle.spaced.proofs.Words.{numbers-counted, count-bad, count-last, count-on}
 use Rattle.spaced.proofs.count.Given as goal
 
 abbrev pub invariant-loop-at : goal.invariant-loop-at

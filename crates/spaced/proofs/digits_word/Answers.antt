@@ -1,5 +1,5 @@
 -- `spaced::digits_word` meets its contract.
-use Rattle.std.proofs.Common.{arith, rules}
+use Rattle.std.proofs.Common.{arith}
 use Rattle.spaced.proofs.Digits.{digits-none, digits-zero, digits-here}
 use Rattle.spaced.proofs.digits_word.Goals as goal
 

@@ -1,5 +1,5 @@
-use Rattle.std.proofs.Common.{refl, ◌∙◌, arith, rules}
-use Rattle.spaced.proofs.Edges.{OnGet, get-short, get-on, get-number, get-here}
+use Rattle.std.proofs.Common.{refl, ◌∙◌, arith}
+use Rattle.spaced.proofs.Edges.{get-short, get-on, get-number, get-here}
 use Rattle.spaced.proofs.get.Goals as goal
 
 pub loop-k-init : goal.loop-k-init

@@ -1,6 +1,5 @@
 -- `spaced::get` meets its contract. The invariant: the number that n stand before is the one that k stand before from `i` on.
-use Rattle.std.proofs.Common.{refl, ◌∙◌, arith, rules}
-use Rattle.spaced.proofs.Edges.{OnGet, get-short, get-on, get-number, get-here}
+use Rattle.spaced.proofs.Edges.{OnGet}
 use Rattle.spaced.proofs.get.Given as goal
 
 abbrev pub invariant-loop-k : goal.invariant-loop-k

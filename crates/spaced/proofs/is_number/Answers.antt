@@ -1,7 +1,5 @@
 -- `spaced::is_number` meets its contract.
-use Rattle.std.proofs.Common.{◌≡◌, sym, ◌∙◌, Bool, true, false, eqb-true, eq-eqb, ne_eqb, arith, rules}
-use Rattle.std.proofs.Math.Seq.{slice}
-use Rattle.std.proofs.lemmas.Bool.{eqb-false}
+use Rattle.std.proofs.Common.{arith}
 use Rattle.spaced.proofs.Single.{nothing-no, number_is}
 use Rattle.spaced.proofs.is_number.Goals as goal
 

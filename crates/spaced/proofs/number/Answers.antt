@@ -1,5 +1,5 @@
-use Rattle.std.proofs.Common.{◌-◌, ◌≡◌, sym, ◌∙◌, arith, rules}
-use Rattle.spaced.proofs.Digits.{OnWord, word-start, word-space, word-last, word_low, word-high, word-long, word_room, word_on}
+use Rattle.std.proofs.Common.{arith}
+use Rattle.spaced.proofs.Digits.{word-start, word-space, word-last, word_low, word-high, word-long, word_room, word_on}
 use Rattle.spaced.proofs.number.Goals as goal
 
 pub loop-i-init : goal.loop-i-init

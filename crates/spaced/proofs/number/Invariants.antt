@@ -1,6 +1,6 @@
 -- `spaced::number` meets its contract. The invariant: the bytes before i are digits, nine at most, of the value v.
-use Rattle.std.proofs.Common.{◌-◌, ◌≡◌, sym, ◌∙◌, arith, rules}
-use Rattle.spaced.proofs.Digits.{OnWord, word-start, word-space, word-last, word_low, word-high, word-long, word_room, word_on}
+use Rattle.std.proofs.Common.{◌-◌}
+use Rattle.spaced.proofs.Digits.{OnWord}
 use Rattle.spaced.proofs.number.Given as goal
 
 abbrev pub invariant-loop-i : goal.invariant-loop-i

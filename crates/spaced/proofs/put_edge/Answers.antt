@@ -1,5 +1,5 @@
 -- `spaced::put_edge` meets its contract: the word, the weight, the vertices and the line feed, one after another.
-use Rattle.std.proofs.Common.{sym, ◌∙◌, length-set, arith, rules}
+use Rattle.std.proofs.Common.{length-set, arith}
 use Rattle.spaced.proofs.Edges.{values_at, lead-well, lead-numbers, edge-text, word_room, field_room, pins-room, feed-room, feed-length, edge-written}
 use Rattle.spaced.proofs.put_edge.Goals as goal
 

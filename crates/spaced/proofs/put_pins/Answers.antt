@@ -1,7 +1,7 @@
-use Rattle.std.proofs.Common.{◌-◌, ◌≡◌, sym, ◌∙◌, arith, rules}
-use Rattle.fields.proofs.Laws.{remains-all, wrote-length}
+use Rattle.std.proofs.Common.{◌∙◌, arith}
+use Rattle.fields.proofs.Laws.{remains-all}
 use Rattle.spaced.proofs.Words.{word-well}
-use Rattle.spaced.proofs.Edges.{OnPut, put-room, put_last, put_on}
+use Rattle.spaced.proofs.Edges.{put-room, put_last, put_on}
 use Rattle.spaced.proofs.put_pins.Goals as goal
 
 pub loop-at-init : goal.loop-at-init

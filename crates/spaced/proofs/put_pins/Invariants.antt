@@ -1,8 +1,6 @@
 -- `spaced::put_pins` meets its contract. The invariant: what the words from `i` on say is still to be written.
-use Rattle.std.proofs.Common.{◌-◌, ◌≡◌, sym, ◌∙◌, arith, rules}
-use Rattle.fields.proofs.Laws.{remains-all, wrote-length}
-use Rattle.spaced.proofs.Words.{word-well}
-use Rattle.spaced.proofs.Edges.{OnPut, put-room, put_last, put_on}
+use Rattle.std.proofs.Common.{◌-◌}
+use Rattle.spaced.proofs.Edges.{OnPut}
 use Rattle.spaced.proofs.put_pins.Given as goal
 
 abbrev pub invariant-loop-at : goal.invariant-loop-at

@@ -1,5 +1,5 @@
 -- `spaced::read` meets its contract.
-use Rattle.std.proofs.Common.{arith, rules}
+use Rattle.std.proofs.Common.{arith}
 use Rattle.spaced.proofs.Single.{number-field, number-value}
 use Rattle.spaced.proofs.read.Goals as goal
 

@@ -1,5 +1,5 @@
 -- `spaced::read_lead` meets its contract.
-use Rattle.std.proofs.Common.{arith, rules}
+use Rattle.std.proofs.Common.{arith}
 use Rattle.std.proofs.lemmas.Bool.{not-true, not-false}
 use Rattle.spaced.proofs.Edges.{lead_plain, lead-bad, lead-short, lead-behind}
 use Rattle.spaced.proofs.read_lead.Goals as goal

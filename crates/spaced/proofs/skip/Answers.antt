@@ -1,7 +1,4 @@
-use Rattle.std.proofs.Common.{◌≤◌, ◌-◌, ◌≡◌, refl, ◌∙◌, arith, rules}
-use Rattle.std.proofs.Math.Seq.{slice}
-use Rattle.model.specs.Grammar.{parts}
-use Rattle.model.specs.Hmetis.{later}
+use Rattle.std.proofs.Common.{refl, ◌∙◌, arith}
 use Rattle.spaced.proofs.Words.{later-space, later-word, later-end}
 use Rattle.spaced.proofs.skip.Goals as goal
 

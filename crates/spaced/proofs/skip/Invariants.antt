@@ -1,9 +1,8 @@
 -- `spaced::skip` meets its contract. The invariant: what follows the words before `at` is what follows from `i` on.
-use Rattle.std.proofs.Common.{◌≤◌, ◌-◌, ◌≡◌, refl, ◌∙◌, arith, rules}
+use Rattle.std.proofs.Common.{◌≤◌, ◌-◌, ◌≡◌}
 use Rattle.std.proofs.Math.Seq.{slice}
 use Rattle.model.specs.Grammar.{parts}
 use Rattle.model.specs.Hmetis.{later}
-use Rattle.spaced.proofs.Words.{later-space, later-word, later-end}
 use Rattle.spaced.proofs.skip.Given as goal
 
 abbrev pub invariant-loop-i : goal.invariant-loop-i

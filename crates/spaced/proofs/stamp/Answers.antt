@@ -1,5 +1,5 @@
 -- `spaced::stamp` meets its contract.
-use Rattle.std.proofs.Common.{arith, rules}
+use Rattle.std.proofs.Common.{arith}
 use Rattle.spaced.proofs.Stamps.{stamp-low, stamp-high, stamp-twice, stamp-new}
 use Rattle.spaced.proofs.stamp.Goals as goal
 

@@ -1,5 +1,4 @@
-use Rattle.std.proofs.Common.{◌+◌, ◌≤◌, ◌≡◌, refl, ◌∙◌, arith, rules, length}
-use Rattle.model.specs.Report.{digits}
+use Rattle.std.proofs.Common.{arith}
 use Rattle.guarantees.specs.Numbers.{digits_le}
 use Rattle.text.proofs.Digits.{length-small, length_more}
 use Rattle.spaced.proofs.width.Goals as goal

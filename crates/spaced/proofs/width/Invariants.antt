@@ -1,8 +1,6 @@
 -- `spaced::width` meets its contract. The invariant: n digits of x are counted, save one of y's.
-use Rattle.std.proofs.Common.{◌+◌, ◌≤◌, ◌≡◌, refl, ◌∙◌, arith, rules, length}
+use Rattle.std.proofs.Common.{◌+◌, ◌≤◌, ◌≡◌, length}
 use Rattle.model.specs.Report.{digits}
-use Rattle.guarantees.specs.Numbers.{digits_le}
-use Rattle.text.proofs.Digits.{length-small, length_more}
 use Rattle.spaced.proofs.width.Given as goal
 
 abbrev pub invariant-loop-y : goal.invariant-loop-y

@@ -1,6 +1,4 @@
-use Rattle.std.proofs.Common.{◌≤◌, ◌-◌, ◌+◌, ◌≡◌, arith}
-use Rattle.std.proofs.Math.Seq.{slice}
-use Rattle.text.specs.Field.{first}
+use Rattle.std.proofs.Common.{arith}
 use Rattle.text.proofs.Walk.{first-here, first_on, first-none}
 use Rattle.text.proofs.find.Goals as goal
 

@@ -1,8 +1,7 @@
 -- `text::find` meets its contract. The invariant: what the first sep of the part from `at` is, the part from `i` says.
-use Rattle.std.proofs.Common.{◌≤◌, ◌-◌, ◌+◌, ◌≡◌, arith}
+use Rattle.std.proofs.Common.{◌≤◌, ◌-◌, ◌+◌, ◌≡◌}
 use Rattle.std.proofs.Math.Seq.{slice}
 use Rattle.text.specs.Field.{first}
-use Rattle.text.proofs.Walk.{first-here, first_on, first-none}
 use Rattle.text.proofs.find.Given as goal
 
 abbrev pub invariant-loop-i : goal.invariant-loop-i

@@ -1,5 +1,5 @@
-use Rattle.std.proofs.Common.{arith, rules}
-use Rattle.text.proofs.Lines.{OnGet, get-start, get-short, get-on, get-here, get_value}
+use Rattle.std.proofs.Common.{arith}
+use Rattle.text.proofs.Lines.{get-start, get-short, get-on, get-here, get_value}
 use Rattle.text.proofs.get.Goals as goal
 
 pub loop-k-init : goal.loop-k-init

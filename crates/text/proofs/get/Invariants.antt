@@ -1,6 +1,5 @@
 -- `text::get` meets its contract. The invariant: the i-th field from `at` on is the k-th from `a` on.
-use Rattle.std.proofs.Common.{arith, rules}
-use Rattle.text.proofs.Lines.{OnGet, get-start, get-short, get-on, get-here, get_value}
+use Rattle.text.proofs.Lines.{OnGet}
 use Rattle.text.proofs.get.Given as goal
 
 abbrev pub invariant-loop-k : goal.invariant-loop-k

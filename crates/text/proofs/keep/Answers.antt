@@ -1,5 +1,4 @@
 -- `text::keep` meets its contract.
-use Rattle.std.proofs.Common.{arith, rules}
 use Rattle.text.proofs.Lines.{keeps-past, keeps-one}
 use Rattle.text.proofs.keep.Goals as goal
 

@@ -1,6 +1,4 @@
-use Rattle.std.proofs.Common.{◌+◌, ◌-◌, ◌≤◌, ◌≡◌, arith, rules}
-use Rattle.std.proofs.Math.Seq.{slice}
-use Rattle.text.specs.Field.{first}
+use Rattle.std.proofs.Common.{arith}
 use Rattle.text.proofs.Walk.{first_past, first-from}
 use Rattle.text.proofs.line_end.Goals as goal
 

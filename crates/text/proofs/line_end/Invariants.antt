@@ -1,8 +1,7 @@
 -- `text::line_end` meets its contract. The invariant: what the first line feed of the part from `at` is, the part from `i` says.
-use Rattle.std.proofs.Common.{◌+◌, ◌-◌, ◌≤◌, ◌≡◌, arith, rules}
+use Rattle.std.proofs.Common.{◌+◌, ◌-◌, ◌≤◌, ◌≡◌}
 use Rattle.std.proofs.Math.Seq.{slice}
 use Rattle.text.specs.Field.{first}
-use Rattle.text.proofs.Walk.{first_past, first-from}
 use Rattle.text.proofs.line_end.Given as goal
 
 abbrev pub invariant-loop-i : goal.invariant-loop-i

@@ -1,5 +1,5 @@
 -- `text::put_short` meets its contract.
-use Rattle.std.proofs.Common.{◌+◌, ◌/◌, ◌%◌, ap, sym, ◌∙◌, arith, length-set, rules}
+use Rattle.std.proofs.Common.{◌+◌, ◌/◌, ◌%◌, ap, sym, ◌∙◌, arith, length-set}
 use Rattle.text.specs.Output.{written}
 use Rattle.text.proofs.Digits.{digits-small, digits-two, digits-three, length-small, length_two, length_three, written_one, written-two}
 use Rattle.text.proofs.put_short.Goals as goal

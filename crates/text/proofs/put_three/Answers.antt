@@ -1,5 +1,5 @@
 -- `text::put_three` meets its contract.
-use Rattle.std.proofs.Common.{arith, length-set, rules}
+use Rattle.std.proofs.Common.{arith, length-set}
 use Rattle.text.proofs.Digits.{written-three}
 use Rattle.text.proofs.put_three.Goals as goal
 

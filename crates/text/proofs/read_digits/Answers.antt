@@ -1,5 +1,5 @@
-use Rattle.std.proofs.Common.{◌-◌, ◌+◌, ◌≤◌, arith, length}
-use Rattle.text.proofs.Numbers.{OnDigits, digits-start, digits-on, digits-stop, digit_low, digit-high, ten-room}
+use Rattle.std.proofs.Common.{◌-◌, arith}
+use Rattle.text.proofs.Numbers.{digits-start, digits-on, digits-stop, digit_low, digit-high, ten-room}
 use Rattle.text.proofs.read_digits.Goals as goal
 
 pub loop-i-init : goal.loop-i-init

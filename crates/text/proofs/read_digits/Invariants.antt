@@ -1,6 +1,6 @@
 -- `text::read_digits` meets its contract. The invariant: the bytes before `i` are digits, and `v` is their value.
-use Rattle.std.proofs.Common.{◌-◌, ◌+◌, ◌≤◌, arith, length}
-use Rattle.text.proofs.Numbers.{OnDigits, digits-start, digits-on, digits-stop, digit_low, digit-high, ten-room}
+use Rattle.std.proofs.Common.{◌-◌, ◌+◌, ◌≤◌, length}
+use Rattle.text.proofs.Numbers.{OnDigits}
 use Rattle.text.proofs.read_digits.Given as goal
 
 abbrev pub invariant-loop-i : goal.invariant-loop-i

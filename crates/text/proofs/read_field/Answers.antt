@@ -1,5 +1,5 @@
 -- `text::read_field` meets its contract.
-use Rattle.std.proofs.Common.{arith, rules}
+use Rattle.std.proofs.Common.{arith}
 use Rattle.text.proofs.Numbers.{number_read}
 use Rattle.text.proofs.read_field.Goals as goal
 

@@ -1,7 +1,6 @@
 -- `text::read_line` meets its contract.
-use Rattle.std.proofs.Common.{sym, ◌∙◌, arith, drop, rules}
+use Rattle.std.proofs.Common.{sym, ◌∙◌, arith, drop}
 use Rattle.std.proofs.Math.Seq.{slice}
-use Rattle.std.proofs.lemmas.Bool.{not-true, not-false}
 use Rattle.model.specs.Grammar.{fields}
 use Rattle.text.proofs.Lines.{kept-none, form-no, form-one, form-on, form-kept}
 use Rattle.text.proofs.read_line.Goals as goal

@@ -1,7 +1,7 @@
-use Rattle.std.proofs.Common.{◌-◌, arith}
+use Rattle.std.proofs.Common.{arith}
 use Rattle.std.proofs.Math.Seq.{slice}
 use Rattle.model.specs.Grammar.{parts}
-use Rattle.text.proofs.Lines.{OnNumbers, numbers-start, kept-none, numbers-bad, numbers-kept, numbers-last, numbers_on}
+use Rattle.text.proofs.Lines.{numbers-start, kept-none, numbers-bad, numbers-kept, numbers-last, numbers_on}
 use Rattle.text.proofs.read_numbers.Goals as goal
 
 pub loop-i-init : goal.loop-i-init

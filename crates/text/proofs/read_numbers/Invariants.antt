@@ -1,9 +1,7 @@
 -- `text::read_numbers` meets its contract. The invariant: what the fields from `at` on count to, those from `i` on do after `k`, and the
 -- values of those before are kept.
-use Rattle.std.proofs.Common.{◌-◌, arith}
-use Rattle.std.proofs.Math.Seq.{slice}
-use Rattle.model.specs.Grammar.{parts}
-use Rattle.text.proofs.Lines.{OnNumbers, numbers-start, kept-none, numbers-bad, numbers-kept, numbers-last, numbers_on}
+use Rattle.std.proofs.Common.{◌-◌}
+use Rattle.text.proofs.Lines.{OnNumbers}
 use Rattle.text.proofs.read_numbers.Given as goal
 
 abbrev pub invariant-loop-i : goal.invariant-loop-i

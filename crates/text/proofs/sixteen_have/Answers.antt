@@ -1,5 +1,4 @@
-use Rattle.std.proofs.Common.{◌+◌, ◌-◌, ◌≤◌, ◌≡◌, false, arith, length, rules}
-use Rattle.text.specs.Field.{Without}
+use Rattle.std.proofs.Common.{arith}
 use Rattle.text.proofs.Walk.{without_more}
 use Rattle.text.proofs.sixteen_have.Goals as goal
 

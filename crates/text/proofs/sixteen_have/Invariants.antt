@@ -1,7 +1,6 @@
 -- `text::sixteen_have` meets its contract: the first j bytes are tested.
-use Rattle.std.proofs.Common.{◌+◌, ◌-◌, ◌≤◌, ◌≡◌, false, arith, length, rules}
+use Rattle.std.proofs.Common.{◌+◌, ◌-◌, ◌≤◌, ◌≡◌, false, length}
 use Rattle.text.specs.Field.{Without}
-use Rattle.text.proofs.Walk.{without_more}
 use Rattle.text.proofs.sixteen_have.Given as goal
 
 abbrev pub invariant-loop-j : goal.invariant-loop-j

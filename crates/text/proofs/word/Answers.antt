@@ -1,6 +1,5 @@
-use Rattle.std.proofs.Common.{◌≤◌, ◌+◌, ◌-◌, add-zero, length, drop, arith, ◌≡◌, sym, ◌∙◌}
+use Rattle.std.proofs.Common.{add-zero, arith, sym, ◌∙◌}
 use Rattle.std.proofs.Math.Seq.{slice, length-slice}
-use Rattle.model.specs.Grammar.{same}
 use Rattle.text.proofs.Compare.{same-short, same-on, same-off, same_end}
 use Rattle.text.proofs.word.Goals as goal
 

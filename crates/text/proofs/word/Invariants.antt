@@ -1,8 +1,7 @@
 -- `text::word` meets its contract.
-use Rattle.std.proofs.Common.{◌≤◌, ◌+◌, ◌-◌, add-zero, length, drop, arith, ◌≡◌, sym, ◌∙◌}
-use Rattle.std.proofs.Math.Seq.{slice, length-slice}
+use Rattle.std.proofs.Common.{◌≤◌, ◌+◌, ◌-◌, length, drop, ◌≡◌}
+use Rattle.std.proofs.Math.Seq.{slice}
 use Rattle.model.specs.Grammar.{same}
-use Rattle.text.proofs.Compare.{same-short, same-on, same-off, same_end}
 use Rattle.text.proofs.word.Given as goal
 
 abbrev pub invariant-loop-i : goal.invariant-loop-i
