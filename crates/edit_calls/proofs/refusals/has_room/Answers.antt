@@ -3,7 +3,7 @@ use Rattle.guarantees.specs.Caps.{room-none, room-some}
 use Rattle.edit_calls.proofs.refusals.has_room.Goals as goal
 
 pub overflow_cast-w : goal.overflow_cast-w
-overflow_cast-w c = omega (arith, c.shared_slice_known-1.given (c.args.u - 1))
+overflow_cast-w c = omega (arith, c.type_inv.weights (c.args.u - 1))
 
 pub returns-then-ceiling-w : goal.returns-then-ceiling-w
 returns-then-ceiling-w c =

@@ -28,7 +28,7 @@ bounds-blocks-u c =
 
 pub overflow_cast-blocks : goal.overflow_cast-blocks
 overflow_cast-blocks c =
-    omega (arith, c.shared_slice_known-3-1.given (c.args.u - 1))
+    omega (arith, c.type_inv.blocks (c.args.u - 1))
 
 pub returns-then-blocks-u : goal.returns-then-blocks-u
 returns-then-blocks-u c =

@@ -27,7 +27,7 @@ overflow_sub-v c =
 
 pub walk-w-requires : goal.walk-w-requires
 walk-w-requires c =
-    let asks = walk-asks c.args.u c.args.v c.requires.ready_w (sym c.refuses_walk-no.ensures ∙ c.if-no-ne0.false) in record { walk_ok = asks; n_in_bounds = c.requires.n_in_bounds; rows_past = rows_none (λ e _. omega (arith, (c.shared_slice_known-2-1.given e).fits)) }
+    let asks = walk-asks c.args.u c.args.v c.requires.ready_w (sym c.refuses_walk-no.ensures ∙ c.if-no-ne0.false) in record { walk_ok = asks; n_in_bounds = c.requires.n_in_bounds; rows_past = rows_none (λ e _. omega (arith, (c.type_inv.presentsizes e).fits)) }
 
 pub narrow-requires : goal.narrow-requires
 narrow-requires c =
