@@ -1,9 +1,9 @@
 -- What is carried over is within the ranges of a catalogue. Rests on Well and on guarantees' Ranges. Assumes nothing.
-use Prim.Native.Nat.{ℕ, zero, suc, ◌+◌, ◌-◌, ◌≤◌, ◌<◌}
+use Prim.Native.Nat.{ℕ, suc, ◌+◌, ◌≤◌, ◌<◌}
 use native.Mathlib.Omega.{arith}
 use Rattle.std.specs.Prelude.{◌≡◌, refl, Bool, true, false, not, ◌&&◌, cond, eqb, leb, length}
 use Rattle.std.proofs.Math.Path.{sym}
-use Rattle.std.proofs.Common.{ap, ◌∙◌, subst, true≢false}
+use Rattle.std.proofs.Common.{ap, ◌∙◌, subst}
 use mathlib.Core.List.{List, [], ◌∷◌, ◌++◌, map, append-nil, append_assoc}
 use borrow.Author.Tests.{leb-true, ltb-true, eqb-true, not-true}
 use Rattle.std.proofs.Math.Dec.{ltb}
@@ -11,10 +11,9 @@ use Rattle.std.proofs.Math.ListN.{length-map}
 use Rattle.laws.specs.Fold.{sum_over, sum_over-le, any, all, All, all_map}
 use Rattle.laws.specs.Choice.{and_left, and_right}
 use Rattle.laws.specs.Occurrence.{Distinct, distinct_more}
-use Rattle.model.specs.Catalogue.{Net, Hypergraph, main_limits, vertices, drafted}
+use Rattle.model.specs.Catalogue.{Hypergraph, main_limits, vertices}
 use Rattle.model.specs.Machine.{fresh}
 use Rattle.model.specs.Grammar.{Fields, is_number, value, within, overfull}
-use Rattle.guarantees.specs.Clumps.{Within}
 use Rattle.guarantees.specs.Loads.{Loaded, loaded-formed, sum_below, placed-start, capped-draft}
 use Rattle.guarantees.specs.Ranges.{Ranges}
 use Rattle.guarantees.specs.Reading.{within-range}

@@ -1,19 +1,19 @@
 -- An input that is carried over gives a text that loads as that input's hypergraph, with its partition and its metric (loads-as).
 -- Rests on Carries, Metric and written's `loads-again`. Assumes nothing.
-use Rattle.std.specs.Prelude.{ℕ, ◌+◌, ◌≤◌, ◌<◌, ◌≡◌, Bool, true, false, not, ◌&&◌, cond, List, [], ◌∷◌, map, eqb, leb, ltb, length, drop}
+use Rattle.std.specs.Prelude.{ℕ, ◌≤◌, ◌<◌, ◌≡◌, Bool, true, not, cond, List, [], ◌∷◌, map, ltb, length, drop}
 use Rattle.std.proofs.Math.Decide.{dec_lt}
-use Rattle.std.proofs.Common.{arith, sym, ap, ◌∙◌, subst, length-append}
+use Rattle.std.proofs.Common.{arith, sym, ap, subst, length-append}
 use Rattle.std.proofs.Math.Path.{refl}
-use borrow.Author.Tests.{leb-true, eqb-true, eq-eqb, not-true, not-false}
+use borrow.Author.Tests.{leb-true, eq-eqb, not-true, not-false}
 use Rattle.laws.specs.Choice.{and_left, and_right, cond-zero}
-use Rattle.model.specs.Catalogue.{Hypergraph, main_limits}
+use Rattle.model.specs.Catalogue.{main_limits}
 use Rattle.model.specs.Grammar.{overfull}
 use Rattle.model.specs.Report.{digits, row}
 use Rattle.model.specs.CatalogueText.{catalogue_text}
 use Rattle.written.specs.LoadsAgain.{book_of, loads-again}
-use Rattle.model.specs.Hmetis.{Edge, Hmetis, well_written, said}
+use Rattle.model.specs.Hmetis.{Edge, well_written, said}
 use Rattle.model.specs.Convert.{carried, listed, net_of, catalogue_of, fits, refusal, converted, LoadsAs, Converts}
-use Rattle.conversion.specs.Well.{Well, well-parts}
+use Rattle.conversion.specs.Well.{well-parts}
 use Rattle.conversion.specs.Carries.{ranges, loaded, none-fixed, vertices-is, pins-in, listing-long}
 use Rattle.conversion.specs.Metric.{metric-is}
 

@@ -1,6 +1,6 @@
 -- The total of the catalogue is the connectivity metric of the input's partition. Rests on Carries and on guarantees' Clumps. Assumes nothing.
-use Rattle.std.specs.Prelude.{ℕ, zero, suc, ◌+◌, ◌-◌, ◌*◌, ◌≤◌, ◌<◌, ◌≡◌, refl, Bool, true, false, ◌||◌, ltb, length, get_or}
-use Rattle.std.proofs.Common.{arith, sym, ap₂, ◌∙◌}
+use Rattle.std.specs.Prelude.{ℕ, zero, suc, ◌+◌, ◌-◌, ◌*◌, ◌≤◌, ◌<◌, ◌≡◌, refl, Bool, ◌||◌, length, get_or}
+use Rattle.std.proofs.Common.{arith, ap₂, ◌∙◌}
 use Rattle.std.proofs.Math.Path.{ap}
 use mathlib.Core.List.{List, [], ◌∷◌, map}
 use Rattle.std.proofs.Math.Dec.{eqb}
@@ -8,7 +8,7 @@ use Rattle.laws.specs.Choice.{one}
 use Rattle.laws.specs.Sum.{sum_to-ext}
 use Rattle.laws.specs.Fold.{sum_over, sum_over-all, any, All, all_map}
 use Rattle.model.specs.Catalogue.{Net, Hypergraph, vertices, drafted}
-use Rattle.model.specs.Measure.{climb, representative, pin_count, connectivity, metric}
+use Rattle.model.specs.Measure.{climb, representative, connectivity, metric}
 use Rattle.guarantees.specs.Clumps.{visited-any}
 use Rattle.model.specs.Hmetis.{Edge, Hmetis, block_of, spans, cost}
 use Rattle.model.specs.Convert.{net_of, catalogue_of}

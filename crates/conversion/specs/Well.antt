@@ -1,6 +1,6 @@
 -- A well-written input part by part: its tests, and how many lines of each kind it has. Rests on Hmetis. Assumes nothing.
-use Rattle.std.specs.Prelude.{ℕ, suc, ◌+◌, ◌≤◌, ◌≡◌, Bool, ◌&&◌, List, [], ◌∷◌, map, take, drop, replicate}
-use Rattle.std.proofs.Common.{arith, sym, ◌∙◌, true≢false}
+use Rattle.std.specs.Prelude.{ℕ, suc, ◌+◌, ◌≡◌, Bool, ◌&&◌, List, map, drop, replicate}
+use Rattle.std.proofs.Common.{arith, ◌∙◌}
 use Rattle.std.proofs.Math.Path.{refl, ap}
 use Rattle.std.proofs.Math.Bool.{true, false, cond}
 use borrow.Author.Tests.{eqb-true, eq-eqb}
@@ -10,7 +10,7 @@ use Rattle.std.proofs.Math.Seq.{length-take-le}
 use Rattle.laws.specs.Fold.{all}
 use Rattle.laws.specs.Choice.{and_left, and_right}
 use Rattle.model.specs.Grammar.{is_number, value, is_line_of}
-use Rattle.model.specs.Hmetis.{is_ended, Sections, is_header, is_edge, edges_weighted, vertices_weighted, first_line, body, header, code, edge_count, vertex_count, weight_count, edge_lines, weight_lines, well_written, said}
+use Rattle.model.specs.Hmetis.{is_ended, is_header, is_edge, edges_weighted, vertices_weighted, first_line, body, header, code, edge_count, vertex_count, weight_count, edge_lines, weight_lines, well_written, said}
 
 pub record Well (s : List ℕ) : Type 0 where
   pub ended : is_ended s ≡ true
