@@ -1,5 +1,4 @@
 -- `report::answers::put_answer` meets its contract. In each arm the answer is known, and its line computes to what the arm writes.
-use Rattle.std.proofs.Common.{rules}
 use Rattle.model.specs.Grammar.{bytes}
 use Rattle.model.specs.Report.{row, answer_row}
 use Rattle.report.proofs.answers.put_answer.Goals as goal

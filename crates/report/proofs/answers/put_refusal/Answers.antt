@@ -1,5 +1,4 @@
 -- `report::answers::put_refusal` meets its contract.
-use Rattle.std.proofs.Common.{rules}
 use Rattle.model.specs.Grammar.{bytes}
 use Rattle.model.specs.Report.{row}
 use Rattle.report.proofs.answers.put_refusal.Goals as goal

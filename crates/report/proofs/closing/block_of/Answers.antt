@@ -1,5 +1,5 @@
 -- `report::closing::block_of` meets its contract: a representative is a vertex, and its block is the state's.
-use Rattle.std.proofs.Common.{arith, ◌∙◌, rules}
+use Rattle.std.proofs.Common.{arith, ◌∙◌}
 use Rattle.report.proofs.Climb.{climb-in, block-is}
 use Rattle.report.proofs.closing.block_of.Goals as goal
 

@@ -1,5 +1,5 @@
-use Rattle.std.proofs.Common.{arith, sym, ◌∙◌, ◌≤◌, rules}
-use Rattle.report.proofs.Climb.{Passed, passed_none, passed-found, passed-more, passed-all}
+use Rattle.std.proofs.Common.{arith, sym, ◌∙◌}
+use Rattle.report.proofs.Climb.{passed_none, passed-found, passed-more, passed-all}
 use Rattle.report.proofs.closing.join_place.Goals as goal
 
 pub loop-i-init : goal.loop-i-init

@@ -1,6 +1,6 @@
 -- `report::closing::join_place` meets its contract: the joins past the first i are not that of v.
-use Rattle.std.proofs.Common.{arith, sym, ◌∙◌, ◌≤◌, rules}
-use Rattle.report.proofs.Climb.{Passed, passed_none, passed-found, passed-more, passed-all}
+use Rattle.std.proofs.Common.{◌≤◌}
+use Rattle.report.proofs.Climb.{Passed}
 use Rattle.report.proofs.closing.join_place.Given as goal
 
 abbrev pub invariant-loop-i : goal.invariant-loop-i

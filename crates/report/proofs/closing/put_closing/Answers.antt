@@ -1,5 +1,5 @@
 -- `report::closing::put_closing` meets its contract: the line of the totals, the lines of the vertices, the lines of the nets.
-use Rattle.std.proofs.Common.{arith, rules}
+use Rattle.std.proofs.Common.{arith}
 use Rattle.model.specs.Grammar.{bytes}
 use Rattle.model.specs.Report.{row}
 use Rattle.fields.proofs.Laws.{wrote-append}

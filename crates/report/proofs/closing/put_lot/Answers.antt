@@ -1,5 +1,4 @@
 -- `report::closing::put_lot` meets its contract.
-use Rattle.std.proofs.Common.{rules}
 use Rattle.model.specs.Grammar.{bytes}
 use Rattle.model.specs.Report.{row}
 use Rattle.report.proofs.closing.put_lot.Goals as goal

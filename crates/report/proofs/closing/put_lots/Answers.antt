@@ -1,10 +1,7 @@
-use Rattle.std.proofs.Common.{arith, ◌≡◌, ◌∙◌, ℕ, ◌+◌, ◌-◌, ◌≤◌, length, rules}
-use Rattle.model.specs.Catalogue.{Hypergraph, vertices}
-use Rattle.model.specs.Machine.{State}
-use Rattle.fields.specs.Wrote.{Wrote}
-use Rattle.report.specs.Closing.{Vertices}
+use Rattle.std.proofs.Common.{arith, ◌≡◌, ◌∙◌, ℕ, ◌+◌, rules}
+use Rattle.model.specs.Catalogue.{vertices}
 use Rattle.report.specs.Present.{sale-stands}
-use Rattle.report.proofs.Rows.{lots_to, lots-none, lots-room, lots-more, lots-all}
+use Rattle.report.proofs.Rows.{lots-none, lots-room, lots-more, lots-all}
 use Rattle.report.proofs.closing.put_lots.Goals as goal
 
 pub loop-i-init : goal.loop-i-init

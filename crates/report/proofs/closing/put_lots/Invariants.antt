@@ -1,11 +1,10 @@
 -- `report::closing::put_lots` meets its contract. The loop's invariant: the lines of the first i vertices are written.
-use Rattle.std.proofs.Common.{arith, ◌≡◌, ◌∙◌, ℕ, ◌+◌, ◌-◌, ◌≤◌, length, rules}
-use Rattle.model.specs.Catalogue.{Hypergraph, vertices}
+use Rattle.std.proofs.Common.{◌≡◌, ◌-◌, ◌≤◌, length}
+use Rattle.model.specs.Catalogue.{Hypergraph}
 use Rattle.model.specs.Machine.{State}
 use Rattle.fields.specs.Wrote.{Wrote}
 use Rattle.report.specs.Closing.{Vertices}
-use Rattle.report.specs.Present.{sale-stands}
-use Rattle.report.proofs.Rows.{lots_to, lots-none, lots-room, lots-more, lots-all}
+use Rattle.report.proofs.Rows.{lots_to}
 use Rattle.report.proofs.closing.put_lots.Given as goal
 
 abbrev pub invariant-loop-i : goal.invariant-loop-i

@@ -1,11 +1,7 @@
-use Rattle.std.proofs.Common.{arith, ◌≡◌, ◌∙◌, ℕ, ◌-◌, ◌≤◌, length, get_or, rules}
+use Rattle.std.proofs.Common.{arith, ◌∙◌, ℕ, get_or, rules}
 use Rattle.laws.specs.Sum.{sum}
 use Rattle.laws.specs.Bit.{bit}
-use Rattle.model.specs.Catalogue.{Hypergraph}
-use Rattle.model.specs.Machine.{State}
-use Rattle.fields.specs.Wrote.{Wrote}
-use Rattle.report.specs.Closing.{Nets}
-use Rattle.report.proofs.Rows.{nets_to, nets-none, nets-room, nets-more, nets-all}
+use Rattle.report.proofs.Rows.{nets-none, nets-room, nets-more, nets-all}
 use Rattle.report.proofs.closing.put_nets.Goals as goal
 
 pub loop-i-init : goal.loop-i-init

@@ -1,12 +1,10 @@
 -- `report::closing::put_nets` meets its contract. The loop's invariant: the lines of the first i nets are written.
-use Rattle.std.proofs.Common.{arith, ◌≡◌, ◌∙◌, ℕ, ◌-◌, ◌≤◌, length, get_or, rules}
-use Rattle.laws.specs.Sum.{sum}
-use Rattle.laws.specs.Bit.{bit}
+use Rattle.std.proofs.Common.{◌≡◌, ◌-◌, ◌≤◌, length}
 use Rattle.model.specs.Catalogue.{Hypergraph}
 use Rattle.model.specs.Machine.{State}
 use Rattle.fields.specs.Wrote.{Wrote}
 use Rattle.report.specs.Closing.{Nets}
-use Rattle.report.proofs.Rows.{nets_to, nets-none, nets-room, nets-more, nets-all}
+use Rattle.report.proofs.Rows.{nets_to}
 use Rattle.report.proofs.closing.put_nets.Given as goal
 
 abbrev pub invariant-loop-i : goal.invariant-loop-i

@@ -1,5 +1,5 @@
 -- `report::closing::put_present` meets its contract.
-use Rattle.std.proofs.Common.{arith, ap, length, rules}
+use Rattle.std.proofs.Common.{arith, ap, length}
 use Rattle.report.proofs.Rows.{line-none, line-some, line_wrote}
 use Rattle.report.proofs.closing.put_present.Goals as goal
 
