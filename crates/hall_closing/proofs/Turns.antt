@@ -14,7 +14,7 @@ use Rattle.model.specs.Engine.{draft_total}
 use Rattle.model.specs.Hall.{no_desk, closings}
 use Rattle.loader.specs.declared.Sizes.{Sizes}
 use Rattle.fields.specs.Wrote.{Wrote}
-use Rattle.fields.proofs.Laws.{wrote_none, wrote-append, wrote-length}
+use Rattle.fields.proofs.Laws.{wrote_none, wrote-append}
 use Rattle.call_list.specs.declared.course.Course.{Course}
 use Rattle.hall_opening.specs.Opening.{no_sizes, no_course}
 use Rattle.hall_closing.specs.Closings.{EndedIn, CanCloseSet, closing_at, Close, CanCloseSets}

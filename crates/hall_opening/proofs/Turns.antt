@@ -2,13 +2,13 @@
 use Prim.Native.Nat.{ℕ, ◌+◌, ◌<◌, ◌≤◌}
 use native.Mathlib.Decide.{ℕ_discrete}
 use native.Mathlib.Omega.{arith}
-use mathlib.Core.Path.{◌≡◌, refl, sym, ap, ◌∙◌, subst}
+use mathlib.Core.Path.{◌≡◌, refl, sym, ◌∙◌, subst}
 use mathlib.Core.List.{List}
 use lib.ListN.{length, get_or, set, length-set}
 use lib.Seq.{get_or-set_same, get_or-set_other}
 use Rattle.loader.specs.declared.Sizes.{Sizes}
 use Rattle.call_list.specs.declared.course.Course.{Course}
-use Rattle.hall_opening.specs.Filled.{Filled, Fills, Read, Reads, filled_of, read_of, put_filled, Whole, Alike, own_put, other-put, alike, alike-put, whole-alike}
+use Rattle.hall_opening.specs.Filled.{Filled, Fills, Read, Reads, filled_of, read_of, put_filled, Alike, own_put, other-put, alike, alike-put, whole-alike}
 use Rattle.hall_opening.specs.Opening.{CanOpen, Opens, CanOpenSet, OpensSet, no_sizes, no_course, CanOpenSets, OpensSets}
 
 -- the first c sets are opened, the others are as they were

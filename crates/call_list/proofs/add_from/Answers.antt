@@ -1,4 +1,4 @@
-use Rattle.std.proofs.Common.{rules, arith, sym}
+use Rattle.std.proofs.Common.{arith, sym}
 use Rattle.call_list.specs.Point.{can-as, steps-as}
 use Rattle.call_list.specs.Asked.{late-part}
 use Rattle.call_list.proofs.add_from.Goals as goal

@@ -1,4 +1,4 @@
-use Rattle.std.proofs.Common.{rules, arith, ◌≡◌, ap, ℕ, ◌+◌, ◌-◌, take, drop}
+use Rattle.std.proofs.Common.{arith, ◌≡◌, ap, ℕ, ◌+◌, ◌-◌, take, drop}
 use Rattle.call_list.proofs.buyers_of.Goals as goal
 
 pub returns : goal.returns

@@ -1,8 +1,5 @@
-use Rattle.std.proofs.Common.{rules, ℕ, ◌-◌, ◌≤◌, arith, ◌≡◌, refl, List, length}
-use Rattle.model.specs.Catalogue.{Limits, Hypergraph}
-use Rattle.model.specs.Memory.{Tables}
-use Rattle.call_list.specs.Point.{point_of}
-use Rattle.call_list.specs.Course.{Begins, Done, done_none, can-step, stretch, done_more, done_all}
+use Rattle.std.proofs.Common.{◌-◌, arith, refl}
+use Rattle.call_list.specs.Course.{done_none, can-step, stretch, done_more, done_all}
 use Rattle.call_list.proofs.run_calls.Goals as goal
 
 pub loop-i-init : goal.loop-i-init

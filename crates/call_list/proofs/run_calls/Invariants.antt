@@ -1,8 +1,8 @@
-use Rattle.std.proofs.Common.{rules, ℕ, ◌-◌, ◌≤◌, arith, ◌≡◌, refl, List, length}
+use Rattle.std.proofs.Common.{◌-◌, ◌≤◌, ◌≡◌, length}
 use Rattle.model.specs.Catalogue.{Limits, Hypergraph}
 use Rattle.model.specs.Memory.{Tables}
 use Rattle.call_list.specs.Point.{point_of}
-use Rattle.call_list.specs.Course.{Begins, Done, done_none, can-step, stretch, done_more, done_all}
+use Rattle.call_list.specs.Course.{Begins, Done}
 use Rattle.call_list.proofs.run_calls.Given as goal
 
 abbrev pub invariant-loop-i : goal.invariant-loop-i

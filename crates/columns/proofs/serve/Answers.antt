@@ -1,5 +1,4 @@
-use Rattle.std.proofs.Common.{refl, arith, rules}
-use Rattle.std.proofs.lemmas.Bool.{not-true, not-false}
+use Rattle.std.proofs.Common.{refl}
 use Rattle.columns.specs.Entry.{long-is, too_short, served}
 use Rattle.columns.proofs.serve.Goals as goal
 

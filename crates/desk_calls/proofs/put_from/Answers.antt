@@ -1,4 +1,4 @@
-use Rattle.std.proofs.Common.{rules, arith, sym}
+use Rattle.std.proofs.Common.{arith, sym}
 use Rattle.call_list.specs.Asked.{late-part}
 use Rattle.desk_calls.specs.Desk.{can-as, steps-as}
 use Rattle.desk_calls.proofs.put_from.Goals as goal

@@ -1,4 +1,4 @@
-use Rattle.std.proofs.Common.{rules, sym}
+use Rattle.std.proofs.Common.{sym}
 use Rattle.call_list.specs.Asked.{request-X, request-N, request-runs}
 use Rattle.desk_calls.specs.Desk.{can-as, steps-as}
 use Rattle.desk_calls.proofs.step.Goals as goal

@@ -1,6 +1,5 @@
-use Rattle.std.proofs.Common.{◌-◌, ◌≤◌, arith, ◌≡◌, refl, ◌∙◌, length, rules}
-use Rattle.hall_step.specs.Sets.{sets}
-use Rattle.hall_calls.specs.Course.{Ran, ran-none, can-lead, stretch-in, ran-next, ran-all}
+use Rattle.std.proofs.Common.{◌-◌, arith, refl, ◌∙◌}
+use Rattle.hall_calls.specs.Course.{ran-none, can-lead, stretch-in, ran-next, ran-all}
 use Rattle.hall_calls.proofs.run_hall.Goals as goal
 
 pub loop-i-init : goal.loop-i-init

@@ -1,7 +1,7 @@
 -- `hall_calls::run_hall` meets its contract. The loop's invariant: the first i led call lines are done, and no table has changed its length.
-use Rattle.std.proofs.Common.{◌-◌, ◌≤◌, arith, ◌≡◌, refl, ◌∙◌, length, rules}
+use Rattle.std.proofs.Common.{◌-◌, ◌≤◌, ◌≡◌, length}
 use Rattle.hall_step.specs.Sets.{sets}
-use Rattle.hall_calls.specs.Course.{Ran, ran-none, can-lead, stretch-in, ran-next, ran-all}
+use Rattle.hall_calls.specs.Course.{Ran}
 use Rattle.hall_calls.proofs.run_hall.Given as goal
 
 abbrev pub invariant-loop-i : goal.invariant-loop-i

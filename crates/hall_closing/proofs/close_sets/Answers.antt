@@ -1,5 +1,5 @@
-use Rattle.std.proofs.Common.{arith, ◌-◌, rules}
-use Rattle.hall_closing.proofs.Turns.{CloseTo, close-none, can-next, close_more, close-all}
+use Rattle.std.proofs.Common.{arith, ◌-◌}
+use Rattle.hall_closing.proofs.Turns.{close-none, can-next, close_more, close-all}
 use Rattle.hall_closing.proofs.close_sets.Goals as goal
 
 pub loop-c-init : goal.loop-c-init

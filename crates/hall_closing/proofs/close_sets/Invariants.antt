@@ -1,6 +1,6 @@
 -- `hall_closing::close_sets` meets its contract: the reports are written in turn.
-use Rattle.std.proofs.Common.{arith, ◌-◌, rules}
-use Rattle.hall_closing.proofs.Turns.{CloseTo, close-none, can-next, close_more, close-all}
+use Rattle.std.proofs.Common.{◌-◌}
+use Rattle.hall_closing.proofs.Turns.{CloseTo}
 use Rattle.hall_closing.proofs.close_sets.Given as goal
 
 abbrev pub invariant-loop-c : goal.invariant-loop-c

@@ -1,7 +1,6 @@
-use Rattle.std.proofs.Common.{rules, ◌-◌, ◌≤◌, arith, ◌≡◌, refl, sym, ◌∙◌}
-use Rattle.std.proofs.lemmas.Bool.{not-true, not-false}
+use Rattle.std.proofs.Common.{◌-◌, arith, sym, ◌∙◌}
 use Rattle.model.specs.HallLent.{hall_tables}
-use Rattle.hall_columns.specs.Sets.{LongTo, each-four, long-more, all-long, one-short, too_few}
+use Rattle.hall_columns.specs.Sets.{each-four, long-more, all-long, one-short, too_few}
 use Rattle.hall_columns.proofs.is_hall_long.Goals as goal
 
 pub returns-then-not-has_four : goal.returns-then-not-has_four

@@ -1,8 +1,7 @@
 -- `hall_columns::is_hall_long` meets its contract: the sets before c are long.
-use Rattle.std.proofs.Common.{rules, ◌-◌, ◌≤◌, arith, ◌≡◌, refl, sym, ◌∙◌}
-use Rattle.std.proofs.lemmas.Bool.{not-true, not-false}
+use Rattle.std.proofs.Common.{◌-◌, ◌≤◌}
 use Rattle.model.specs.HallLent.{hall_tables}
-use Rattle.hall_columns.specs.Sets.{LongTo, each-four, long-more, all-long, one-short, too_few}
+use Rattle.hall_columns.specs.Sets.{LongTo}
 use Rattle.hall_columns.proofs.is_hall_long.Given as goal
 
 abbrev pub invariant-loop-c : goal.invariant-loop-c

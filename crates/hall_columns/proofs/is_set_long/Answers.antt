@@ -1,5 +1,5 @@
 -- `hall_columns::is_set_long` meets its contract.
-use Rattle.std.proofs.Common.{rules, arith, refl}
+use Rattle.std.proofs.Common.{arith, refl}
 use Rattle.hall_columns.proofs.is_set_long.Goals as goal
 
 pub offset_bounds-weights-c : goal.offset_bounds-weights-c

@@ -1,6 +1,5 @@
 -- `hall_columns::serve_hall` meets its contract.
-use Rattle.std.proofs.Common.{refl, sym, ◌∙◌, arith, rules}
-use Rattle.std.proofs.lemmas.Bool.{not-true, not-false}
+use Rattle.std.proofs.Common.{sym, ◌∙◌}
 use Rattle.model.specs.HallLent.{hall_tables}
 use Rattle.hall_columns.specs.Sets.{long-hall}
 use Rattle.hall_columns.specs.Entry.{too_short, served}

@@ -1,5 +1,5 @@
-use Rattle.std.proofs.Common.{◌-◌, ◌≤◌, arith, refl}
-use Rattle.hall_file.specs.Worked.{LotsTo, lots-start, lots-more}
+use Rattle.std.proofs.Common.{◌-◌, arith}
+use Rattle.hall_file.specs.Worked.{lots-start, lots-more}
 use Rattle.hall_file.proofs.lots_known.Goals as goal
 
 pub loop-c-init : goal.loop-c-init

@@ -1,6 +1,6 @@
 -- `hall_file::lots_known` meets its contract: the lots of the first c catalogues are told.
-use Rattle.std.proofs.Common.{◌-◌, ◌≤◌, arith, refl}
-use Rattle.hall_file.specs.Worked.{LotsTo, lots-start, lots-more}
+use Rattle.std.proofs.Common.{◌-◌, ◌≤◌}
+use Rattle.hall_file.specs.Worked.{LotsTo}
 use Rattle.hall_file.proofs.lots_known.Given as goal
 
 abbrev pub invariant-loop-c : goal.invariant-loop-c

@@ -1,5 +1,4 @@
 -- `hall_file::report_hall` meets its contract.
-use Rattle.std.proofs.Common.{rules, arith, ◌∙◌}
 use Rattle.hall_file.specs.Loaded.{few}
 use Rattle.hall_file.specs.Worked.{can-close, close, worked, lots-are}
 use Rattle.hall_file.proofs.report_hall.Goals as goal

@@ -1,5 +1,4 @@
 -- `hall_file::sell_hall` meets its contract.
-use Rattle.std.proofs.Common.{rules, arith, ◌∙◌}
 use Rattle.hall_file.specs.Sold.{can-open-sets, whole_is, can-run, sold}
 use Rattle.hall_file.proofs.sell_hall.Goals as goal
 

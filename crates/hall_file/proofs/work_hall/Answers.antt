@@ -1,5 +1,5 @@
 -- `hall_file::work_hall` meets its contract.
-use Rattle.std.proofs.Common.{rules, ℕ, arith, refl, ◌∙◌, replicate}
+use Rattle.std.proofs.Common.{ℕ, arith, refl, replicate}
 use Rattle.std.proofs.lemmas.List.{length-replicate}
 use Rattle.laws.specs.Fold.{zeros-get}
 use Rattle.hall_file.specs.Worked.{own-length, own-four, catalogued, small, line-fits, turned_down, no-lots}

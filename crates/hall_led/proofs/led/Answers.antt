@@ -1,5 +1,5 @@
 -- `hall_led::led` meets its contract.
-use Rattle.std.proofs.Common.{arith, refl, ◌∙◌, rules}
+use Rattle.std.proofs.Common.{arith, refl}
 use Rattle.hall_led.specs.Led.{in-range, few-bales, few-lots, lead-fits, can-step, done}
 use Rattle.hall_led.proofs.led.Goals as goal
 

@@ -1,5 +1,5 @@
 -- `hall_led::put_lead` meets its contract.
-use Rattle.std.proofs.Common.{arith, [], ◌∷◌, length-append, length-set}
+use Rattle.std.proofs.Common.{arith, [], ◌∷◌, length-append}
 use Rattle.model.specs.Report.{digits}
 use Rattle.fields.proofs.Laws.{wrote-snoc}
 use Rattle.hall_led.proofs.put_lead.Goals as goal

@@ -1,5 +1,5 @@
 -- `hall_opening::open_set` meets its contract: the set c is opened and put in its place.
-use Rattle.std.proofs.Common.{arith, refl, rules}
+use Rattle.std.proofs.Common.{arith, refl}
 use Rattle.hall_opening.proofs.open_set.Goals as goal
 
 pub offset_bounds-counts-c : goal.offset_bounds-counts-c

@@ -1,6 +1,5 @@
 use Rattle.std.proofs.Common.{arith, ◌-◌, refl}
-use Rattle.hall_opening.specs.Filled.{fills, reads}
-use Rattle.hall_opening.proofs.Turns.{OpenTo, open_none, can-next, open_more, open-all}
+use Rattle.hall_opening.proofs.Turns.{open_none, can-next, open_more, open-all}
 use Rattle.hall_opening.proofs.open_sets.Goals as goal
 
 pub bounds-fixed-0 : goal.bounds-fixed-0

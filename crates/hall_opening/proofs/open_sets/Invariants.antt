@@ -1,7 +1,7 @@
 -- `hall_opening::open_sets` meets its contract: the sets are opened in turn.
-use Rattle.std.proofs.Common.{arith, ◌-◌, refl}
+use Rattle.std.proofs.Common.{◌-◌}
 use Rattle.hall_opening.specs.Filled.{fills, reads}
-use Rattle.hall_opening.proofs.Turns.{OpenTo, open_none, can-next, open_more, open-all}
+use Rattle.hall_opening.proofs.Turns.{OpenTo}
 use Rattle.hall_opening.proofs.open_sets.Given as goal
 
 abbrev pub invariant-loop-c : goal.invariant-loop-c

@@ -1,5 +1,4 @@
 -- `hall_opening::open_tables` meets its contract: what was loaded can be opened, its rows put in order, and its calls begun.
-use Rattle.std.proofs.Common.{rules}
 use Rattle.call_list.specs.Opened.{can-begin, can-open, rows_fit}
 use Rattle.hall_opening.specs.Opening.{opens}
 use Rattle.hall_opening.proofs.open_tables.Goals as goal

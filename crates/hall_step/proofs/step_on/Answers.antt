@@ -1,4 +1,4 @@
-use Rattle.std.proofs.Common.{arith, refl, rules}
+use Rattle.std.proofs.Common.{arith, refl}
 use Rattle.hall_step.proofs.step_on.Goals as goal
 
 pub bounds-netweights-c : goal.bounds-netweights-c

@@ -1,4 +1,4 @@
-use Rattle.std.proofs.Common.{rules, refl, ap, not}
+use Rattle.std.proofs.Common.{refl, ap, not}
 use Rattle.edit_calls.specs.Refusal.{both-no, both_yes}
 use Rattle.lengths.specs.Tests.{by_tests, short-no, short-yes, lists-test}
 use Rattle.lengths.proofs.is_long.Goals as goal

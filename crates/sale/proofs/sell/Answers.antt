@@ -1,4 +1,4 @@
-use Rattle.std.proofs.Common.{rules, ℕ, arith, refl, ◌∙◌}
+use Rattle.std.proofs.Common.{ℕ, refl}
 use Rattle.std.proofs.lemmas.List.{length-replicate}
 use Rattle.call_list.specs.Opened.{blank, can-begin, can-open, rows_fit}
 use Rattle.sale.specs.Sale.{begins, can-run, sold}

@@ -1,4 +1,4 @@
-use Rattle.std.proofs.Common.{rules, ℕ, arith, refl, ◌∙◌}
+use Rattle.std.proofs.Common.{ℕ, arith, refl}
 use Rattle.std.proofs.lemmas.List.{length-replicate}
 use Rattle.sale.specs.Files.{catalogued, listed, worked, lots-known, small, line-fits, no-lots, turned_down}
 use Rattle.sale_file.proofs.work_file.Goals as goal

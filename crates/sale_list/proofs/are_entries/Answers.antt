@@ -1,6 +1,4 @@
-use Rattle.std.proofs.Common.{rules, ◌-◌, ◌≤◌, arith, ◌≡◌, true}
-use Rattle.std.proofs.lemmas.Bool.{not-true, not-false}
-use Rattle.model.specs.ListEntry.{entries_to}
+use Rattle.std.proofs.Common.{◌-◌, arith, true}
 use Rattle.sale_list.specs.Lists.{entries_none, entries-more, entries-all, entries-no}
 use Rattle.sale_list.proofs.are_entries.Goals as goal
 

@@ -1,7 +1,5 @@
-use Rattle.std.proofs.Common.{rules, ◌-◌, ◌≤◌, arith, ◌≡◌, true}
-use Rattle.std.proofs.lemmas.Bool.{not-true, not-false}
+use Rattle.std.proofs.Common.{◌-◌, ◌≤◌, ◌≡◌, true}
 use Rattle.model.specs.ListEntry.{entries_to}
-use Rattle.sale_list.specs.Lists.{entries_none, entries-more, entries-all, entries-no}
 use Rattle.sale_list.proofs.are_entries.Given as goal
 
 abbrev pub invariant-loop-i : goal.invariant-loop-i

@@ -1,4 +1,4 @@
-use Rattle.std.proofs.Common.{rules, refl}
+use Rattle.std.proofs.Common.{refl}
 use Rattle.sale_list.specs.Lists.{letter-kind, letter-rest}
 use Rattle.sale_list.proofs.is_letter.Goals as goal
 

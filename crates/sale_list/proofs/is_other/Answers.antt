@@ -1,4 +1,4 @@
-use Rattle.std.proofs.Common.{rules, refl}
+use Rattle.std.proofs.Common.{refl}
 use Rattle.any_call.specs.Kinds.{either_first, either_rest}
 use Rattle.sale_list.proofs.is_other.Goals as goal
 

@@ -1,4 +1,4 @@
-use Rattle.std.proofs.Common.{rules, arith}
+use Rattle.std.proofs.Common.{arith}
 use Rattle.sale_list.specs.Lists.{stretch-short, stretch-rest}
 use Rattle.sale_list.proofs.is_stretch.Goals as goal
 

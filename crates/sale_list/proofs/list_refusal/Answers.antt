@@ -1,5 +1,3 @@
-use Rattle.std.proofs.Common.{rules}
-use Rattle.std.proofs.lemmas.Bool.{not-true, not-false}
 use Rattle.sale_list.specs.Lists.{list-long, list-odd, list-strange, list-good}
 use Rattle.sale_list.proofs.list_refusal.Goals as goal
 

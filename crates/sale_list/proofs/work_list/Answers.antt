@@ -1,4 +1,4 @@
-use Rattle.std.proofs.Common.{rules, ℕ, arith, refl, ◌∙◌}
+use Rattle.std.proofs.Common.{ℕ, arith, refl}
 use Rattle.std.proofs.lemmas.List.{length-replicate}
 use Rattle.sale.specs.Files.{catalogued, small, line-fits}
 use Rattle.sale_list.specs.Lists.{list-listed, idle, list-worked, list-down}

@@ -1,4 +1,3 @@
-use Rattle.std.proofs.Common.{rules}
 use Rattle.report.specs.Meaning.{answer_of}
 use Rattle.any_call.specs.Kinds.{told-some}
 use Rattle.any_call.proofs.answering.answer.Goals as goal

@@ -1,4 +1,4 @@
-use Rattle.std.proofs.Common.{◌||◌, eqb, rules}
+use Rattle.std.proofs.Common.{◌||◌, eqb}
 use Rattle.any_call.specs.Kinds.{either_first, either_rest}
 use Rattle.any_call.proofs.kinds.is_moving.Goals as goal
 

@@ -1,4 +1,3 @@
-use Rattle.std.proofs.Common.{rules}
 use Rattle.any_call.specs.Kinds.{is-J, is-S, called-as}
 use Rattle.any_call.proofs.performing.contracting.Goals as goal
 

@@ -1,4 +1,4 @@
-use Rattle.std.proofs.Common.{rules, refl}
+use Rattle.std.proofs.Common.{refl}
 use Rattle.any_call.specs.Kinds.{is-M, is-B, is-W, is-P, called-as}
 use Rattle.any_call.proofs.performing.moving.Goals as goal
 

@@ -1,4 +1,4 @@
-use Rattle.std.proofs.Common.{rules, refl}
+use Rattle.std.proofs.Common.{refl}
 use Rattle.any_call.specs.Kinds.{any-contracting, any-moving, any-all, called-as}
 use Rattle.any_call.specs.FixedStack.{stack-fits, fixed-stack, called-stack}
 use Rattle.any_call.proofs.performing.perform.Goals as goal

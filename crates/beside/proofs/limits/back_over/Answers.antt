@@ -1,4 +1,4 @@
-use Rattle.std.proofs.Common.{arith, ◌≡◌, sym, ◌∙◌, ap, rules}
+use Rattle.std.proofs.Common.{arith}
 use Rattle.model.specs.Lent.{two}
 use Rattle.beside.specs.Called.{back_none, back_some}
 use Rattle.beside.proofs.limits.back_over.Goals as goal

@@ -1,4 +1,4 @@
-use Rattle.std.proofs.Common.{arith, ◌≡◌, sym, ◌∙◌, ap, rules, ◌-◌, get_or}
+use Rattle.std.proofs.Common.{arith, ◌-◌, get_or}
 use Rattle.guarantees.specs.Caps.{room-none, room-some}
 use Rattle.beside.proofs.limits.fits.Goals as goal
 

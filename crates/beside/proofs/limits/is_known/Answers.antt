@@ -1,4 +1,3 @@
-use Rattle.std.proofs.Common.{arith, ◌≡◌, sym, ◌∙◌, ap, rules}
 use Rattle.edit_calls.specs.Refusal.{known-no, known_in}
 use Rattle.beside.proofs.limits.is_known.Goals as goal
 

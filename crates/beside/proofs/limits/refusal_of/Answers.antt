@@ -1,4 +1,4 @@
-use Rattle.std.proofs.Common.{arith, ◌≡◌, sym, ◌∙◌, ap, rules, refl}
+use Rattle.std.proofs.Common.{rules}
 use Rattle.model.specs.Report.{refusal}
 use Rattle.beside.proofs.limits.refusal_of.Goals as goal
 

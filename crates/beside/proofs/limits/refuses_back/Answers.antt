@@ -1,4 +1,3 @@
-use Rattle.std.proofs.Common.{arith, ◌≡◌, sym, ◌∙◌, ap, rules}
 use Rattle.model.specs.Lent.{two}
 use Rattle.beside.specs.Called.{over-other, over-back}
 use Rattle.beside.proofs.limits.refuses_back.Goals as goal

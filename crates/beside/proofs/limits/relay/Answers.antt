@@ -1,4 +1,4 @@
-use Rattle.std.proofs.Common.{not, arith, ◌≡◌, sym, ◌∙◌, ap, rules}
+use Rattle.std.proofs.Common.{not, ap}
 use Rattle.report.specs.Meaning.{answer_of}
 use Rattle.beside.specs.Called.{under_cap, relay-other, relay-else, relay-14, relay-25}
 use Rattle.beside.proofs.limits.relay.Goals as goal

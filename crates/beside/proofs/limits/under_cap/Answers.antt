@@ -1,4 +1,4 @@
-use Rattle.std.proofs.Common.{arith, ◌≡◌, sym, ◌∙◌, ap, rules, not}
+use Rattle.std.proofs.Common.{arith, ap, not}
 use Rattle.beside.specs.Called.{under-no, under-not, under-yes, under-range}
 use Rattle.beside.proofs.limits.under_cap.Goals as goal
 

@@ -1,4 +1,4 @@
-use Rattle.std.proofs.Common.{arith, refl, sym, ◌∙◌, ◌-◌, get_or, rules}
+use Rattle.std.proofs.Common.{refl, sym, ◌∙◌, ◌-◌, get_or}
 use Rattle.index.specs.Indexed.{right-same}
 use Rattle.model.specs.Hall.{ceiling_beside}
 use Rattle.beside.specs.Called.{back-reads, refused-25, called-beside, relay-reads, told-as}

@@ -1,4 +1,4 @@
-use Rattle.std.proofs.Common.{rules, arith, refl, ◌∙◌}
+use Rattle.std.proofs.Common.{arith, refl, ◌∙◌}
 use Rattle.model.specs.Catalogue.{capacities}
 use Rattle.model.specs.Sale.{call_n}
 use Rattle.changes.specs.Stands.{all-lots}

@@ -1,4 +1,3 @@
-use Rattle.std.proofs.Common.{rules, arith}
 use Rattle.any_call.specs.Kinds.{told-some}
 use Rattle.call_list.specs.Late.{told-added}
 use Rattle.call_list.proofs.stepping.added.Goals as goal

@@ -1,4 +1,4 @@
-use Rattle.std.proofs.Common.{rules, refl}
+use Rattle.std.proofs.Common.{refl}
 use Rattle.model.specs.Catalogue.{capacities}
 use Rattle.call_list.specs.Machine.{can-perform, machine-fits, long_as, went-machine}
 use Rattle.call_list.proofs.stepping.run_machine.Goals as goal

@@ -1,4 +1,3 @@
-use Rattle.std.proofs.Common.{rules}
 use Rattle.any_call.specs.Kinds.{told-some}
 use Rattle.call_list.specs.Late.{told_none}
 use Rattle.call_list.proofs.stepping.withdrawn.Goals as goal

@@ -1,4 +1,4 @@
-use Rattle.std.proofs.Common.{rules, arith}
+use Rattle.std.proofs.Common.{arith}
 use Rattle.desk_calls.specs.Late.{room-low, room-past, room-over, room-left}
 use Rattle.desk_calls.proofs.stepping.has_space.Goals as goal
 

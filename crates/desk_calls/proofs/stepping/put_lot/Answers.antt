@@ -1,4 +1,4 @@
-use Rattle.std.proofs.Common.{rules, arith, refl, sym, ◌∙◌}
+use Rattle.std.proofs.Common.{arith, refl, sym, ◌∙◌}
 use Rattle.model.specs.Catalogue.{main_limits}
 use Rattle.model.specs.Hall.{ceiling_beside}
 use Rattle.changes.specs.Stands.{all-lots}

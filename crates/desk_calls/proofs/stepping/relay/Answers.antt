@@ -1,4 +1,3 @@
-use Rattle.std.proofs.Common.{rules}
 use Rattle.desk_calls.specs.Late.{by-not, by-25, by-14}
 use Rattle.desk_calls.proofs.stepping.relay.Goals as goal
 

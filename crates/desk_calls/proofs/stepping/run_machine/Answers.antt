@@ -1,4 +1,4 @@
-use Rattle.std.proofs.Common.{rules, refl}
+use Rattle.std.proofs.Common.{refl}
 use Rattle.call_list.specs.Machine.{long_as}
 use Rattle.desk_calls.specs.Machine.{can-perform, machine-fits, went-machine}
 use Rattle.desk_calls.proofs.stepping.run_machine.Goals as goal

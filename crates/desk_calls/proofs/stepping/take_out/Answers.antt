@@ -1,4 +1,3 @@
-use Rattle.std.proofs.Common.{rules}
 use Rattle.desk_calls.specs.Late.{can-alone, steps-alone}
 use Rattle.desk_calls.proofs.stepping.take_out.Goals as goal
 

@@ -1,4 +1,4 @@
-use Rattle.std.proofs.Common.{ℕ, ◌-◌, ◌*◌, ◌≤◌, arith, ◌≡◌, sym, ap, ◌∙◌, rules}
+use Rattle.std.proofs.Common.{ℕ, ◌-◌, arith, sym, ap, ◌∙◌}
 use Rattle.laws.specs.Sum.{sum-zero}
 use Rattle.hall_rooms.specs.Rooms.{besides, besides-le}
 use Rattle.hall_led.specs.Others.{lots_at, lots_beside, lots-more}

@@ -1,4 +1,3 @@
-use Rattle.std.proofs.Common.{rules, ◌∙◌}
 use Rattle.sale.specs.Reported.{closes, reported}
 use Rattle.sale.proofs.closing.report_sale.Goals as goal
 
