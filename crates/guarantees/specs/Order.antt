@@ -195,10 +195,10 @@ module _ (a b b' : Sale) (moved : OnlyMoved a b) (moved' : OnlyMoved a b') (plac
       ∙ ap (λ (cs : List Contraction). metric b.graph cs one_end.block) same-stack
 
   -- what the tables hold at either end, over the catalogue there
-  one_holds : {old t : Tables} → Holds b old t → HoldsFor a.changed g one_end old t
+  pub one_holds : {old t : Tables} → Holds b old t → HoldsFor a.changed g one_end old t
   one_holds {old} {t} x = subst (λ (z : Hypergraph). HoldsFor a.changed z one_end old t) moved.graph_same (subst (λ (c : Bool). HoldsFor c b.graph one_end old t) moved.changed-same x)
 
-  other-holds : {old t : Tables} → Holds b' old t → HoldsFor a.changed g other-end old t
+  pub other-holds : {old t : Tables} → Holds b' old t → HoldsFor a.changed g other-end old t
   other-holds {old} {t} x = subst (λ (z : Hypergraph). HoldsFor a.changed z other-end old t) moved'.graph_same (subst (λ (c : Bool). HoldsFor c b'.graph other-end old t) moved'.changed-same x)
 
   pub same_tables : {old t t' : Tables} → Holds b old t → Holds b' old t' → t' ≡ t
@@ -232,6 +232,9 @@ module _ (limits : Limits) (few : Few limits) (h : Hypergraph) (ok : Accepted li
 
   pub ends-stack : other-sale.state.stack ≡ one-sale.state.stack
   ends-stack = same-stack start one-sale other-sale one-led other-led one-legal other-legal s.sessions
+
+  pub ends-block : other-sale.state.block ≡ one-sale.state.block
+  ends-block = same_block start one-sale other-sale one-led other-led one-legal other-legal s.sessions
 
   pub ends-total : total_of other-sale ≡ total_of one-sale
   ends-total = same_total start one-sale other-sale one-led other-led one-legal other-legal s.sessions

@@ -9,7 +9,7 @@ copy_line-end-requires c =
     (line-in k.left, line-fits k.left _ k.roomy c.if-code-ne0.true)
 
 pub returns-then-code-ne0 : goal.returns-then-code-ne0
-returns-then-code-ne0 c = λ file l. turned_down l c.if-code-ne0.true c.Copy-Line.ensures
+returns-then-code-ne0 c = λ file l. turned_down l c.if-code-ne0.true c.copy_line-end.ensures
 
 pub put_sale-end-requires : goal.put_sale-end-requires
 put_sale-end-requires c =
