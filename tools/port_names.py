@@ -4,8 +4,7 @@
 usage: python3 tools/port_names.py [FOLDER]   once, behind the kit's port.py, at the top of the repository
 
 A name that begins with a small letter and has a capital behind a small letter or a digit, `inSale`, becomes `in_sale`, wherever it stands in a part of a
-name that dashes join. Files of specs/ and proofs/ are read whole, but for texts in quotes; of a .rt file only clauses, ghost lines and comments hold
-such names, since code has none. Prints the names that would fall together with one that was there before, and changes nothing then.
+name that dashes join. Files of specs/, proofs/ and src/ are read whole, but for texts in quotes; code itself has such a name in one parameter. Prints the names that would fall together with one that was there before, and changes nothing then.
 """
 import os
 import re

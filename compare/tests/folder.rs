@@ -1,7 +1,6 @@
-//! `soak --folder`: a folder of files through every entry; the first difference stops it and is named.
-//! `soak SEED COUNT`: halls among the files.
+//! `soak --folder`: a folder of files through both desks; the first difference stops it and is named.
 
-use compare::folder::{compare_files, files, Comparison, ENTRIES};
+use compare::folder::{compare_files, files, Comparison, DESKS};
 use compare::{compare, sales_on_file};
 use std::path::{Path, PathBuf};
 use std::process::Command;
@@ -29,28 +28,12 @@ fn soak(folder: &Path) -> (bool, String) {
 }
 
 #[test]
-fn every_file_goes_through_every_entry() {
+fn every_file_goes_through_both_desks() {
     let wide = b"SALE,1,0,9,0\nLOT,1,1\n";
-    let over = b"HALL,2,1\nSALE,1,0,2,0\nLOT,1,1\nSALE,1,0,2,0\nLOT,1,1\n";
-    let contents: [(&str, &[u8]); 3] = [("a", b"any bytes"), ("b.sale", wide), ("c.hall", over)];
-    let own = folder("soak-entries", &contents);
-    std::fs::create_dir(own.join("d")).expect("a folder in it");
-    let wanted = "3 agree; by return: [(\"main\", {0: 1, 2: 2}), (\"superfine\", {2: 2, 3: 1}), \
-                  (\"hall\", {2: 2, 24: 1})]\n";
+    let own = folder("soak-both", &[("a", b"any bytes"), ("b.sale", wide)]);
+    std::fs::create_dir(own.join("c")).expect("a folder in it");
+    let wanted = "2 agree; by return: [(\"main\", {0: 1, 2: 1}), (\"superfine\", {2: 1, 3: 1})]\n";
     assert_eq!(soak(&own), (true, wanted.into()));
-}
-
-#[test]
-fn seeds_have_halls_among_them() {
-    // 24 is a hall's alone
-    let end = Command::new(env!("CARGO_BIN_EXE_soak"))
-        .args(["1", "2000"])
-        .output()
-        .expect("the program runs");
-    let text = String::from_utf8(end.stdout).expect("text");
-    assert!(end.status.success(), "{text}");
-    assert!(text.starts_with("2000 agree; by return: {0: "), "{text}");
-    assert!(text.contains(" 24: "), "{text}");
 }
 
 #[test]
@@ -76,7 +59,7 @@ fn the_first_difference_stops_and_names_its_file() {
         &[("main", compare), ("superfine", differs)],
         |count| done.push(count),
     );
-    let wanted = format!("{}, superfine entry: the output", own.join("b").display());
+    let wanted = format!("{}, superfine desk: the output", own.join("b").display());
     assert_eq!(found, Err(wanted));
     assert_eq!(done, [1]);
 }
@@ -84,7 +67,7 @@ fn the_first_difference_stops_and_names_its_file() {
 #[test]
 fn what_cannot_be_read_is_named() {
     let missing = PathBuf::from("no-such-file");
-    let found = compare_files(&[missing], &ENTRIES, |_| ());
+    let found = compare_files(&[missing], &DESKS, |_| ());
     assert!(found.is_err_and(|what| what.starts_with("no-such-file: ")));
     let (agree, text) = soak(Path::new("no-such-folder"));
     assert!(!agree && text.starts_with("no-such-folder: "), "{text}");

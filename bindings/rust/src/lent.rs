@@ -476,9 +476,9 @@ pub fn convert(input: &[u8], output: &mut [u8]) -> Outcome {
     }
 }
 
-/// Reads a sale file, or a hall's, which begins with `HALL`, runs its calls and writes the buyers' sheets:
-/// 0, or 8 for an output below `SHEETS_OUTPUT` bytes, or the number under which the engine turned the file
-/// down, and how many bytes were written.
+/// Reads a sale file, runs its calls and writes the buyers' sheets: 0, or 8 for an output below
+/// `SHEETS_OUTPUT` bytes, or the number under which the engine turned the file down, and how many bytes
+/// were written.
 pub fn sheets(file: &[u8], output: &mut [u8]) -> Outcome {
     // SAFETY: as in `run`; the result of the sheets has the fields and the layout of `Outcome`.
     unsafe { kapokdrill_sheets(file.as_ptr(), file.len(), output.as_mut_ptr(), output.len()) }

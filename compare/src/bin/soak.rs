@@ -1,73 +1,27 @@
 //! `soak SEED COUNT`: so many files through the engine and the reference, each with a seed of its own
 //! from SEED on: generated sales, damaged ones, random bytes, every fifth of them through the
-//! superfine desk's entry, lists of calls apart from their catalogue, and halls, every fourth of them
-//! damaged. Shows its progress, stops at the first difference and writes that file.
-//! `soak --folder DIR`: every file of a folder instead, through the entries of both desks and the hall's;
-//! it names the file that differs.
+//! superfine desk's entry, and lists of calls apart from their catalogue. Shows its progress, stops at
+//! the first difference and writes that file.
+//! `soak --folder DIR`: every file of a folder instead, through both desks' entries; it names the file
+//! that differs.
 
-use compare::folder::{compare_files, files, ENTRIES};
-use compare::halls::compare_hall;
+use compare::folder::{compare_files, files, DESKS};
 use compare::lists::{random_list, List};
 use compare::{compare, compare_fine, compare_list, random_bytes};
 use reference::generator::{damaged, sale, Random};
-use reference::hall_generator::{damaged_hall, hall_file};
 use std::collections::BTreeMap;
 use std::path::Path;
 use std::process::ExitCode;
 
-/// What is compared for a seed.
-enum Case {
-    Sale(Vec<u8>),
-    /// Through the superfine desk's entry.
-    Fine(Vec<u8>),
-    List(Vec<u8>, List),
-    Hall(Vec<u8>),
-}
-
-impl Case {
-    /// Every tenth seed has a hall; of the others every fourth has a list of calls, and of the rest every
-    /// fifth goes through the superfine desk's entry.
-    fn of(seed: u64) -> Self {
-        if seed % 10 == 9 {
-            return Case::Hall(match seed / 10 % 4 {
-                0 => damaged_hall(seed),
-                _ => hall_file(seed),
-            });
-        }
-        let file = match seed % 10 {
-            0..=2 => damaged(seed),
-            3 => random_bytes(seed),
-            _ => sale(seed),
-        };
-        if seed.is_multiple_of(4) {
-            let list = random_list(seed, &file);
-            Case::List(file, list)
-        } else if seed.is_multiple_of(5) {
-            Case::Fine(file)
-        } else {
-            Case::Sale(file)
-        }
-    }
-
-    fn compare(&self, seed: u64) -> Result<u32, String> {
-        let random = &mut Random::new(seed);
-        match self {
-            Case::Sale(file) => compare(file, random),
-            Case::Fine(file) => compare_fine(file, random),
-            Case::List(file, list) => compare_list(file, list, random),
-            Case::Hall(file) => compare_hall(file, random),
-        }
-    }
-
-    /// Its file, the ending that this has, and what else is needed to see a difference again.
-    fn parts(&self) -> (&[u8], &str, String) {
-        match self {
-            Case::Sale(file) => (file, "sale", "main entry".into()),
-            Case::Fine(file) => (file, "sale", "superfine entry".into()),
-            Case::List(file, list) => (file, "sale", format!("list {list:?}")),
-            Case::Hall(file) => (file, "hall", "hall entry".into()),
-        }
-    }
+/// The file of a seed, and the list of calls that goes with every fourth.
+fn case(seed: u64) -> (Vec<u8>, Option<List>) {
+    let file = match seed % 10 {
+        0..=2 => damaged(seed),
+        3 => random_bytes(seed),
+        _ => sale(seed),
+    };
+    let list = (seed % 4 == 0).then(|| random_list(seed, &file));
+    (file, list)
 }
 
 /// Every file of a folder. An empty folder fails, since nothing was compared.
@@ -84,7 +38,7 @@ fn soak_folder(folder: &Path) -> ExitCode {
         }
     };
     let count = files.len();
-    let compared = compare_files(&files, &ENTRIES, |done| {
+    let compared = compare_files(&files, &DESKS, |done| {
         if done % 100 == 0 {
             println!("{done} of {count} agree");
         }
@@ -119,14 +73,19 @@ fn main() -> ExitCode {
     let mut returns: BTreeMap<u32, u64> = BTreeMap::new();
     for done in 0..count {
         let seed = first + done;
-        let case = Case::of(seed);
-        match case.compare(seed) {
+        let (file, list) = case(seed);
+        let random = &mut Random::new(seed);
+        let found = match &list {
+            Some(list) => compare_list(&file, list, random),
+            None if seed % 5 == 0 => compare_fine(&file, random),
+            None => compare(&file, random),
+        };
+        match found {
             Ok(code) => *returns.entry(code).or_default() += 1,
             Err(what) => {
-                let (file, ending, how) = case.parts();
-                let name = format!("soak-{seed}.{ending}");
-                println!("seed {seed}: {what}; the file is {name}, {how}");
-                if let Err(error) = std::fs::write(&name, file) {
+                let name = format!("soak-{seed}.sale");
+                println!("seed {seed}: {what}; the file is {name}, the list {list:?}");
+                if let Err(error) = std::fs::write(&name, &file) {
                     println!("{name} can't be written: {error}");
                 }
                 return ExitCode::FAILURE;
