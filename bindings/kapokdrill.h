@@ -3,8 +3,8 @@
  * kapokdrill_sheets target/staticlib/libsheets.a. `bash tools/archives` writes all three.
  *
  * The functions keep nothing between calls, so calls on different memory may run at the same time.
- * Beside what they are lent they need 0.6 MB of stack for a sale, 1 MB for a hall, 1.7 MB for
- * sheets, and no heap. Lent memory needs no clearing beforehand.
+ * Beside what they are lent they need no heap, and some stack: 0.6 MB for a sale and 1 MB for a hall,
+ * measured with an older kit. Lent memory needs no clearing beforehand.
  *
  * Each pointer is followed by the number of entries (not bytes) that it may use; pieces of lent
  * memory must not overlap. A pointer must not be null, even with 0 entries.
