@@ -13,7 +13,8 @@ use Rattle.connectivity.specs.Set.{kept_trans, kept-none}
 use Rattle.levels.specs.World.{mat, World, world-net}
 use Rattle.levels.specs.ContractNet.{ContractNetNeeds, ContractNetDoes}
 use Rattle.pins.specs.Stack.{row as stack_row, present-on, row-into, row_other, one-or}
-use Rattle.pins.specs.Stretch.{Stretch, stretch-ext, stretch-in, skip-on, stretch-contract}
+use Rattle.pins.specs.Stretch.{Stretch, stretch-ext, stretch-in, skip-on}
+use Rattle.pins.proofs.Turns.{stretch-contract}
 use Rattle.pins.specs.Board.{join, half, half-below, half-from, Board, Room, KeptLists, room-kept}
 
 -- what the loop needs: (u, v) may go on the stack `cs` that the lists and the tables stand for

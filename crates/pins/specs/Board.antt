@@ -1,6 +1,6 @@
 -- All nets' pin lists and the incidence against a contraction stack for each net, the room they need, and what is left alone. A loop over the
 -- nets that is half done has the new stack below its net and the old one from there on. Rests on Stretch.
-use Rattle.std.specs.Prelude.{ℕ, ◌+◌, ◌*◌, ◌-◌, ◌≤◌, ◌<◌, ◌≡◌, refl, Bool, cond, ◌⊎◌, List, [], ltb, length, get_or}
+use Rattle.std.specs.Prelude.{ℕ, ◌+◌, ◌*◌, ◌≤◌, ◌<◌, ◌≡◌, refl, Bool, cond, ◌⊎◌, List, [], ltb, length, get_or}
 use Rattle.std.proofs.Common.{arith, sym, ap, ◌∙◌, lt-ltb, le-ltb}
 use Rattle.laws.specs.Choice.{one}
 use Rattle.laws.specs.Occurrence.{occ}
