@@ -7,7 +7,7 @@ use native.Mathlib.Omega.{arith}
 use native.Mathlib.Numerals.{add-one}
 use native.Mathlib.Nat.{add-zero}
 use lib.ListN.{length, take, drop, set, get_or, length-append, take-append-drop}
-use lib.Seq.{take-suc, take_all, length-take-le}
+use lib.Seq.{take-suc, take_all}
 use Rattle.model.specs.Report.{digits, tail}
 use Rattle.text.specs.Output.{written}
 use Rattle.text.proofs.Digits.{written_one, written-append, length-written}
@@ -41,10 +41,6 @@ wrote-cons {l} {at = at} {b = b} h w = wrote-append (omega arith) (wrote_one l a
 -- a text, and one byte after it
 pub wrote-snoc : {l m : List ℕ} {at : ℕ} {d : List ℕ} {p : ℕ} (b : ℕ) → at + length d < length l → Wrote l m at d p → Wrote l (set m p b) at (d ++ (b ∷ [])) (p + 1)
 wrote-snoc {l} {m} {at} {d} {p} b h w = wrote-append (omega arith) w (wrote_one m p b (omega (arith, w.ends, wrote-length w (omega arith))))
-
--- a word byte by byte
-pub wrote-byte : {l m : List ℕ} {at p : ℕ} (d : List ℕ) (i : ℕ) → i < length d → at + length d ≤ length l → Wrote l m at (take i d) p → Wrote l (set m p (get_or d i 0)) at (take (i + 1) d) (p + 1)
-wrote-byte d i h f w = rw (add-one i, take-suc d i 0 h) (wrote-snoc (get_or d i 0) (omega (arith, length-take-le i d (omega arith))) w)
 
 -- ---- fields one by one
 

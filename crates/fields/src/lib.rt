@@ -13,12 +13,9 @@ pub fn put_word(out: &mut [u8], at: usize, w: &[u8]) -> usize
     requires { at + length w.now ≤ length out.old }
     ensures { Wrote out.old out.new at w.now result }
 {
-    let mut i = 0;
-    while i < w.len() {
-        out[at + i] = w[i];
-        i += 1;
-    }
-    at + i
+    let end = at + w.len();
+    out[at..end].copy_from_slice(w);
+    end
 }
 
 // Writes a comma and a number.
@@ -36,10 +33,8 @@ pub fn put_tail(out: &mut [u8], at: usize, xs: &[u32]) -> usize
     ensures { Wrote out.old out.new at (tail (numbers xs.now)) result }
 {
     let mut p = at;
-    let mut i = 0;
-    while i < xs.len() {
-        p = put_field(out, p, xs[i]);
-        i += 1;
+    for x in xs {
+        p = put_field(out, p, *x);
     }
     out[p] = 10;
     p + 1

@@ -18,13 +18,15 @@ use Rattle.model.specs.HallText.{HallReading, in_calls, hall_stopped, with_led, 
 use Rattle.text.specs.Field.{first, FirstAt}
 use Rattle.text.proofs.Walk.{slice_at, first-within, parts-some}
 use Rattle.text.proofs.Lines.{parts-on, parts_last}
-use Rattle.reader.proofs.Turns.{stop-up}
-use Rattle.reader.specs.declared.Ended.TheVariants.{Up, Stop}
+use Rattle.std.specs.Prelude.{Option, Some, None, Ok, Err}
+use Rattle.refusal.specs.declared.Refusal.{Refusal}
+use Rattle.refusal.specs.declared.Refusal.TheVariants.{BadlyWritten, OutOfRange, TooManyCalls}
+use Rattle.refusal.specs.Number.{number_of, refused_at}
+use Rattle.refusal.proofs.Results.{err-ok}
 use Rattle.hall_lines.specs.Heading.{hall_book}
 use Rattle.hall_lines.specs.Leading.{asked_behind, LedAsking, leading, LedRead}
 use Rattle.hall_lines.specs.LedTable.{led, led_calls_of, led_entries_to, LedCallsRead}
 use Rattle.hall_lines.specs.declared.LedAsk.{LedAsk}
-use Rattle.hall_lines.specs.declared.LedAsk.TheVariants.{Leads, NotLed}
 use Rattle.hall_lines.proofs.LedTables.{led-entries-more, same-led-calls, put, led-calls-put, led-entries-put}
 
 -- ---- the lines of a hall's file, from a cursor on
@@ -149,7 +151,7 @@ led-start count s at n t ops a short b c d = record {
 }
 
 module _ (count : ℕ) (s : List ℕ) (at n : ℕ) (t₀ ops₀ t ops : List ℕ) (i c used : ℕ) (on : OnLed count s at n t₀ ops₀ t ops i c used) where
-  pub led-done : i ≡ length s → LedCallsRead count s at n (Up c) t ops
+  pub led-done : i ≡ length s → LedCallsRead count s at n (Ok c) t ops
   led-done e = record {
     known = λ d q.
         let z : c ≡ d = cc in
@@ -159,33 +161,48 @@ module _ (count : ℕ) (s : List ℕ) (at n : ℕ) (t₀ ops₀ t ops : List ℕ
 
   module _ (lt : i < length s) where
     -- the file is turned down, and the operands may have changed
-    stops : (ops' : List ℕ) (q k : ℕ) → ((limit : ℕ) (ks : List Book) → hall_lines (n + c) (in_calls (hall_book count limit ks (led_calls_of ops c t))) (parts 10 (slice i (length s) s)) ≡ hall_stopped q k) → LedCallsRead count s at n (Stop q k) t ops'
-    stops ops' q k f = record { known = λ d z. stop-up z; says = λ limit ks. sym (on.says limit ks ∙ f limit ks) }
+    stops : (ops' : List ℕ) (q : Refusal) (k : ℕ) → ((limit : ℕ) (ks : List Book) → hall_lines (n + c) (in_calls (hall_book count limit ks (led_calls_of ops c t))) (parts 10 (slice i (length s) s)) ≡ hall_stopped (number_of q) k) → LedCallsRead count s at n (Err (refused_at q k)) t ops'
+    stops ops' q k f = record { known = λ d z. err-ok z; says = λ limit ks. sym (on.says limit ks ∙ f limit ks) }
 
-    pub led-full : c ≡ 512 → LedCallsRead count s at n (Stop 7 (n + c)) t ops
-    led-full e = stops ops 7 (n + c) (λ limit ks. calls-past count limit ks (led_calls_of ops c t) (n + c) s (length s) i lt (omega arith) (omega (arith, on.number)))
+    pub led-full : c ≡ 512 → LedCallsRead count s at n (Err (refused_at TooManyCalls (n + c))) t ops
+    led-full e = stops ops TooManyCalls (n + c) (λ limit ks. calls-past count limit ks (led_calls_of ops c t) (n + c) s (length s) i lt (omega arith) (omega (arith, on.number)))
 
     module _ (e : ℕ) (found : FirstAt s i (length s) 10 e) (room : c < 512) where
-      pub led-unended : e ≡ length s → LedCallsRead count s at n (Stop 2 (n + c)) t ops
-      led-unended x = stops ops 2 (n + c) (λ limit ks. lacks count limit ks (led_calls_of ops c t) (n + c) s (length s) i e false lt (omega arith) found x (lt-leb 512 (length (led_calls_of ops c t)) (omega (arith, on.number))))
+      pub led-unended : e ≡ length s → LedCallsRead count s at n (Err (refused_at BadlyWritten (n + c))) t ops
+      led-unended x = stops ops BadlyWritten (n + c) (λ limit ks. lacks count limit ks (led_calls_of ops c t) (n + c) s (length s) i e false lt (omega arith) found x (lt-leb 512 (length (led_calls_of ops c t)) (omega (arith, on.number))))
 
       -- where `led_line` answered r
-      module _ (more : e < length s) (r : LedAsk) (ops' : List ℕ) (read : LedRead (fields (slice i e s)) e used r ops ops') where
-        pub led-unread : r ≡ NotLed → LedCallsRead count s at n (Stop 2 (n + c)) t ops'
+      module _ (more : e < length s) (r : Option LedAsk) (ops' : List ℕ) (read : LedRead (fields (slice i e s)) e used r ops ops') where
+        pub led-unread : r ≡ None → LedCallsRead count s at n (Err (refused_at BadlyWritten (n + c))) t ops'
         led-unread is =
-            let x : asked_behind (fields (slice i e s)) ≡ nothing = subst (λ (y : LedAsk). leading (fields (slice i e s)) e used y ops') is read.says in
-            stops ops' 2 (n + c) (λ limit ks. hall-stop s (length s) i e (n + c) (omega arith) (omega arith) found (in_calls (hall_book count limit ks (led_calls_of ops c t))) 2 (n + c) more (line-bad count limit ks (led_calls_of ops c t) (n + c) (slice i e s) (omega (arith, on.number)) x))
+            let x : asked_behind (fields (slice i e s)) ≡ nothing = subst (λ (y : Option LedAsk). leading (fields (slice i e s)) e used y ops') is read.says in
+            stops ops' BadlyWritten (n + c) (λ limit ks. hall-stop s (length s) i e (n + c) (omega arith) (omega arith) found (in_calls (hall_book count limit ks (led_calls_of ops c t))) 2 (n + c) more (line-bad count limit ks (led_calls_of ops c t) (n + c) (slice i e s) (omega (arith, on.number)) x))
 
-        module _ (d k a b u : ℕ) (is : r ≡ Leads d k a b u) where
+        module _ (y : LedAsk) (is : r ≡ Some y) where
+          abbrev d : ℕ
+          d = y.catalogue
+
+          abbrev k : ℕ
+          k = y.ask.letter
+
+          abbrev a : ℕ
+          a = y.ask.first
+
+          abbrev b : ℕ
+          b = y.ask.second
+
+          abbrev u : ℕ
+          u = y.ask.used
+
           x : LedAsking (fields (slice i e s)) e used d k a b u ops'
-          x = subst (λ (y : LedAsk). leading (fields (slice i e s)) e used y ops') is read.says
+          x = subst (λ (y : Option LedAsk). leading (fields (slice i e s)) e used y ops') is read.says
 
           by-lead : (limit : ℕ) (ks : List Book) (w : Bool) → within 1 count d ≡ w
               → hall_line (n + c) (in_calls (hall_book count limit ks (led_calls_of ops c t))) (slice i e s) ≡ cond (not w) (hall_stopped 3 (n + c)) (in_calls (hall_book count limit ks (led_calls_of ops c t ++ (led d x.asking.call ∷ []))))
           by-lead limit ks w p = line-led count limit ks (led_calls_of ops c t) (n + c) (slice i e s) d x.asking.call w (omega (arith, on.number)) x.number x.lead x.asking.says p
 
-          pub led-stranger : within 1 count d ≡ false → LedCallsRead count s at n (Stop 3 (n + c)) t ops'
-          led-stranger p = stops ops' 3 (n + c) (λ limit ks. hall-stop s (length s) i e (n + c) (omega arith) (omega arith) found (in_calls (hall_book count limit ks (led_calls_of ops c t))) 3 (n + c) more (by-lead limit ks false p))
+          pub led-stranger : within 1 count d ≡ false → LedCallsRead count s at n (Err (refused_at OutOfRange (n + c))) t ops'
+          led-stranger p = stops ops' OutOfRange (n + c) (λ limit ks. hall-stop s (length s) i e (n + c) (omega arith) (omega arith) found (in_calls (hall_book count limit ks (led_calls_of ops c t))) 3 (n + c) more (by-lead limit ks false p))
 
           module _ (known : within 1 count d ≡ true) where
             calls-one : led_calls_of ops' (c + 1) (put t c d k a b (omega (arith, on.wide))) ≡ led_calls_of ops c t ++ (led d x.asking.call ∷ [])

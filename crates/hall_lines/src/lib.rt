@@ -10,64 +10,67 @@ ghost use Rattle.hall_lines.specs.Leading.{LedRead};
 ghost use Rattle.hall_lines.specs.LedTable.{LedCallsRead};
 
 use lines::Ask;
-use reader::Ended;
+use refusal::{Refusal, Refused};
 use text::between;
 
-// The first line: how many catalogues there are, and the limit of bales in a session; or its refusal.
-#[derive(Clone, Copy)]
-pub enum First {
-    Hall(u32, u32),
-    NoHall(u8),
+// The first line: how many catalogues there are, and the limit of bales in a session.
+#[derive(Clone, Copy, Debug, PartialEq, Eq)]
+pub struct First {
+    pub catalogues: u32,
+    pub limit: u32,
 }
 
-// A call line: the number that leads it, the byte of the call's letter, its numbers and how many operands are in use behind it.
-#[derive(Clone, Copy)]
-pub enum LedAsk {
-    Leads(u32, u32, u32, u32, usize),
-    NotLed,
+// A call line: the number of the catalogue that leads it, and the call behind.
+#[derive(Clone, Copy, Debug, PartialEq, Eq)]
+pub struct LedAsk {
+    pub catalogue: u32,
+    pub ask: Ask,
 }
 
 // The first line, which ends before `end`.
-pub fn hall_line(s: &[u8], end: usize) -> First
+pub fn hall_line(s: &[u8], end: usize) -> Result<First, Refusal>
     requires { end ≤ length s.now }
     ensures { FirstRead (fields (slice 0 end s.now)) result }
 {
     let mut values = [0u32; 4];
     if text::read_line(s, 0, end, b"HALL", &mut values) != 3 {
-        return First::NoHall(2);
+        return Err(Refusal::BadlyWritten);
     }
     let catalogues = values[0];
     let limit = values[1];
     if !between(2, 4, catalogues) {
-        return First::NoHall(3);
+        return Err(Refusal::OutOfRange);
     }
     if !between(1, 999999999, limit) {
-        return First::NoHall(3);
+        return Err(Refusal::OutOfRange);
     }
-    First::Hall(catalogues, limit)
+    Ok(First { catalogues, limit })
 }
 
 // A call line: a number, a comma and a call. The operands are as `call_line` has them.
-pub fn led_line(s: &[u8], at: usize, end: usize, used: usize, operands: &mut [u32]) -> LedAsk
+pub fn led_line(
+    s: &[u8],
+    at: usize,
+    end: usize,
+    used: usize,
+    operands: &mut [u32],
+) -> Option<LedAsk>
     requires { (2 * used ≤ at) × (at ≤ end) × (end ≤ length s.now) × (end ≤ 2 * length operands.old) × (end ≤ 60000) }
     ensures { LedRead (fields (slice at end s.now)) end used result operands.old operands.new }
 {
-    let f = text::read_number(s, at, end);
-    let d = f.value;
-    let e = f.end;
-    if e == at {
-        return LedAsk::NotLed;
+    let lead = text::read_number(s, at, end)?;
+    if lead.end == end {
+        return None;
     }
-    if e == end {
-        return LedAsk::NotLed;
-    }
-    match lines::call_line(s, e + 1, end, used, operands) {
-        Ask::Nothing => LedAsk::NotLed,
-        Ask::Asks(k, a, b, u) => LedAsk::Leads(d, k, a, b, u),
-    }
+    let ask = lines::call_line(s, lead.end + 1, end, used, operands)?;
+    Some(LedAsk {
+        catalogue: lead.value,
+        ask,
+    })
 }
 
-// Reads the call lines, the first of which is the n-th line, of a hall of `count` catalogues.
+// Reads the call lines, the first of which is the n-th line, of a hall of `count` catalogues, and says how many there are. A sale's are read by
+// `reader::read_calls`: model reads the two by definitions of their own, and the tables have four and three numbers for a call.
 pub fn read_led_calls(
     s: &[u8],
     at: usize,
@@ -75,7 +78,7 @@ pub fn read_led_calls(
     count: u32,
     calls: &mut [u32],
     operands: &mut [u32],
-) -> Ended
+) -> Result<usize, Refused>
     requires { (at ≤ length s.now) × (length s.now ≤ 60000) × (n ≤ 4096) × (2048 ≤ length calls.old) × (30000 ≤ length operands.old) }
     ensures { LedCallsRead count s.now at n result calls.new operands.new }
 {
@@ -83,32 +86,29 @@ pub fn read_led_calls(
     let mut i = at;
     let mut c: usize = 0;
     let mut used: usize = 0;
+    // No for: a line begins where the last one ended.
     while i < len {
         if c == 512 {
-            return Ended::Stop(7, n + c);
+            return Err(Refusal::TooManyCalls.at(n + c));
         }
         let e = text::line_end(s, i, len);
         if e == len {
-            return Ended::Stop(2, n + c);
+            return Err(Refusal::BadlyWritten.at(n + c));
         }
-        match led_line(s, i, e, used, operands) {
-            LedAsk::NotLed => {
-                return Ended::Stop(2, n + c);
-            }
-            LedAsk::Leads(d, k, a, b, u) => {
-                if !between(1, count, d) {
-                    return Ended::Stop(3, n + c);
-                }
-                let x = 4 * c;
-                calls[x] = d;
-                calls[x + 1] = k;
-                calls[x + 2] = a;
-                calls[x + 3] = b;
-                c += 1;
-                used = u;
-            }
+        let Some(led) = led_line(s, i, e, used, operands) else {
+            return Err(Refusal::BadlyWritten.at(n + c));
+        };
+        if !between(1, count, led.catalogue) {
+            return Err(Refusal::OutOfRange.at(n + c));
         }
+        let x = 4 * c;
+        calls[x] = led.catalogue;
+        calls[x + 1] = led.ask.letter;
+        calls[x + 2] = led.ask.first;
+        calls[x + 3] = led.ask.second;
+        c += 1;
+        used = led.ask.used;
         i = e + 1;
     }
-    Ended::Up(c)
+    Ok(c)
 }

@@ -23,11 +23,14 @@ use Rattle.lines.specs.declared.Limits.{Limits as Given}
 use Rattle.loader.specs.Tables.{catalogue_seen}
 use Rattle.loader.specs.declared.Sizes.{Sizes}
 use Rattle.loader.specs.declared.LoadedCatalogue.{LoadedCatalogue}
-use Rattle.loader.specs.declared.LoadedCatalogue.TheVariants.{Fits, Fails}
+use Rattle.std.specs.Prelude.{Result, Ok, Err}
+use Rattle.refusal.specs.declared.Refused.{Refused}
+use Rattle.refusal.specs.Number.{number_of}
+use Rattle.refusal.proofs.Results.{err-ok, ok-ok}
 use Rattle.hall_lines.specs.Heading.{hall_book}
 use Rattle.hall_loader.specs.Sets.{Set, Sets, set_of, put_set, Whole, Wide, Alike, own_put, other-put, whole-put, alike-start, alike-put}
-use Rattle.hall_loader.specs.Books.{OneLoaded, CanSubtract, limits_after, no_sizes, book_in, books_to, AcceptsSet, AcceptsIn, complete, CanLoad, CataloguesLoaded}
-use Rattle.hall_loader.specs.declared.Way.TheVariants.{Past, Cut}
+use Rattle.hall_loader.specs.Books.{OneLoaded, CanSubtract, limits_after, no_sizes, book_in, books_to, AcceptsSet, AcceptsIn, complete, Behind, CanLoad, CataloguesLoaded}
+use Rattle.hall_loader.specs.declared.Catalogues.{Catalogues}
 
 -- ---- the catalogues that sizes and sets show
 pub books-length : (est : ℕ → Bool) (zs : List Sizes) (H : Sets) (c : ℕ) → length (books_to est zs H c) ≡ c
@@ -185,9 +188,6 @@ sets-start s at count H zs limits can long el es eb em = record {
   says = λ limit. ap (λ (r : HallReading). hall_lines 2 r (parts 10 (slice at (length s) s))) (sym (onward-next (2 - 1) count limit [] (omega (arith, can.some))));
 }
 
-cut-past : {A : Type 0} {q m i n : ℕ} → Cut q m ≡ Past i n → A
-cut-past e = absurd (let z : ◌≡◌ {A = ℕ} 0 1 = cc in omega arith)
-
 module _ (s : List ℕ) (at count : ℕ) (H₀ H : Sets) (zs : List Sizes) (limits : Given) (i line c : ℕ) (on : OnSets s at count H₀ H zs limits i line c) where
   pub still-wide : Wide c H
   still-wide d l u =
@@ -198,23 +198,20 @@ module _ (s : List ℕ) (at count : ℕ) (H₀ H : Sets) (zs : List Sizes) (limi
   pub line-few : line ≤ 2054
   line-few = omega (arith, on.high, on.c-le, on.few)
 
-  pub sets-done : c ≡ count → CataloguesLoaded count s at (Past i line) zs H₀ H
+  pub sets-done : c ≡ count → CataloguesLoaded count s at (Ok (record { sizes = zs; end = i; line = line })) H₀ H
   sets-done e = record {
     estimated = on.estimated;
     says = λ limit. sym (on.says limit
         ∙ ap (λ (r : HallReading). hall_lines line r (parts 10 (slice i (length s) s))) (onward-done (line - 1) count limit (books_to on.estimated zs H c) (books-length on.estimated zs H c ∙ e))
         ∙ ap (λ (d : ℕ). hall_lines line (complete (line - 1) (hall_book count limit (books_to on.estimated zs H d) [])) (parts 10 (slice i (length s) s))) e);
-    behind = λ j n z.
-        let e2 : i ≡ j = cc in
-        let e3 : line ≡ n = cc in
-        record { inside = omega (arith, on.i-le, e2); low = omega (arith, on.low, e3); high = omega (arith, line-few, e3) };
-    sizes-long = on.sizes-long;
-    accepts = λ j n z d u. on.accepts d (omega arith);
+    behind = λ a z. subst (λ (x : Catalogues). Behind s x.end x.line) (ok-ok z) (record { inside = on.i-le; low = on.low; high = omega (arith, line-few) });
+    sizes-long = λ a z. subst (λ (x : Catalogues). length x.sizes ≡ 4) (ok-ok z) on.sizes-long;
+    accepts = λ a z d u. subst (λ (x : Catalogues). AcceptsIn on.estimated x.sizes H₀ H d) (ok-ok z) (on.accepts d (omega arith));
     kept = λ d u. on.kept d (omega arith);
   }
 
   -- where the next catalogue's loading answered r
-  module _ (lt : c < count) (r : LoadedCatalogue) (H' : Sets) (one : OneLoaded (limits_of limits) line s i c r H H') where
+  module _ (lt : c < count) (r : Result LoadedCatalogue Refused) (H' : Sets) (one : OneLoaded (limits_of limits) line s i c r H H') where
     abbrev Y : Set
     Y = one.after
 
@@ -232,21 +229,27 @@ module _ (s : List ℕ) (at count : ℕ) (H₀ H : Sets) (zs : List Sizes) (limi
         ∙ ap (λ (l : Limits). on_hall (hall_book count limit ks []) (through l line unread (parts 10 x))) (sym on.left_is)
         ∙ ap (on_hall (hall_book count limit ks [])) (sym one.loads.says)
 
-    pub sets-fail : (q m : ℕ) → r ≡ Fails q m → CataloguesLoaded count s at (Cut q m) zs H₀ H'
-    sets-fail q m e = record {
+    pub sets-fail : (q : Refused) → r ≡ Err q → CataloguesLoaded count s at (Err q) H₀ H'
+    sets-fail q e = record {
       estimated = on.estimated;
       says = λ limit.
           let K = hall_book count limit (books_to on.estimated zs H c) [] in
-          sym (next limit ∙ ap (λ (y : LoadedCatalogue). on_hall K (catalogue_seen line s one.loads.estimated y Y.lists Y.costs Y.lows)) e ∙ by-refusal K q m);
-      behind = λ j n z. cut-past z;
-      sizes-long = on.sizes-long;
-      accepts = λ j n z. cut-past z;
+          sym (next limit ∙ ap (λ (y : Result LoadedCatalogue Refused). on_hall K (catalogue_seen line s one.loads.estimated y Y.lists Y.costs Y.lows)) e ∙ by-refusal K (number_of q.refusal) q.line);
+      behind = λ a z. err-ok z;
+      sizes-long = λ a z. err-ok z;
+      accepts = λ a z. err-ok z;
       kept = λ d u. ap (set_of d) one.put ∙ other-put c d Y H (λ e. omega arith) ∙ on.kept d (omega arith);
     }
 
-    module _ (z : Sizes) (e : ℕ) (is : r ≡ Fits z e) where
+    module _ (y : LoadedCatalogue) (is : r ≡ Ok y) where
+      abbrev z : Sizes
+      z = y.sizes
+
+      abbrev e : ℕ
+      e = y.end
+
       told : AcceptsSet (limits_of limits) z (set_of c H) Y
-      told = one.loads.accepts z e is
+      told = one.loads.accepts y is
 
       pub can-subtract : CanSubtract limits z
       can-subtract = record { lots = told.range.l-high; buyers = told.range.b-high; marks = told.pins-le; few = on.within.few.pins-few }
@@ -291,7 +294,7 @@ module _ (s : List ℕ) (at count : ℕ) (H₀ H : Sets) (zs : List Sizes) (limi
 
       on-put : OnSets s at count H₀ (put_set c Y H) (set zs c z) (limits_after limits z) e (line + 1 + z.vertices + z.nets) (c + 1)
       on-put = record {
-        i-le = one.loads.inside z e is;
+        i-le = one.loads.inside y is;
         c-le = omega arith;
         few = on.few;
         whole = whole-put c Y H on.whole;
@@ -310,7 +313,7 @@ module _ (s : List ℕ) (at count : ℕ) (H₀ H : Sets) (zs : List Sizes) (limi
             let n = line + 1 + z.vertices + z.nets in
             let x = parts 10 (slice e (length s) s) in
             next limit
-            ∙ ap (λ (y : LoadedCatalogue). on_hall (hall_book count limit ks []) (catalogue_seen line s one.loads.estimated y Y.lists Y.costs Y.lows)) is
+            ∙ ap (λ (y : Result LoadedCatalogue Refused). on_hall (hall_book count limit ks []) (catalogue_seen line s one.loads.estimated y Y.lists Y.costs Y.lows)) is
             ∙ by-book count limit ks (book_in one.loads.estimated z Y) n x
             ∙ ap (λ (l : List Book). hall_lines n (onward (n - 1) (hall_book count limit l [])) x) (sym one_more);
       }

@@ -1,6 +1,6 @@
 -- The catalogues that sizes and sets of tables show, and what loading them one after another promises. Rests on Sets and on loader's promise of a catalogue.
 -- Assumes nothing.
-use Rattle.std.specs.Prelude.{ℕ, zero, suc, ◌-◌, ◌≤◌, ◌<◌, ◌≡◌, Bool, cond, List, [], ◌∷◌, ◌++◌, length, get_or}
+use Rattle.std.specs.Prelude.{ℕ, zero, suc, ◌-◌, ◌≤◌, ◌<◌, ◌≡◌, Bool, cond, List, [], ◌∷◌, ◌++◌, length, get_or, Result, Ok, Err}
 use Rattle.std.proofs.Math.Seq.{slice}
 use Rattle.model.specs.Catalogue.{Limits, main_limits}
 use Rattle.model.specs.Grammar.{Book, unread, parts}
@@ -12,11 +12,12 @@ use Rattle.loader.specs.declared.Sizes.{Sizes}
 use Rattle.loader.specs.declared.LoadedCatalogue.{LoadedCatalogue}
 use Rattle.hall_lines.specs.Heading.{hall_book}
 use Rattle.hall_loader.specs.Sets.{Set, Sets, set_of, put_set, Whole, Wide}
-use Rattle.hall_loader.specs.declared.Way.{Way}
-use Rattle.hall_loader.specs.declared.Way.TheVariants.{Past, Cut}
+use Rattle.hall_loader.specs.declared.Catalogues.{Catalogues}
+use Rattle.refusal.specs.declared.Refused.{Refused}
+use Rattle.refusal.specs.Number.{number_of}
 
 -- ---- one catalogue, into the set c
-pub record OneLoaded (limits : Limits) (n : ℕ) (file : List ℕ) (at c : ℕ) (r : LoadedCatalogue) (old new : Sets) : Type 0 where
+pub record OneLoaded (limits : Limits) (n : ℕ) (file : List ℕ) (at c : ℕ) (r : Result LoadedCatalogue Refused) (old new : Sets) : Type 0 where
   pub after : Set
   pub loads : LoadsCatalogue limits n file at r (set_of c old).lists after.lists after.costs after.lows
   pub put : new ≡ put_set c after old
@@ -59,9 +60,9 @@ abbrev pub complete : ℕ → HallBook → HallReading
 complete n K = cond (drafts_over K.limit (graphs K)) (hall_stopped 24 n) (in_calls K)
 
 -- what the answer and the sets say of `count` catalogues
-abbrev pub catalogues_seen : ℕ → ℕ → List ℕ → (ℕ → Bool) → Way → List Sizes → Sets → HallReading
-catalogues_seen count limit s estimated (Past i n) zs H = hall_lines n (complete (n - 1) (hall_book count limit (books_to estimated zs H count) [])) (parts 10 (slice i (length s) s))
-catalogues_seen count limit s estimated (Cut q m) zs H = hall_stopped q m
+abbrev pub catalogues_seen : ℕ → ℕ → List ℕ → (ℕ → Bool) → Result Catalogues Refused → Sets → HallReading
+catalogues_seen count limit s estimated (Ok a) H = hall_lines a.line (complete (a.line - 1) (hall_book count limit (books_to estimated a.sizes H count) [])) (parts 10 (slice a.end (length s) s))
+catalogues_seen count limit s estimated (Err e) H = hall_stopped (number_of e.refusal) e.line
 
 -- the place and the line behind the last catalogue
 pub record Behind (s : List ℕ) (i n : ℕ) : Type 0 where
@@ -77,10 +78,10 @@ pub record CanLoad (s : List ℕ) (at count : ℕ) (H : Sets) : Type 0 where
   pub wide : Wide 0 H
 
 -- the catalogues, of which the first begins at place `at` with the second line; sets without a catalogue keep what they held
-pub record CataloguesLoaded (count : ℕ) (s : List ℕ) (at : ℕ) (r : Way) (zs : List Sizes) (old new : Sets) : Type 0 where
+pub record CataloguesLoaded (count : ℕ) (s : List ℕ) (at : ℕ) (r : Result Catalogues Refused) (old new : Sets) : Type 0 where
   pub estimated : ℕ → Bool
-  pub says : (limit : ℕ) → catalogues_seen count limit s estimated r zs new ≡ hall_lines 2 (in_catalogue (hall_book count limit [] []) unread) (parts 10 (slice at (length s) s))
-  pub behind : (i n : ℕ) → r ≡ Past i n → Behind s i n
-  pub sizes-long : length zs ≡ 4
-  pub accepts : (i n : ℕ) → r ≡ Past i n → (c : ℕ) → c < count → AcceptsIn estimated zs old new c
+  pub says : (limit : ℕ) → catalogues_seen count limit s estimated r new ≡ hall_lines 2 (in_catalogue (hall_book count limit [] []) unread) (parts 10 (slice at (length s) s))
+  pub behind : (a : Catalogues) → r ≡ Ok a → Behind s a.end a.line
+  pub sizes-long : (a : Catalogues) → r ≡ Ok a → length a.sizes ≡ 4
+  pub accepts : (a : Catalogues) → r ≡ Ok a → (c : ℕ) → c < count → AcceptsIn estimated a.sizes old new c
   pub kept : (c : ℕ) → count ≤ c → set_of c new ≡ set_of c old

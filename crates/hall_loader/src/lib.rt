@@ -8,40 +8,28 @@ ghost use Rattle.hall_loader.specs.Sets.{sets, Whole, Wide};
 ghost use Rattle.hall_lines.specs.Heading.{Announced};
 ghost use Rattle.hall_loader.specs.Books.{no_sizes, OneLoaded, CanSubtract, limits_after, Behind, CanLoad, CataloguesLoaded};
 ghost use Rattle.hall_loader.specs.Drafts.{Light, draft_bales, drafts_above};
-ghost use Rattle.hall_loader.specs.declared.HallAnswer.TheVariants.{Refused};
 ghost use Rattle.hall_loader.specs.HallFile.{RoomForCalls, CallsLoaded, BodyLoads, HallLoads};
 
 use hall_lines::First;
 use lines::Limits;
 use loader::{LoadedCatalogue, Sizes};
-use reader::Ended;
+use refusal::{Refusal, Refused};
 
-// How the catalogues ended: the place behind the last one and the number of the line there; or the refusal's number and the line's.
-#[derive(Clone, Copy)]
-pub enum Way {
-    Past(usize, usize),
-    Cut(u8, usize),
-}
-
-// The catalogues in turn: their sizes, and how they ended.
+// The catalogues in turn: their sizes, the place behind the last one and the number of the line there.
 #[derive(Clone, Copy)]
 pub struct Catalogues {
     pub sizes: [Sizes; 4],
-    pub way: Way,
+    pub end: usize,
+    pub line: usize,
 }
 
-// An accepted hall: how many catalogues, the limit of bales in a session and how many calls; or the refusal's number and the line's.
-#[derive(Clone, Copy)]
-pub enum HallAnswer {
-    Accepted(u32, u32, usize),
-    Refused(u8, usize),
-}
-
-// A hall's file: the sizes of the catalogues that were loaded, and the answer.
+// An accepted hall: how many catalogues, the limit of bales in a session, how many calls, and the catalogues' sizes.
 #[derive(Clone, Copy)]
 pub struct HallLoaded {
+    pub count: u32,
+    pub limit: u32,
+    pub calls: usize,
     pub sizes: [Sizes; 4],
-    pub answer: HallAnswer,
 }
 
 // The sizes of a set without a catalogue.
@@ -56,16 +44,6 @@ fn no_sizes() -> Sizes
         pins: 0,
         average: 0,
         capacity: 0,
-    }
-}
-
-// A file that is turned down before its first catalogue.
-fn refused(q: u8, n: usize) -> HallLoaded
-    ensures { result.answer ≡ Refused q n }
-{
-    HallLoaded {
-        sizes: [no_sizes(); 4],
-        answer: HallAnswer::Refused(q, n),
     }
 }
 
@@ -87,7 +65,7 @@ fn load_next(
     presentsizes: &mut [[u16; 1024]],
     netweights: &mut [[u16; 1024]],
     lows: &mut [[u32; 1024]],
-) -> LoadedCatalogue
+) -> Result<LoadedCatalogue, Refused>
     requires { (at ≤ length s.now) × (line ≤ 60001) × (c < 4) × Within (limits_of limits) × Whole (sets weights.old blocks.old aboves.old fixed.old loadedpins.old presentpins.old firsts.old loadedsizes.old presentsizes.old netweights.old lows.old) × Wide c (sets weights.old blocks.old aboves.old fixed.old loadedpins.old presentpins.old firsts.old loadedsizes.old presentsizes.old netweights.old lows.old) }
     ensures { OneLoaded (limits_of limits) line s.now at c result (sets weights.old blocks.old aboves.old fixed.old loadedpins.old presentpins.old firsts.old loadedsizes.old presentsizes.old netweights.old lows.old) (sets weights.new blocks.new aboves.new fixed.new loadedpins.new presentpins.new firsts.new loadedsizes.new presentsizes.new netweights.new lows.new) }
 {
@@ -139,9 +117,9 @@ fn load_catalogues(
     presentsizes: &mut [[u16; 1024]],
     netweights: &mut [[u16; 1024]],
     lows: &mut [[u32; 1024]],
-) -> Catalogues
+) -> Result<Catalogues, Refused>
     requires { CanLoad s.now at count (sets weights.old blocks.old aboves.old fixed.old loadedpins.old presentpins.old firsts.old loadedsizes.old presentsizes.old netweights.old lows.old) }
-    ensures { CataloguesLoaded count s.now at result.way result.sizes (sets weights.old blocks.old aboves.old fixed.old loadedpins.old presentpins.old firsts.old loadedsizes.old presentsizes.old netweights.old lows.old) (sets weights.new blocks.new aboves.new fixed.new loadedpins.new presentpins.new firsts.new loadedsizes.new presentsizes.new netweights.new lows.new) }
+    ensures { CataloguesLoaded count s.now at result (sets weights.old blocks.old aboves.old fixed.old loadedpins.old presentpins.old firsts.old loadedsizes.old presentsizes.old netweights.old lows.old) (sets weights.new blocks.new aboves.new fixed.new loadedpins.new presentpins.new firsts.new loadedsizes.new presentsizes.new netweights.new lows.new) }
 {
     let mut sizes = [no_sizes(); 4];
     let mut limits = Limits {
@@ -152,9 +130,8 @@ fn load_catalogues(
     };
     let mut i = at;
     let mut line: usize = 2;
-    let mut c: usize = 0;
-    while c < count {
-        match load_next(
+    for c in 0..count {
+        let catalogue = load_next(
             s,
             i,
             line,
@@ -171,26 +148,18 @@ fn load_catalogues(
             presentsizes,
             netweights,
             lows,
-        ) {
-            LoadedCatalogue::Fails(q, n) => {
-                return Catalogues {
-                    sizes: sizes,
-                    way: Way::Cut(q, n),
-                };
-            }
-            LoadedCatalogue::Fits(z, e) => {
-                sizes[c] = z;
-                limits = left(limits, z);
-                line = line + 1 + z.vertices as usize + z.nets as usize;
-                i = e;
-            }
-        }
-        c += 1;
+        )?;
+        let z = catalogue.sizes;
+        sizes[c] = z;
+        limits = left(limits, z);
+        line = line + 1 + z.vertices as usize + z.nets as usize;
+        i = catalogue.end;
     }
-    Catalogues {
-        sizes: sizes,
-        way: Way::Past(i, line),
-    }
+    Ok(Catalogues {
+        sizes,
+        end: i,
+        line,
+    })
 }
 
 // The bales of `count` drafts together in session t.
@@ -205,11 +174,9 @@ fn draft_bales(
     ensures { result ≡ draft_bales count t sizes weights.now blocks.now }
 {
     let mut bales: u64 = 0;
-    let mut c: usize = 0;
-    while c < count {
+    for c in 0..count {
         let z = sizes[c];
         bales += block_weights::block_weight(&weights[c], &blocks[c], z.vertices as usize, t);
-        c += 1;
     }
     bales
 }
@@ -225,18 +192,16 @@ fn drafts_above(
     requires { Light count sizes weights.now blocks.now }
     ensures { result ≡ drafts_above count limit sizes weights.now blocks.now }
 {
-    let most = limit as u64;
-    let mut t: u32 = 0;
-    while t < 16 {
-        t += 1;
-        if most < draft_bales(count, t, sizes, weights, blocks) {
+    let most = u64::from(limit);
+    for t in 0..16 {
+        if most < draft_bales(count, t + 1, sizes, weights, blocks) {
             return true;
         }
     }
     false
 }
 
-// What follows the catalogues, the line behind which is the given one: 24 comes before the call lines.
+// What follows the catalogues, the line behind which is the given one, and how many calls there are: DraftsAboveLimit comes before the call lines.
 fn after_catalogues(
     s: &[u8],
     at: usize,
@@ -248,25 +213,21 @@ fn after_catalogues(
     blocks: &[[u16; 1024]],
     calls: &mut [u32],
     operands: &mut [u32],
-) -> HallAnswer
+) -> Result<usize, Refused>
     requires { Behind s.now at line × RoomForCalls s.now calls.old operands.old × Light count sizes weights.now blocks.now }
     ensures { CallsLoaded s.now at line count limit sizes result weights.now blocks.now calls.new operands.new }
 {
     if drafts_above(count as usize, limit, sizes, weights, blocks) {
-        return HallAnswer::Refused(24, line - 1);
+        return Err(Refusal::DraftsAboveLimit.at(line - 1));
     }
-    match hall_lines::read_led_calls(s, at, line, count, calls, operands) {
-        Ended::Stop(q, n) => HallAnswer::Refused(q, n),
-        Ended::Up(n) => HallAnswer::Accepted(count, limit, n),
-    }
+    hall_lines::read_led_calls(s, at, line, count, calls, operands)
 }
 
-// What follows the first line, which announces `count` catalogues and the limit.
+// What follows the first line, which is the given one.
 fn after_head(
     s: &[u8],
     at: usize,
-    count: u32,
-    limit: u32,
+    first: First,
     weights: &mut [[u32; 1024]],
     blocks: &mut [[u16; 1024]],
     aboves: &mut [[u16; 1024]],
@@ -280,14 +241,14 @@ fn after_head(
     lows: &mut [[u32; 1024]],
     calls: &mut [u32],
     operands: &mut [u32],
-) -> HallLoaded
-    requires { Announced count limit × RoomForCalls s.now calls.old operands.old × CanLoad s.now at count (sets weights.old blocks.old aboves.old fixed.old loadedpins.old presentpins.old firsts.old loadedsizes.old presentsizes.old netweights.old lows.old) }
-    ensures { BodyLoads s.now at count limit result.answer result.sizes (sets weights.old blocks.old aboves.old fixed.old loadedpins.old presentpins.old firsts.old loadedsizes.old presentsizes.old netweights.old lows.old) (sets weights.new blocks.new aboves.new fixed.new loadedpins.new presentpins.new firsts.new loadedsizes.new presentsizes.new netweights.new lows.new) calls.new operands.new }
+) -> Result<HallLoaded, Refused>
+    requires { Announced first.catalogues first.limit × RoomForCalls s.now calls.old operands.old × CanLoad s.now at first.catalogues (sets weights.old blocks.old aboves.old fixed.old loadedpins.old presentpins.old firsts.old loadedsizes.old presentsizes.old netweights.old lows.old) }
+    ensures { BodyLoads s.now at first.catalogues first.limit result (sets weights.old blocks.old aboves.old fixed.old loadedpins.old presentpins.old firsts.old loadedsizes.old presentsizes.old netweights.old lows.old) (sets weights.new blocks.new aboves.new fixed.new loadedpins.new presentpins.new firsts.new loadedsizes.new presentsizes.new netweights.new lows.new) calls.new operands.new }
 {
     let catalogues = load_catalogues(
         s,
         at,
-        count as usize,
+        first.catalogues as usize,
         weights,
         blocks,
         aboves,
@@ -299,21 +260,26 @@ fn after_head(
         presentsizes,
         netweights,
         lows,
-    );
+    )?;
     let sizes = catalogues.sizes;
-    let way = catalogues.way;
-    match way {
-        Way::Cut(q, n) => HallLoaded {
-            sizes: sizes,
-            answer: HallAnswer::Refused(q, n),
-        },
-        Way::Past(i, line) => HallLoaded {
-            sizes: sizes,
-            answer: after_catalogues(
-                s, i, line, count, limit, sizes, weights, blocks, calls, operands,
-            ),
-        },
-    }
+    let count = after_catalogues(
+        s,
+        catalogues.end,
+        catalogues.line,
+        first.catalogues,
+        first.limit,
+        sizes,
+        weights,
+        blocks,
+        calls,
+        operands,
+    )?;
+    Ok(HallLoaded {
+        count: first.catalogues,
+        limit: first.limit,
+        calls: count,
+        sizes,
+    })
 }
 
 // Loads a hall's file. The calls are four numbers each: the catalogue's number, the letter's byte and two numbers, which for N are where its own numbers
@@ -333,38 +299,35 @@ pub fn load_hall(
     lows: &mut [[u32; 1024]],
     calls: &mut [u32],
     operands: &mut [u32],
-) -> HallLoaded
+) -> Result<HallLoaded, Refused>
     requires { (2048 ≤ length calls.old) × (30000 ≤ length operands.old) × Whole (sets weights.old blocks.old aboves.old fixed.old loadedpins.old presentpins.old firsts.old loadedsizes.old presentsizes.old netweights.old lows.old) × Wide 0 (sets weights.old blocks.old aboves.old fixed.old loadedpins.old presentpins.old firsts.old loadedsizes.old presentsizes.old netweights.old lows.old) }
-    ensures { HallLoads s.now result.answer result.sizes (sets weights.old blocks.old aboves.old fixed.old loadedpins.old presentpins.old firsts.old loadedsizes.old presentsizes.old netweights.old lows.old) (sets weights.new blocks.new aboves.new fixed.new loadedpins.new presentpins.new firsts.new loadedsizes.new presentsizes.new netweights.new lows.new) calls.new operands.new }
+    ensures { HallLoads s.now result (sets weights.old blocks.old aboves.old fixed.old loadedpins.old presentpins.old firsts.old loadedsizes.old presentsizes.old netweights.old lows.old) (sets weights.new blocks.new aboves.new fixed.new loadedpins.new presentpins.new firsts.new loadedsizes.new presentsizes.new netweights.new lows.new) calls.new operands.new }
 {
     let len = s.len();
     if 60000 < len {
-        return refused(1, 0);
+        return Err(Refusal::FileTooLong.at(0));
     }
     let e = text::line_end(s, 0, len);
     if e == len {
-        return refused(2, 1);
+        return Err(Refusal::BadlyWritten.at(1));
     }
-    match hall_lines::hall_line(s, e) {
-        First::NoHall(q) => refused(q, 1),
-        First::Hall(count, limit) => after_head(
-            s,
-            e + 1,
-            count,
-            limit,
-            weights,
-            blocks,
-            aboves,
-            fixed,
-            loadedpins,
-            presentpins,
-            firsts,
-            loadedsizes,
-            presentsizes,
-            netweights,
-            lows,
-            calls,
-            operands,
-        ),
-    }
+    let first = hall_lines::hall_line(s, e).map_err(|q| q.at(1))?;
+    after_head(
+        s,
+        e + 1,
+        first,
+        weights,
+        blocks,
+        aboves,
+        fixed,
+        loadedpins,
+        presentpins,
+        firsts,
+        loadedsizes,
+        presentsizes,
+        netweights,
+        lows,
+        calls,
+        operands,
+    )
 }

@@ -14,8 +14,9 @@ use Rattle.model.specs.Convert.{carried}
 use Rattle.conversion.specs.Well.{edges-count}
 use Rattle.conversion.specs.Carries.{carried-parts}
 use Rattle.passes.specs.Rows.{rows_at, well_rows, RowsPassed}
-use Rattle.passes.specs.Read.{WeightsRead, edges_at}
+use Rattle.passes.specs.Read.{edges_at}
 use Rattle.passes.proofs.Rows.{all-well, rows_start, rows-done}
+use Rattle.hgr.specs.Number.{code_of}
 use Rattle.hgr.specs.Form.{Sound}
 use Rattle.hgr.specs.Check.{in_range, weights_from, Weighed, Within}
 use Rattle.hgr.specs.declared.Plan.{Plan}
@@ -40,24 +41,14 @@ pub ones-long : (table : List ℕ) → table ≡ replicate 1024 1 → length tab
 ones-long table q = ap length q ∙ length-replicate {A = ℕ} 1024 1
 
 module _ (c : ℕ) (s : List ℕ) (start n : ℕ) where
-  pub weigh-rows : (next : ℕ) (r : Bool) (table : List ℕ) → vertices_weighted c ≡ true → WeightsRead s start n next r table → Weighed c s start n next r table
-  weigh-rows next r table q x =
-      let e : weights_from c s start n ≡ map value (take n (rows_at s start)) = ap (λ (b : Bool). cond b (map value (take n (rows_at s start))) (replicate n 1)) q in
-      record {
-        len = x.len;
-        passed = subst (λ (b : Bool). RowsPassed is_number s start (cond b n 0) next) (sym q) x.passed;
-        says = λ l. x.says l ∙ ap (λ (l : List ℕ). all l (within 1 65535)) (sym e);
-        are = λ l few. x.are l few ∙ sym e;
-      }
-
   pub weigh-ones : (table : List ℕ) → vertices_weighted c ≡ false → 1 ≤ start → start ≤ length s → table ≡ replicate 1024 1 → Weighed c s start n start true table
   weigh-ones table q low high ones =
       let e : weights_from c s start n ≡ replicate n 1 = ap (λ (b : Bool). cond b (map value (take n (rows_at s start))) (replicate n 1)) q in
       record {
         len = ones-long table ones;
         passed = subst (λ (b : Bool). RowsPassed is_number s start (cond b n 0) start) (sym q) (rows-done is_number s start 0 start 0 (rows_start is_number s start 0 low high) (omega arith));
-        says = λ _. sym (ap (λ (l : List ℕ). all l (within 1 65535)) e ∙ ones_in n);
-        are = λ _ few. ap (take n) ones ∙ take_same n 1024 1 few ∙ sym e;
+        says = sym (ap (λ (l : List ℕ). all l (within 1 65535)) e ∙ ones_in n);
+        are = λ few. ap (take n) ones ∙ take_same n 1024 1 few ∙ sym e;
       }
 
 -- ---- the plan of a well-written input
@@ -81,7 +72,7 @@ module _ (s : List ℕ) (p : Plan) (sound : Sound s p) where
   unfolding said
   edges-long = length-map (edge_lines s) (edge_of (edges_weighted (code s))) ∙ edges-count s sound.well ∙ sym sound.edges-is
 
-  module _ (weighted : Bool) (we : weighted ≡ edges_weighted p.code) where
+  module _ (weighted : Bool) (we : weighted ≡ edges_weighted (code_of p.code)) where
     weighted-is : weighted ≡ edges_weighted (code s)
     weighted-is = we ∙ ap edges_weighted sound.code_is
 

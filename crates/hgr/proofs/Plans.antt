@@ -2,11 +2,10 @@
 -- conversion's Well.
 use Prim.Native.Nat.{ℕ, suc, ◌+◌, ◌-◌, ◌≤◌}
 use native.Mathlib.Omega.{arith}
-use native.Mathlib.Decide.{ℕ_discrete}
 use mathlib.Core.Path.{◌≡◌, refl, ap, ap₂, sym, ◌∙◌, subst}
 use mathlib.Core.Bool.{Bool, true, false, ◌&&◌, cond, true≢false}
 use mathlib.Core.List.{List, [], map}
-use borrow.Author.Tests.{eqb-true, eq-eqb, ne_eqb}
+use borrow.Author.Tests.{eqb-true, eq-eqb}
 use lib.Dec.{eqb, leb, ltb}
 use lib.ListN.{length, get_or, take, drop, replicate, length-drop, length-map}
 use Rattle.laws.specs.Fold.{sum_over, all}
@@ -14,69 +13,55 @@ use Rattle.laws.specs.Choice.{and_left, and_right}
 use Rattle.model.specs.Grammar.{is_number, value, within, at}
 use Rattle.guarantees.specs.Reading.{within-range}
 use Rattle.model.specs.CatalogueText.{buy_text}
-use Rattle.model.specs.Hmetis.{Sections, sections, is_header, code_in, words, Edge, is_edge, edge_of, edges_weighted, vertices_weighted, body, header, code, edge_count, vertex_count, weight_count, edge_lines, weight_lines, said}
+use Rattle.model.specs.Hmetis.{Sections, sections, is_header, code_in, words, Edge, is_edge, edge_of, edges_weighted, vertices_weighted, body, header, code, edge_count, vertex_count, weight_count, edge_lines, weight_lines, well_written, said}
 use Rattle.model.specs.Convert.{is_carried, carried, listed, net_of}
 use Rattle.conversion.specs.Well.{Well, well-not, edges-count}
-use Rattle.passes.specs.Rows.{lines_at, sections_at, rows_at, RowsPassed, PartPassed, list_count}
+use Rattle.passes.specs.Rows.{lines_at, sections_at, rows_at, well_rows, RowsPassed, NoPart, PartPassed}
 use Rattle.passes.specs.Read.{BlocksRead, edges_at, EdgesRead}
 use Rattle.passes.proofs.Rows.{well-all, all-well}
-use Rattle.hgr.specs.Form.{FirstRead, HeaderRead, Begun}
-use Rattle.hgr.specs.Check.{in_range, weights_from, Weighed, Checked, Planned}
-use Rattle.hgr.specs.declared.Plan.{Plan}
-
-pub checked-bad : (s : List ℕ) (well c l : Bool) (size : ℕ) (w d : List ℕ) → well ≡ false → (Well s → ⊥) → Checked s well c l size w d
-checked-bad s well c l size w d q n = record { bad = λ _. well-not s n; good = λ e. absurd (true≢false (sym e ∙ q)) }
-
--- a plan that says so is of an input that is badly written
-pub planned-bad : (s : List ℕ) (p : Plan) (w d : List ℕ) → p.well ≡ false → (Well s → ⊥) → Planned s p w d
-planned-bad s p w d q n = record { checked = checked-bad s p.well p.carried p.listed p.size w d q n; sound = λ e. absurd (true≢false (sym e ∙ q)) }
+use Rattle.hgr.specs.Number.{code_of}
+use Rattle.hgr.specs.Form.{FirstRead, NoHeader, HeaderRead, Begun}
+use Rattle.hgr.specs.Check.{in_range, weights_from, Weighed, Seen, Planned}
+use Rattle.hgr.specs.declared.Weighted.{Weighted}
 
 -- ---- the first line, then the header
 module _ (s : List ℕ) (a k t : ℕ) (first : FirstRead s a k t) where
-  body_at : 1 ≤ a → body s ≡ sections_at s a
+  body_at : body s ≡ sections_at s a
   unfolding body
-  body_at l = ap sections (sym (first.lines l))
+  body_at = ap sections (sym first.lines)
 
-  module _ (low : 1 ≤ a) (b c m n : ℕ) (head : HeaderRead s a b c m n) where
-    header_at : header s ≡ get_or (rows_at s a) 0 []
-    unfolding header
-    header_at = ap (λ (x : Sections). get_or x.graph 0 []) (body_at low)
+  header_at : header s ≡ get_or (rows_at s a) 0 []
+  unfolding header
+  header_at = ap (λ (x : Sections). get_or x.graph 0 []) body_at
 
-    pub no_header : b ≡ 0 → Well s → ⊥
-    no_header z w = head.bad z (ap (λ (x : Sections). x.found) (sym (body_at low)) ∙ w.found) (ap is_header (sym header_at) ∙ w.head)
+  pub no_header : NoHeader s a → well_written s ≡ false
+  no_header bad = well-not s (λ w. bad.none (ap (λ (x : Sections). x.found) (sym body_at) ∙ w.found) (ap is_header (sym header_at) ∙ w.head))
 
-    pub begun : 1 ≤ b → Begun s b c m n k t
-    unfolding code edge_count vertex_count
-    begun l =
-        let g = ap (λ (x : Sections). x.graph) (body_at low) ∙ head.rows l in
-        record {
-          low = l;
-          high = head.high;
-          ended = first.ended low;
-          first = first.first low;
-          head = ap is_header header_at ∙ head.head l;
-          blocks_is = first.blocks_is low;
-          imbalance-is = first.imbalance-is low;
-          code_is = head.code_is l ∙ ap code_in (sym header_at);
-          edges-is = head.edges-is l ∙ ap (λ (y : List ℕ). at (words y) 0) (sym header_at);
-          vertices-is = head.vertices-is l ∙ ap (λ (y : List ℕ). at (words y) 1) (sym header_at);
-          rows = sym (ap (drop 1) g);
-          count = ap length g;
-          found = head.found l ∙ ap (λ (x : Sections). x.found) (sym (body_at low));
-          listing = head.listing l ∙ ap (λ (x : Sections). x.listing) (sym (body_at low));
-        }
+  pub begun : (b c m n : ℕ) → HeaderRead s a b c m n → Begun s b c m n k t
+  unfolding code edge_count vertex_count
+  begun b c m n head =
+      let g = ap (λ (x : Sections). x.graph) body_at ∙ head.rows in
+      record {
+        low = head.low;
+        high = head.high;
+        ended = first.ended;
+        first = first.first;
+        head = ap is_header header_at ∙ head.head;
+        blocks_is = first.blocks_is;
+        imbalance-is = first.imbalance-is;
+        code_is = head.code_is ∙ ap code_in (sym header_at);
+        edges-is = head.edges-is ∙ ap (λ (y : List ℕ). at (words y) 0) (sym header_at);
+        vertices-is = head.vertices-is ∙ ap (λ (y : List ℕ). at (words y) 1) (sym header_at);
+        rows = sym (ap (drop 1) g);
+        count = ap length g;
+        found = head.found ∙ ap (λ (x : Sections). x.found) (sym body_at);
+        listing = head.listing ∙ ap (λ (x : Sections). x.listing) (sym body_at);
+      }
 
 -- ---- the rows behind the header
 range-few : (k t v m : ℕ) → in_range k t v m ≡ true → v ≤ 1024
 unfolding in_range
 range-few k t v m e = (within-range 1 1024 v (and_right (within 2 16 k && within 0 1000 t) _ (and_left _ _ e))).1
-
-eqb-next : (x v n : ℕ) → x ≡ suc n → eqb x (v + 1) ≡ eqb n v
-eqb-next x v n e = go (ℕ_discrete n v)
-  where
-    go : Dec (n ≡ v) → eqb x (v + 1) ≡ eqb n v
-    go (yes q) = eq-eqb x (v + 1) (omega arith) ∙ sym (eq-eqb n v q)
-    go (no m) = ne_eqb x (v + 1) (λ z. m (omega arith)) ∙ sym (ne_eqb n v m)
 
 module _ (s : List ℕ) (start c m v k t : ℕ) (begun : Begun s start c m v k t) where
   abbrev edge_form : List ℕ → Bool
@@ -88,38 +73,35 @@ module _ (s : List ℕ) (start c m v k t : ℕ) (begun : Begun s start c m v k t
   left-count : Well s → length left ≡ edge_count s + weight_count s
   left-count w = omega (arith, w.count, begun.count)
 
-  module _ (weighted : Bool) (we : weighted ≡ edges_weighted c) (known second : ℕ) (r : Bool) (pins size : ℕ) (edges : EdgesRead weighted s start m known second r pins size) where
+  module _ (weighted : Bool) (we : weighted ≡ edges_weighted c) where
     weighted-is : weighted ≡ edges_weighted (code s)
     weighted-is = we ∙ ap edges_weighted begun.code_is
 
-    edges-passed : RowsPassed edge_form s start (edge_count s) second
-    edges-passed = subst (λ (x : ℕ). RowsPassed edge_form s start x second) begun.edges-is (subst (λ (x : Bool). RowsPassed (is_edge x) s start m second) weighted-is edges.passed)
-
-    pub edges-bad : second ≡ 0 → Well s → ⊥
+    pub edges-bad : well_rows (is_edge weighted) m left ≡ false → well_written s ≡ false
     unfolding edge_lines
-    edges-bad z w = true≢false (sym (all-well edge_form (edge_count s) left (omega (arith, left-count w)) (ap (λ (ls : List (List ℕ)). all (take (edge_count s) ls) edge_form) begun.rows ∙ w.edges)) ∙ edges-passed.bad z)
+    edges-bad z = well-not s (λ w. true≢false (sym (all-well edge_form (edge_count s) left (omega (arith, left-count w)) (ap (λ (ls : List (List ℕ)). all (take (edge_count s) ls) edge_form) begun.rows ∙ w.edges)) ∙ sym (ap₂ (λ (x : Bool) (n : ℕ). well_rows (is_edge x) n left) weighted-is begun.edges-is) ∙ z))
 
-    edges-said : edges_at weighted s start m ≡ (said s).edges
-    unfolding said edge_lines
-    edges-said = ap₂ (λ (w : Bool) (ls : List (List ℕ)). map (edge_of w) ls) weighted-is (ap₂ take begun.edges-is begun.rows)
+    module _ (known second : ℕ) (r : Bool) (pins size : ℕ) (edges : EdgesRead weighted s start m known second r pins size) where
+      edges-passed : RowsPassed edge_form s start (edge_count s) second
+      edges-passed = subst (λ (x : ℕ). RowsPassed edge_form s start x second) begun.edges-is (subst (λ (x : Bool). RowsPassed (is_edge x) s start m second) weighted-is edges.passed)
 
-    module _ (low : 1 ≤ second) (last : ℕ) (heavy : Bool) (weights : List ℕ) (weighed : Weighed c s second v last heavy weights) where
+      edges-said : edges_at weighted s start m ≡ (said s).edges
+      unfolding said edge_lines
+      edges-said = ap₂ (λ (w : Bool) (ls : List (List ℕ)). map (edge_of w) ls) weighted-is (ap₂ take begun.edges-is begun.rows)
+
       rows_are : cond (vertices_weighted c) v 0 ≡ weight_count s
       unfolding weight_count
       rows_are = ap (λ (x : ℕ). cond (vertices_weighted x) v 0) begun.code_is ∙ ap (λ (x : ℕ). cond (vertices_weighted (code s)) x 0) begun.vertices-is
 
-      weights-passed : RowsPassed is_number s second (weight_count s) last
-      weights-passed = subst (λ (x : ℕ). RowsPassed is_number s second x last) rows_are weighed.passed
-
       second-rows : rows_at s second ≡ drop (edge_count s) (drop 1 (body s).graph)
-      second-rows = edges-passed.rest low ∙ ap (drop (edge_count s)) begun.rows
+      second-rows = edges-passed.rest ∙ ap (drop (edge_count s)) begun.rows
 
       second-count : length (rows_at s second) ≡ length left - edge_count s
-      second-count = ap length (edges-passed.rest low) ∙ length-drop (edge_count s) left
+      second-count = ap length edges-passed.rest ∙ length-drop (edge_count s) left
 
-      pub weights-bad : last ≡ 0 → Well s → ⊥
+      pub weights-bad : well_rows is_number (cond (vertices_weighted c) v 0) (rows_at s second) ≡ false → well_written s ≡ false
       unfolding weight_lines
-      weights-bad z w = true≢false (sym (all-well is_number (weight_count s) (rows_at s second) (omega (arith, left-count w, second-count)) (ap (λ (ls : List (List ℕ)). all (take (weight_count s) ls) is_number) second-rows ∙ w.weights)) ∙ weights-passed.bad z)
+      weights-bad z = well-not s (λ w. true≢false (sym (all-well is_number (weight_count s) (rows_at s second) (omega (arith, left-count w, second-count)) (ap (λ (ls : List (List ℕ)). all (take (weight_count s) ls) is_number) second-rows ∙ w.weights)) ∙ sym (ap (λ (n : ℕ). well_rows is_number n (rows_at s second)) rows_are) ∙ z))
 
       weights-said : weights_from c s second v ≡ (said s).weights
       unfolding said weight_lines weight_count
@@ -129,50 +111,47 @@ module _ (s : List ℕ) (start c m v k t : ℕ) (begun : Begun s start c m v k t
           go true q = ap₂ (λ (x : Bool) (ls : List (List ℕ)). map value (take (cond x (vertex_count s) 0) ls)) (sym q) second-rows
           go false q = refl
 
-      module _ (low2 : 1 ≤ last) (third : ℕ) (part : PartPassed s last third) where
+      module _ (last : ℕ) (heavy : Bool) (weights : List ℕ) (weighed : Weighed c s second v last heavy weights) where
+        weights-passed : RowsPassed is_number s second (weight_count s) last
+        weights-passed = subst (λ (x : ℕ). RowsPassed is_number s second x last) rows_are weighed.passed
+
         last-count : length (rows_at s last) ≡ length left - edge_count s - weight_count s
-        last-count = ap length (weights-passed.rest low2) ∙ length-drop (weight_count s) (rows_at s second) ∙ ap (λ (x : ℕ). x - weight_count s) second-count
+        last-count = ap length weights-passed.rest ∙ length-drop (weight_count s) (rows_at s second) ∙ ap (λ (x : ℕ). x - weight_count s) second-count
 
         found_at : (sections_at s last).found ≡ (body s).found
-        found_at = weights-passed.found low2 ∙ edges-passed.found low ∙ begun.found
+        found_at = weights-passed.found ∙ edges-passed.found ∙ begun.found
 
-        pub part-bad : third ≡ 0 → Well s → ⊥
-        part-bad z w = true≢false (sym (both (eq-eqb (length (rows_at s last)) 0 (omega (arith, left-count w, last-count))) (found_at ∙ w.found)) ∙ part.bad z)
+        pub part-bad : NoPart s last → well_written s ≡ false
+        part-bad bad = well-not s (λ w. true≢false (sym (both (eq-eqb (length (rows_at s last)) 0 (omega (arith, left-count w, last-count))) (found_at ∙ w.found)) ∙ bad.none))
           where
             both : {a b : Bool} → a ≡ true → b ≡ true → (a && b) ≡ true
             both p q = rw (p, q)
 
-        module _ (low3 : 1 ≤ third) (lines : ℕ) (named : Bool) (draft : List ℕ) (blocks : BlocksRead s third k lines named draft) where
+        module _ (third : ℕ) (part : PartPassed s last third) where
           listing-at : lines_at s third ≡ (body s).listing
-          listing-at = sym (part.listing low3) ∙ weights-passed.listing low2 ∙ edges-passed.listing low ∙ begun.listing
+          listing-at = sym part.listing ∙ weights-passed.listing ∙ edges-passed.listing ∙ begun.listing
 
-          pub lines-bad : lines ≡ 0 → Well s → ⊥
-          unfolding list_count
-          lines-bad z w = omega (arith, z, blocks.lines_are, ap (λ (ls : List (List ℕ)). list_count 1 ls) listing-at, ap (λ (b : Bool). cond b (1 + length (body s).listing) 0) w.listing)
+          pub lines-bad : all (lines_at s third) is_number ≡ false → well_written s ≡ false
+          lines-bad z = well-not s (λ w. true≢false (sym w.listing ∙ ap (λ (ls : List (List ℕ)). all ls is_number) (sym listing-at) ∙ z))
 
-          module _ (some : 1 ≤ lines) where
-            counted : (all (body s).listing is_number ≡ true) × (lines ≡ suc (length (body s).listing))
-            unfolding list_count
-            counted = go (all (body s).listing is_number) refl (blocks.lines_are ∙ ap (list_count 1) listing-at)
-              where
-                go : (b : Bool) → all (body s).listing is_number ≡ b → lines ≡ cond b (1 + length (body s).listing) 0 → (b ≡ true) × (lines ≡ suc (length (body s).listing))
-                go true q e = (refl, omega arith)
-                go false q e = absurd (omega arith)
+          module _ (lines : ℕ) (named : Bool) (draft : List ℕ) (blocks : BlocksRead s third k lines named draft) where
+            counted : lines ≡ length (body s).listing
+            counted = blocks.lines_are ∙ ap length listing-at
 
             rows-well : Well s
             unfolding edge_lines weight_lines
             rows-well =
-                let e = well-all edge_form (edge_count s) left (edges-passed.well low) in
-                let w = well-all is_number (weight_count s) (rows_at s second) (weights-passed.well low2) in
+                let e = well-all edge_form (edge_count s) left edges-passed.well in
+                let w = well-all is_number (weight_count s) (rows_at s second) weights-passed.well in
                 record {
                   ended = begun.ended;
                   first = begun.first;
-                  found = sym found_at ∙ part.found low3;
+                  found = sym found_at ∙ part.found;
                   head = begun.head;
-                  count = omega (arith, begun.count, e.0, w.0, second-count, last-count, ap length (part.none low3));
+                  count = omega (arith, begun.count, e.0, w.0, second-count, last-count, ap length part.none);
                   edges = ap (λ (ls : List (List ℕ)). all (take (edge_count s) ls) edge_form) (sym begun.rows) ∙ e.1;
                   weights = ap (λ (ls : List (List ℕ)). all (take (weight_count s) ls) is_number) (sym second-rows) ∙ w.1;
-                  listing = counted.0;
+                  listing = ap (λ (ls : List (List ℕ)). all ls is_number) (sym listing-at) ∙ blocks.well;
                 }
 
             -- what the flags say
@@ -189,55 +168,52 @@ module _ (s : List ℕ) (start c m v k t : ℕ) (begun : Begun s start c m v k t
               carries-is = go ranges refl
                 where
                   marks : leb pins 8192 ≡ leb (sum_over (said s).edges (λ e. length e.pins)) 8192
-                  marks = ap (λ (n : ℕ). leb n 8192) (edges.pins-are low ∙ ap (λ (es : List Edge). sum_over es (λ e. length e.pins)) edges-said)
+                  marks = ap (λ (n : ℕ). leb n 8192) (edges.pins-are ∙ ap (λ (es : List Edge). sum_over es (λ e. length e.pins)) edges-said)
 
                   heavy-is : heavy ≡ all (said s).weights (within 1 65535)
-                  heavy-is = weighed.says low2 ∙ ap (λ (l : List ℕ). all l (within 1 65535)) weights-said
+                  heavy-is = weighed.says ∙ ap (λ (l : List ℕ). all l (within 1 65535)) weights-said
 
                   go : (b : Bool) → ranges ≡ b → (b && r && leb pins 8192 && heavy) ≡ carried (said s)
                   go false q = carried-is false (all (said s).edges (is_carried v)) _ _ (sym q ∙ range) refl marks heavy-is
                   go true q =
                       carried-is true r _ _ (sym q ∙ range)
-                      (edges.says low ∙ ap₂ (λ (es : List Edge) (n : ℕ). all es (is_carried n)) edges-said (same (range-few k t v m (sym range ∙ q)))) marks heavy-is
+                      (edges.says ∙ ap₂ (λ (es : List Edge) (n : ℕ). all es (is_carried n)) edges-said (same (range-few k t v m (sym range ∙ q)))) marks heavy-is
 
-              lists-is : (eqb lines (v + 1) && named) ≡ listed (said s)
+              lists-is : (eqb lines v && named) ≡ listed (said s)
               unfolding listed said
               lists-is = ap₂ (λ (x y : Bool). x && y)
-                  (eqb-next lines v (length (body s).listing) counted.1 ∙ ap₂ eqb (sym (length-map (body s).listing value)) begun.vertices-is)
-                  (blocks.says some ∙ ap₂ (λ (ls : List (List ℕ)) (n : ℕ). all (map value ls) (λ b. ltb b n)) listing-at begun.blocks_is)
+                  (ap₂ eqb (counted ∙ sym (length-map (body s).listing value)) begun.vertices-is)
+                  (blocks.says ∙ ap₂ (λ (ls : List (List ℕ)) (n : ℕ). all (map value ls) (λ b. ltb b n)) listing-at begun.blocks_is)
 
               weights-in : (said s).vertices ≤ 1024 → take (said s).vertices weights ≡ (said s).weights
               unfolding said
-              weights-in few = ap (λ (n : ℕ). take n weights) (sym begun.vertices-is) ∙ weighed.are low2 (omega (arith, begun.vertices-is)) ∙ weights-said
+              weights-in few = ap (λ (n : ℕ). take n weights) (sym begun.vertices-is) ∙ weighed.are (omega (arith, begun.vertices-is)) ∙ weights-said
 
-              draft-in : named ≡ true → lines ≡ v + 1 → (said s).blocks ≤ 16 → (said s).vertices ≤ 1024 → take (said s).vertices draft ≡ map suc (said s).listing
+              draft-in : named ≡ true → lines ≡ v → (said s).blocks ≤ 16 → (said s).vertices ≤ 1024 → take (said s).vertices draft ≡ map suc (said s).listing
               unfolding said
               draft-in good long fits few =
-                  let n : length (lines_at s third) ≡ vertex_count s = omega (arith, ap length listing-at, counted.1, begun.vertices-is) in
-                  ap (λ (x : ℕ). take x draft) (sym n) ∙ blocks.are some good (omega (arith, begun.blocks_is)) (omega arith) ∙ ap (λ (ls : List (List ℕ)). map suc (map value ls)) listing-at
+                  let n : length (lines_at s third) ≡ vertex_count s = omega (arith, blocks.lines_are, begun.vertices-is) in
+                  ap (λ (x : ℕ). take x draft) (sym n) ∙ blocks.are good (omega (arith, begun.blocks_is)) (omega arith) ∙ ap (λ (ls : List (List ℕ)). map suc (map value ls)) listing-at
 
-              pub rows-checked : (carries : Bool) → carries ≡ (ranges && r && leb pins 8192 && heavy) → (lists : Bool) → lists ≡ (eqb lines (v + 1) && named) → Checked s true carries lists size weights draft
+              pub rows-checked : (carries : Bool) → carries ≡ (ranges && r && leb pins 8192 && heavy) → (lists : Bool) → lists ≡ (eqb lines v && named) → Seen s carries lists size weights draft
               rows-checked carries ce lists le = record {
-                bad = λ q. absurd (true≢false q);
-                good = λ _. record {
-                  well = rows-well;
-                  carried-is = ce ∙ carries-is;
-                  listed-is = le ∙ lists-is;
-                  size_is = edges.size_is low ∙ ap (λ (es : List Edge). length (buy_text (map net_of es))) edges-said;
-                  small = edges.small;
-                  weights-len = weighed.len;
-                  draft-len = blocks.len;
-                  weights-are = weights-in;
-                  draft-is = λ good fits few. draft-in (and_right (eqb lines (v + 1)) named (sym le ∙ good)) (eqb-true lines (v + 1) (and_left (eqb lines (v + 1)) named (sym le ∙ good))) fits few;
-                };
+                well = rows-well;
+                carried-is = ce ∙ carries-is;
+                listed-is = le ∙ lists-is;
+                size_is = edges.size_is ∙ ap (λ (es : List Edge). length (buy_text (map net_of es))) edges-said;
+                small = edges.small;
+                weights-len = weighed.len;
+                draft-len = blocks.len;
+                weights-are = weights-in;
+                draft-is = λ good fits few. draft-in (and_right (eqb lines v) named (sym le ∙ good)) (eqb-true lines v (and_left (eqb lines v) named (sym le ∙ good))) fits few;
               }
 
 -- the plan of an input whose rows are checked
-pub planned : (s : List ℕ) (b c m v k t : ℕ) → Begun s b c m v k t → (well carries lists : Bool) (size : ℕ) (w d : List ℕ) → Checked s well carries lists size w d → Planned s (record { well = well; carried = carries; listed = lists; size = size; blocks = k; imbalance = t; edges = m; vertices = v; code = c; first = b }) w d
-planned s b c m v k t begun well carries lists size w d checked = record {
-  checked = checked;
-  sound = λ q. record {
-    well = (checked.good q).well;
+pub planned : (s : List ℕ) (b m v k t : ℕ) (c : Weighted) → Begun s b (code_of c) m v k t → (carries lists : Bool) (size : ℕ) (w d : List ℕ) → Seen s carries lists size w d → Planned s (record { carried = carries; listed = lists; size = size; blocks = k; imbalance = t; edges = m; vertices = v; code = c; first = b }) w d
+planned s b m v k t c begun carries lists size w d seen = record {
+  seen = seen;
+  sound = record {
+    well = seen.well;
     blocks_is = begun.blocks_is;
     imbalance-is = begun.imbalance-is;
     edges-is = begun.edges-is;

@@ -28,8 +28,11 @@ use Rattle.model.specs.Convert.{carried, listed, net_of, catalogue_of, fits, ref
 use Rattle.conversion.specs.Well.{vertices-are}
 use Rattle.conversion.specs.Loads.{loads-as}
 use Rattle.passes.specs.Read.{edges_at}
+use Rattle.hgr.specs.Number.{number_of, code_of}
+use Rattle.hgr.specs.declared.Refusal.{Refusal}
+use Rattle.hgr.specs.declared.Refusal.TheVariants.{OutputTooShort, BadlyWritten, NotCarried, BadListing}
 use Rattle.hgr.specs.Form.{Sound}
-use Rattle.hgr.specs.Check.{Seen, Within, verdict, Tabled, Judged, sale_row}
+use Rattle.hgr.specs.Check.{Seen, Within, verdict, Tabled, sale_row}
 use Rattle.hgr.specs.declared.Plan.{Plan}
 use Rattle.hgr.proofs.Checks.{blocks-said, vertices-said, edges-long, edges-said, carried-within}
 
@@ -95,8 +98,8 @@ module _ (s : List ℕ) (p : Plan) (sound : Sound s p) where
 
   -- ---- the verdict, test by test
   module _ (w d : List ℕ) (seen : Seen s p.carried p.listed p.size w d) where
-    pub judged-carried : p.carried ≡ false → Judged s p 18 w d
-    judged-carried q = record { says = sym (verdict-is s false _ _ (sym seen.carried-is ∙ q) refl refl); tables = λ z. absurd (omega arith) }
+    pub judged-carried : p.carried ≡ false → 18 ≡ verdict s
+    judged-carried q = sym (verdict-is s false _ _ (sym seen.carried-is ∙ q) refl refl)
 
     module _ (yes : p.carried ≡ true) where
       pub within : Within p
@@ -105,8 +108,8 @@ module _ (s : List ℕ) (p : Plan) (sound : Sound s p) where
       pub weights-in : take p.vertices w ≡ f.weights
       weights-in = let v = vertices-said s p sound in ap (λ (n : ℕ). take n w) v ∙ seen.weights-are (omega (arith, v, within.vertices-high))
 
-      pub judged-listed : p.listed ≡ false → Judged s p 19 w d
-      judged-listed q = record { says = sym (verdict-is s true false _ (sym seen.carried-is ∙ yes) (sym seen.listed-is ∙ q) refl); tables = λ z. absurd (omega arith) }
+      pub judged-listed : p.listed ≡ false → 19 ≡ verdict s
+      judged-listed q = sym (verdict-is s true false _ (sym seen.carried-is ∙ yes) (sym seen.listed-is ∙ q) refl)
 
       module _ (good : p.listed ≡ true) where
         pub draft-in : take p.vertices d ≡ map suc f.listing
@@ -122,24 +125,24 @@ module _ (s : List ℕ) (p : Plan) (sound : Sound s p) where
           says : (b c : Bool) → leb (length (catalogue_text (catalogue_of f))) 60000 ≡ b → (not o && b) ≡ c → verdict s ≡ cond (not c) 18 0
           says b c q e = verdict-is s true true c (sym seen.carried-is ∙ yes) (sym seen.listed-is ∙ good) (fits-is (catalogue_of f) o b over-is q ∙ e)
 
-          pub judged-full : o ≡ true → Judged s p 18 w d
-          judged-full q = record { says = sym (says _ false refl (ap (λ (b : Bool). not b && leb (length (catalogue_text (catalogue_of f))) 60000) q)); tables = λ z. absurd (omega arith) }
+          pub judged-full : o ≡ true → 18 ≡ verdict s
+          judged-full q = sym (says _ false refl (ap (λ (b : Bool). not b && leb (length (catalogue_text (catalogue_of f))) 60000) q))
 
           module _ (free : o ≡ false) (n : ℕ) (long : n ≡ length (sale_row p) + length (lots w d weights-in draft-in) + p.size) where
             length-is : n ≡ length (catalogue_text (catalogue_of f))
             length-is = long ∙ ap (λ (k : ℕ). length (sale_row p) + length (lots w d weights-in draft-in) + k) seen.size_is ∙ sym (text-length w d weights-in draft-in)
 
-            pub judged-long : 60000 < n → Judged s p 18 w d
-            judged-long q = record { says = sym (says false false (lt-leb (length (catalogue_text (catalogue_of f))) 60000 (omega (arith, length-is))) (and-false (not o))); tables = λ z. absurd (omega arith) }
+            pub judged-long : 60000 < n → 18 ≡ verdict s
+            judged-long q = sym (says false false (lt-leb (length (catalogue_text (catalogue_of f))) 60000 (omega (arith, length-is))) (and-false (not o)))
 
-            pub judged-good : n ≤ 60000 → Judged s p 0 w d
-            judged-good q = record {
-              says = sym (says true true (le-leb (length (catalogue_text (catalogue_of f))) 60000 (omega (arith, length-is))) (ap (λ (b : Bool). not b && true) free));
-              tables = λ _. record { few = within.vertices-high; weights-len = seen.weights-len; draft-len = seen.draft-len; weights-are = weights-in; draft-is = draft-in };
-            }
+            pub judged-good : n ≤ 60000 → (verdict s ≡ 0) × Tabled s p w d
+            judged-good q = (
+              says true true (le-leb (length (catalogue_text (catalogue_of f))) 60000 (omega (arith, length-is))) (ap (λ (b : Bool). not b && true) free),
+              record { few = within.vertices-high; weights-len = seen.weights-len; draft-len = seen.draft-len; weights-are = weights-in; draft-is = draft-in },
+            )
 
 -- ---- the text written
-module _ (s : List ℕ) (p : Plan) (sound : Sound s p) (w d : List ℕ) (tabled : Tabled s p w d) (weighted : Bool) (we : weighted ≡ edges_weighted p.code) (out : List ℕ) (room : length (catalogue_text (catalogue_of (said s))) ≤ length out) where
+module _ (s : List ℕ) (p : Plan) (sound : Sound s p) (w d : List ℕ) (tabled : Tabled s p w d) (weighted : Bool) (we : weighted ≡ edges_weighted (code_of p.code)) (out : List ℕ) (room : length (catalogue_text (catalogue_of (said s))) ≤ length out) where
   abbrev whole : List ℕ
   whole = catalogue_text (catalogue_of (said s))
 
@@ -221,11 +224,21 @@ module _ (s old new : List ℕ) (n : ℕ) where
     loads = λ _. loads-as s e;
   }
 
-pub converts-short : (s old : List ℕ) → length old < 60000 → Converts s old old 8 0
-converts-short s old l = record { short = λ _. record { code_is = refl; nothing = refl; kept = refl }; long = λ h. absurd (omega arith) }
-
 pub converts-long : (s old new : List ℕ) (r n : ℕ) → 60000 ≤ length old → Answered s old new r n → Converts s old new r n
 converts-long s old new r n l a = record { short = λ h. absurd (omega arith); long = λ _. a }
+
+-- a refusal's number has two digits at most
+pub numbers-small : (r : Refusal) → number_of r < 100
+numbers-small OutputTooShort = omega arith
+numbers-small BadlyWritten = omega arith
+numbers-small NotCarried = omega arith
+numbers-small BadListing = omega arith
+
+pub numbers-some : (r : Refusal) → 1 ≤ number_of r
+numbers-some OutputTooShort = omega arith
+numbers-some BadlyWritten = omega arith
+numbers-some NotCarried = omega arith
+numbers-some BadListing = omega arith
 
 -- a refusal's line is short
 no_length : (q : ℕ) → length (row "NO" (digits q ∷ [])) ≡ 4 + length (digits q)
@@ -235,17 +248,7 @@ no_length q = omega (arith, length-append (digits q) (10 ∷ []))
 pub no_room : (q n : ℕ) → q < 100 → 60000 ≤ n → length (row "NO" (digits q ∷ [])) ≤ n
 no_room q n l h = omega (arith, no_length q, digits_le 1 q l)
 
--- a verdict is a number of two digits, and of a well-written text that fits
-pub verdict-small : (s : List ℕ) → verdict s < 100
-unfolding verdict
-verdict-small s = go (not (carried (said s))) (not (listed (said s))) (not (fits (catalogue_of (said s))))
-  where
-    go : (a b c : Bool) → cond a 18 (cond b 19 (cond c 18 0)) < 100
-    go true b c = omega arith
-    go false true c = omega arith
-    go false false true = omega arith
-    go false false false = omega arith
-
+-- a verdict of 0 is of a text that fits
 pub verdict-fits : (s : List ℕ) → verdict s ≡ 0 → length (catalogue_text (catalogue_of (said s))) ≤ 60000
 unfolding verdict fits
 verdict-fits s e =

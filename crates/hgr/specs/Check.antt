@@ -1,10 +1,10 @@
 -- What is carried over, the tables that hold it, and its text. Rests on Form and on Convert. Assumes nothing.
-use Rattle.std.specs.Prelude.{ℕ, suc, ◌≤◌, ◌≡◌, Bool, true, false, not, ◌&&◌, cond, List, [], ◌∷◌, map, leb, length, take, replicate}
+use Rattle.std.specs.Prelude.{ℕ, suc, ◌≤◌, ◌≡◌, Bool, true, not, ◌&&◌, cond, List, [], ◌∷◌, map, leb, length, take, replicate}
 use Rattle.laws.specs.Fold.{all}
 use Rattle.model.specs.Grammar.{is_number, value, within}
 use Rattle.model.specs.Report.{row}
 use Rattle.model.specs.CatalogueText.{numbers, buy_text}
-use Rattle.model.specs.Hmetis.{vertices_weighted, well_written, said}
+use Rattle.model.specs.Hmetis.{vertices_weighted, said}
 use Rattle.model.specs.Convert.{carried, listed, net_of, catalogue_of, fits}
 use Rattle.conversion.specs.Well.{Well}
 use Rattle.passes.specs.Rows.{rows_at, RowsPassed}
@@ -23,8 +23,8 @@ weights_from code s at n = cond (vertices_weighted code) (map value (take n (row
 pub record Weighed (code : ℕ) (s : List ℕ) (at n next : ℕ) (r : Bool) (table : List ℕ) : Type 0 where
   pub len : length table ≡ 1024
   pub passed : RowsPassed is_number s at (cond (vertices_weighted code) n 0) next
-  pub says : 1 ≤ next → r ≡ all (weights_from code s at n) (within 1 65535)
-  pub are : 1 ≤ next → n ≤ 1024 → take n table ≡ weights_from code s at n
+  pub says : r ≡ all (weights_from code s at n) (within 1 65535)
+  pub are : n ≤ 1024 → take n table ≡ weights_from code s at n
 
 -- what a pass over a well-written input has kept: whether it can be carried over (18), whether its listing is one of its blocks (19), the
 -- length of its buyers' lines, and two tables, which have its vertices' weights and blocks where they have a place for each
@@ -39,13 +39,9 @@ pub record Seen (s : List ℕ) (carries lists : Bool) (size : ℕ) (weights draf
   pub weights-are : (said s).vertices ≤ 1024 → take (said s).vertices weights ≡ (said s).weights
   pub draft-is : lists ≡ true → (said s).blocks ≤ 16 → (said s).vertices ≤ 1024 → take (said s).vertices draft ≡ map suc (said s).listing
 
-pub record Checked (s : List ℕ) (well carries lists : Bool) (size : ℕ) (weights draft : List ℕ) : Type 0 where
-  pub bad : well ≡ false → well_written s ≡ false
-  pub good : well ≡ true → Seen s carries lists size weights draft
-
 pub record Planned (s : List ℕ) (p : Plan) (weights draft : List ℕ) : Type 0 where
-  pub checked : Checked s p.well p.carried p.listed p.size weights draft
-  pub sound : p.well ≡ true → Sound s p
+  pub seen : Seen s p.carried p.listed p.size weights draft
+  pub sound : Sound s p
 
 -- the ranges of an input that is carried over
 pub record Within (p : Plan) : Type 0 where
@@ -65,14 +61,6 @@ pub record Tabled (s : List ℕ) (p : Plan) (weights draft : List ℕ) : Type 0 
   pub draft-len : length draft ≡ 1024
   pub weights-are : take p.vertices weights ≡ (said s).weights
   pub draft-is : take p.vertices draft ≡ map suc (said s).listing
-
-pub record Judged (s : List ℕ) (p : Plan) (r : ℕ) (weights draft : List ℕ) : Type 0 where
-  pub says : r ≡ verdict s
-  pub tables : r ≡ 0 → Tabled s p weights draft
-
--- of whatever well-written input the plan is
-pub record Judges (p : Plan) (weights draft : List ℕ) (r : ℕ) : Type 0 where
-  pub judged : (s : List ℕ) → Sound s p → Seen s p.carried p.listed p.size weights draft → Judged s p r weights draft
 
 -- the first line of the catalogue
 abbrev pub sale_row : Plan → List ℕ

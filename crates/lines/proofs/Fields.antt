@@ -10,10 +10,14 @@ use borrow.Author.Tests.{eq-eqb, ne_eqb}
 use Rattle.laws.specs.Fold.{all}
 use Rattle.model.specs.Catalogue.{Limits, Hypergraph, vertices}
 use Rattle.model.specs.Grammar.{Fields, parts, is_number, value, Marking, marked, wrong, mark, marking}
-use Rattle.text.specs.Field.{NumberRead, counted}
+use Rattle.text.specs.Field.{NumberRead, NumberSeen, counted}
 use Rattle.lines.specs.Line.{Past}
 use Rattle.lines.specs.Mark.{Stamped, Fresh, mark_seen, MarkOne, refusal_of, tested, MarksRead}
-use Rattle.lines.specs.declared.Pinned.TheVariants.{Good, Wrong}
+use Rattle.std.specs.Prelude.{None, Ok, Err}
+use Rattle.refusal.specs.declared.Refusal.{Refusal}
+use Rattle.refusal.specs.declared.Refusal.TheVariants.{BadlyWritten}
+use Rattle.refusal.specs.Number.{number_of}
+use Rattle.refusal.proofs.Numbers.{never-none}
 use Rattle.text.proofs.Lines.{parts-on, parts_last, parts_first, field_end, field_found}
 use Rattle.lines.proofs.Stamps.{stamped-start}
 
@@ -104,11 +108,10 @@ marks-start s at end lots most j first marks stamps low le ll fl wide slen fresh
   says = λ limits h is e. ap (λ (l : List ℕ). tested limits h (marked l first) (parts 44 (slice at end s))) (sym (slice_empty first marks));
 }
 
--- where `read_number` answered v and e
-module _ (s : List ℕ) (at end lots most j first : ℕ) (marks₀ marks stamps : List ℕ) (i m : ℕ) (on : OnMarks s at end lots most j first marks₀ marks stamps i m) (within : end ≤ length s)
-    (e v : ℕ) (read : NumberRead s i end v e) where
-  pub marks-bad : e ≡ i → MarksRead (parts 44 (slice at end s)) lots most j first (Wrong 2) marks₀ marks stamps
-  marks-bad z = record {
+module _ (s : List ℕ) (at end lots most j first : ℕ) (marks₀ marks stamps : List ℕ) (i m : ℕ) (on : OnMarks s at end lots most j first marks₀ marks stamps i m) (within : end ≤ length s) where
+  -- where `read_number` answered none
+  pub marks-bad : NumberSeen s i end None → MarksRead (parts 44 (slice at end s)) lots most j first (Err BadlyWritten) marks₀ marks stamps
+  marks-bad none = record {
     keep = on.keep;
     past = λ k y. absurd (let w : ◌≡◌ {A = ℕ} 0 1 = cc in omega arith);
     len = on.len;
@@ -118,12 +121,12 @@ module _ (s : List ℕ) (at end lots most j first : ℕ) (marks₀ marks stamps 
         let found = field_found s i end on.high within in
         let p = parts_first s i end 44 f on.high within found in
         let m₁ = marked (slice first m marks) m in
-        sym (on.says limits h is q ∙ ap (tested limits h m₁) p.1 ∙ tested-no limits h m₁ (slice i f s) p.0 (read.ends.none z f found));
+        sym (on.says limits h is q ∙ ap (tested limits h m₁) p.1 ∙ tested-no limits h m₁ (slice i f s) p.0 (none f found));
     next = λ k y. absurd (let w : ◌≡◌ {A = ℕ} 0 1 = cc in omega arith);
   }
 
-  -- the field is a number, and `put_pin` answered r
-  module _ (some : i < e) (r : ℕ) (marks' stamps' : List ℕ) (one : MarkOne v lots most j m r marks stamps marks' stamps') where
+  -- where it answered v and e, and `put_pin` answered r
+  module _ (e v : ℕ) (read : NumberRead s i end v e) (some : i < e) (r : ℕ) (marks' stamps' : List ℕ) (one : MarkOne v lots most j m r marks stamps marks' stamps') where
     kept : take first marks' ≡ take first marks₀
     kept = sym (take-take first m marks' on.st.f-le) ∙ ap (take first) one.keep ∙ take-take first m marks on.st.f-le ∙ on.keep
 
@@ -131,8 +134,8 @@ module _ (s : List ℕ) (at end lots most j first : ℕ) (marks₀ marks stamps 
     taken : (limits : Limits) (h : Hypergraph) → limits.pin_limit ≡ most → vertices h ≡ lots → mark limits h (marked (slice first m marks) m) (value (slice i e s)) ≡ mark_seen r first m marks'
     taken limits h is q = ap (mark limits h (marked (slice first m marks) m)) (sym (read.is some)) ∙ one.says limits h first is q on.st
 
-    pub marks-stop : (r ≡ 0 → ⊥) → (t : ℕ) → t ≡ refusal_of r (parts 44 (slice i end s)) → MarksRead (parts 44 (slice at end s)) lots most j first (Wrong t) marks₀ marks' stamps'
-    marks-stop n t told = record {
+    pub marks-stop : (a : Refusal) → r ≡ number_of a → (t : Refusal) → number_of t ≡ refusal_of (number_of a) (parts 44 (slice i end s)) → MarksRead (parts 44 (slice at end s)) lots most j first (Err t) marks₀ marks' stamps'
+    marks-stop a is-a t told = record {
       keep = kept;
       past = λ k z. absurd (let w : ◌≡◌ {A = ℕ} 0 1 = cc in omega arith);
       len = one.len ∙ on.len;
@@ -142,9 +145,9 @@ module _ (s : List ℕ) (at end lots most j first : ℕ) (marks₀ marks stamps 
           let m₁ = marked (slice first m marks) m in
           let stops : marking limits h m₁ (parts 44 (slice i end s)) ≡ wrong r =
           ap (marking limits h m₁) p.1 ∙ marking-cons limits h m₁ (slice i e s) p.0
-          ∙ ap (λ (x : Marking). marking limits h x p.0) (taken limits h is q ∙ ap (λ (b : Bool). cond b (marked (slice first (m + 1) marks') (m + 1)) (wrong r)) (ne_eqb r 0 n))
+          ∙ ap (λ (x : Marking). marking limits h x p.0) (taken limits h is q ∙ ap (λ (b : Bool). cond b (marked (slice first (m + 1) marks') (m + 1)) (wrong r)) (ne_eqb r 0 (λ z. never-none a (sym is-a ∙ z))))
           ∙ wrong_stays limits h r p.0 in
-          ap wrong told ∙ sym (on.says limits h is q ∙ tested-wrong limits h m₁ r (parts 44 (slice i end s)) stops);
+          ap wrong (told ∙ ap (λ (x : ℕ). refusal_of x (parts 44 (slice i end s))) (sym is-a)) ∙ sym (on.says limits h is q ∙ tested-wrong limits h m₁ r (parts 44 (slice i end s)) stops);
       next = λ k z. absurd (let w : ◌≡◌ {A = ℕ} 0 1 = cc in omega arith);
     }
 
@@ -157,7 +160,7 @@ module _ (s : List ℕ) (at end lots most j first : ℕ) (marks₀ marks stamps 
           ∙ tested-on limits h (marked (slice first m marks) m) (slice i e s) ps (read.ends.is some)
           ∙ ap (λ (x : Marking). tested limits h x ps) (taken limits h is q ∙ ap (λ (b : Bool). cond b (marked (slice first (m + 1) marks') (m + 1)) (wrong r)) (eq-eqb r 0 good))
 
-      pub marks-last : e ≡ end → MarksRead (parts 44 (slice at end s)) lots most j first (Good (m + 1)) marks₀ marks' stamps'
+      pub marks-last : e ≡ end → MarksRead (parts 44 (slice at end s)) lots most j first (Ok (m + 1)) marks₀ marks' stamps'
       marks-last x = record {
         keep = kept;
         past = λ k z y u. let w : m + 1 ≡ k = cc in one.past y (omega arith) ∙ on.past y (omega arith);

@@ -14,7 +14,11 @@ use Rattle.model.specs.Grammar.{Fields, Book, Reading, stopped, at as field_at, 
 use Rattle.text.specs.Field.{form_of, Kept}
 use Rattle.text.proofs.Lines.{kept_at, line-yes, line-no}
 use Rattle.lines.specs.Line.{book, FieldsEnd, numbers_of, bales_refusal, session_refusal, first_of, LotRead}
-use Rattle.lines.specs.declared.Lot.TheVariants.{Of, NoLot}
+use Rattle.std.specs.Prelude.{Ok, Err}
+use Rattle.refusal.specs.declared.Refusal.{Refusal}
+use Rattle.refusal.specs.declared.Refusal.TheVariants.{BadlyWritten}
+use Rattle.refusal.specs.Number.{number_of}
+use Rattle.refusal.proofs.Numbers.{never-none}
 use Rattle.lines.proofs.Asks.{word-LOT}
 
 -- ---- the refusal of a lot's bales
@@ -72,16 +76,19 @@ module _ (n : ℕ) (k : Book) (fixed : Bool) (fs : Fields) (estimated : Bool) (k
       (tried-first (within 1 65535 (field_at fs 1) && within 1 65535 (field_at fs (many - 1))) (ltb (field_at fs (many - 1)) (field_at fs 1)) (is_block k.graph (field_at fs many)) n (taken n k fixed (field_at fs 1) (field_at fs (many - 1)) (field_at fs many)))
 
 -- the session of a lot that is not refused
-pub lot-block : (low high b blocks q : ℕ) → q ≡ first_of (bales_refusal low high) (session_refusal b blocks) → q ≡ 0 → b ≤ blocks
-lot-block low high b blocks q eq x = leb-true b blocks (and_right (leb 1 b) _ (second (bales_refusal low high) (within 1 blocks b) (sym eq ∙ x)))
+pub lot-block : (b blocks : ℕ) → ◌≡◌ {A = ℕ} 0 (session_refusal b blocks) → b ≤ blocks
+lot-block b blocks e = leb-true b blocks (and_right (leb 1 b) _ (go (within 1 blocks b) e))
   where
-    second : (r : ℕ) (t : Bool) → first_of r (cond t 0 3) ≡ 0 → t ≡ true
-    second r true e = refl
-    second r false e = go (eqb r 0) refl e
-      where
-        go : (u : Bool) → eqb r 0 ≡ u → cond u 3 r ≡ 0 → false ≡ true
-        go true p e = absurd (omega arith)
-        go false p e = sym p ∙ eq-eqb r 0 e
+    go : (t : Bool) → ◌≡◌ {A = ℕ} 0 (cond t 0 3) → t ≡ true
+    go true z = refl
+    go false z = absurd (omega arith)
+
+-- the refusal of the first check, and of the second behind a first that passes
+pub first-refused : (one other : ℕ) (r : Refusal) → one ≡ number_of r → first_of one other ≡ number_of r
+first-refused one other r e = ap (λ (t : Bool). cond t other one) (ne_eqb one 0 (λ z. never-none r (sym e ∙ z))) ∙ e
+
+pub second-refused : (one other : ℕ) → one ≡ 0 → first_of one other ≡ other
+second-refused one other e = ap (λ (t : Bool). cond t other one) (eq-eqb one 0 e)
 
 -- ---- where the fields end at `last`, and the form is told
 pub numbers-low : (estimated : Bool) → 2 ≤ numbers_of estimated
@@ -99,22 +106,40 @@ module _ (s : List ℕ) (at end last numbers form blocks : ℕ) (estimated : Boo
   by_end : (n : ℕ) (k : Book) (r : Reading) → r ≡ lot_line n k (ltb last end) fs → r ≡ lot_line n k (ends_in_k (slice at end s)) (fields (before_k (slice at end s)))
   by_end n k r e = e ∙ ap (λ (t : Bool). lot_line n k t fs) ends.fixed ∙ ap (λ (l : List ℕ). lot_line n k (ends_in_k (slice at end s)) (fields l)) ends.before
 
-  pub lot-form : (form ≡ numbers + 1 → ⊥) → LotRead blocks estimated (slice at end s) (NoLot 2)
+  pub lot-form : (form ≡ numbers + 1 → ⊥) → LotRead blocks estimated (slice at end s) (Err BadlyWritten)
   lot-form other n k kind eb = by_end n k _ (sym (line-is n k (ltb last end) fs estimated kind false (line-no "LOT" (76 ∷ 79 ∷ 84 ∷ []) (numbers_of estimated) form (slice at last s) word-LOT told (λ e. other (omega arith)))))
 
   module _ (right : form ≡ numbers + 1) where
-    pub lot-value : (values : List ℕ) → Kept (drop 1 fs) form values → (i j : ℕ) → i ≡ j + 1 → i ≤ numbers → get_or values j 0 ≡ field_at fs i
-    lot-value values kept i j e u =
-        let z : j ≡ i - 1 = omega arith in
-        ap (λ (m : ℕ). get_or values m 0) z ∙ kept_at fs form values kept i (omega arith) (omega arith) (omega (arith, numbers-high estimated))
+    module _ (values : List ℕ) (kept : Kept (drop 1 fs) form values) where
+      value : (i j : ℕ) → i ≡ j + 1 → i ≤ numbers → get_or values j 0 ≡ field_at fs i
+      value i j e u =
+          let z : j ≡ i - 1 = omega arith in
+          ap (λ (m : ℕ). get_or values m 0) z ∙ kept_at fs form values kept i (omega arith) (omega arith) (omega (arith, numbers-high estimated))
 
-    module _ (low high b q : ℕ) (el : low ≡ field_at fs 1) (eh : high ≡ field_at fs (numbers_of estimated - 1)) (eb : b ≡ field_at fs numbers) (eq : q ≡ first_of (bales_refusal low high) (session_refusal b blocks)) where
-      says : (n : ℕ) (k : Book) → k.estimated ≡ estimated → k.graph.blocks ≡ blocks → lot_line n k (ltb last end) fs ≡ cond (eqb q 0) (taken n k (ltb last end) low high b) (stopped q n)
+      abbrev low : ℕ
+      low = get_or values 0 0
+
+      abbrev high : ℕ
+      high = get_or values (numbers - 2) 0
+
+      abbrev block : ℕ
+      block = get_or values (numbers - 1) 0
+
+      abbrev refusal : ℕ
+      refusal = first_of (bales_refusal low high) (session_refusal block blocks)
+
+      says : (n : ℕ) (k : Book) → k.estimated ≡ estimated → k.graph.blocks ≡ blocks → lot_line n k (ltb last end) fs ≡ cond (eqb refusal 0) (taken n k (ltb last end) low high block) (stopped refusal n)
       says n k kind em =
-          line-says n k (ltb last end) fs estimated kind low high b blocks q (line-yes "LOT" (76 ∷ 79 ∷ 84 ∷ []) (numbers_of estimated) form (slice at last s) word-LOT told (omega arith)) el eh (eb ∙ ap (field_at fs) many) em eq
+          let two = numbers-low estimated in
+          line-says n k (ltb last end) fs estimated kind low high block blocks refusal (line-yes "LOT" (76 ∷ 79 ∷ 84 ∷ []) (numbers_of estimated) form (slice at last s) word-LOT told (omega arith))
+          (value 1 0 (omega arith) (omega arith))
+          (value (numbers - 1) (numbers - 2) (omega arith) (omega arith) ∙ ap (λ (m : ℕ). field_at fs (m - 1)) many)
+          (value numbers (numbers - 1) (omega arith) (omega arith) ∙ ap (field_at fs) many)
+          em refl
 
-      pub lot-refused : (q ≡ 0 → ⊥) → LotRead blocks estimated (slice at end s) (NoLot q)
-      lot-refused x n k kind em = by_end n k _ (sym (says n k kind em ∙ ap (λ (t : Bool). cond t (taken n k (ltb last end) low high b) (stopped q n)) (ne_eqb q 0 x)))
+      pub lot-refused : (r : Refusal) → refusal ≡ number_of r → LotRead blocks estimated (slice at end s) (Err r)
+      lot-refused r x n k kind em =
+          by_end n k _ (ap (λ (y : ℕ). stopped y n) (sym x) ∙ sym (says n k kind em ∙ ap (λ (t : Bool). cond t (taken n k (ltb last end) low high block) (stopped refusal n)) (ne_eqb refusal 0 (λ z. never-none r (sym x ∙ z)))))
 
-      pub lot-read : q ≡ 0 → LotRead blocks estimated (slice at end s) (Of low high b (ltb last end))
-      lot-read x n k kind em = by_end n k _ (sym (says n k kind em ∙ ap (λ (t : Bool). cond t (taken n k (ltb last end) low high b) (stopped q n)) (eq-eqb q 0 x)))
+      pub lot-read : refusal ≡ 0 → LotRead blocks estimated (slice at end s) (Ok (record { low = low; high = high; block = block; fixed = ltb last end }))
+      lot-read x n k kind em = by_end n k _ (sym (says n k kind em ∙ ap (λ (t : Bool). cond t (taken n k (ltb last end) low high block) (stopped refusal n)) (eq-eqb refusal 0 x)))

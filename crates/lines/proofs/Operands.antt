@@ -1,10 +1,9 @@
 -- N's numbers, field by field, and a call line of any kind. Rests on Fields and on Late of specs.
 use Prim.Native.Nat.{ℕ, suc, ◌+◌, ◌-◌, ◌*◌, ◌≤◌, ◌<◌}
-use mathlib.Core.Path.{◌≡◌, refl, ap, sym, ◌∙◌}
+use mathlib.Core.Path.{◌≡◌, refl, ap, sym, subst, ◌∙◌}
 use mathlib.Core.List.{List, [], ◌∷◌, ◌++◌, append-nil}
 use mathlib.Core.Bool.{Bool, true, false, ◌&&◌, cond}
 use native.Mathlib.Omega.{arith}
-use native.Mathlib.Decide.{ℕ_discrete}
 use lib.ListN.{length, take, drop, set, length-set}
 use lib.Seq.{slice, slice_empty, take-set-le, append_snoc}
 use lib.Dec.{leb}
@@ -13,12 +12,13 @@ use Rattle.laws.specs.Fold.{all}
 use Rattle.model.specs.Sale.{call_n}
 use Rattle.model.specs.Grammar.{Fields, bytes, same, parts, fields, at, is_line, is_number, value, values, nothing, asked, late_of, call_of}
 use Rattle.model.specs.ListEntry.{is_entry}
-use Rattle.text.specs.Field.{FirstAt, NumberRead}
+use Rattle.text.specs.Field.{FirstAt, NumberRead, NumberSeen}
 use Rattle.text.proofs.Walk.{slice_is}
 use Rattle.text.proofs.Lines.{parts-on, parts_last, parts_first, field_end, field_found}
 use Rattle.lines.specs.Line.{Named, is_late, late_asked}
-use Rattle.lines.specs.Late.{OperandsRead, LateRead, CallRead}
-use Rattle.lines.specs.declared.Ask.TheVariants.{Asks, Nothing}
+use Rattle.lines.specs.Late.{Operands, operands_seen, OperandsRead, Late, late_seen, LateRead, CallRead}
+use Rattle.lines.specs.declared.Short.{Short}
+use Rattle.std.specs.Prelude.{Option, Some, None}
 use Rattle.lines.proofs.Fields.{all_yes, all-no}
 use Rattle.lines.proofs.Stamps.{slice-more}
 
@@ -59,23 +59,21 @@ operands-start s at end first operands low le wide = record {
   count = refl;
 }
 
--- where `read_number` answered v and e
-module _ (s : List ℕ) (at end first : ℕ) (operands₀ operands : List ℕ) (i m : ℕ) (on : OnOperands s at end first operands₀ operands i m) (within : end ≤ length s)
-    (e v : ℕ) (read : NumberRead s i end v e) where
-  pub operands-bad : e ≡ i → OperandsRead (parts 44 (slice at end s)) first end 0 operands₀ operands
-  operands-bad z =
+module _ (s : List ℕ) (at end first : ℕ) (operands₀ operands : List ℕ) (i m : ℕ) (on : OnOperands s at end first operands₀ operands i m) (within : end ≤ length s) where
+  -- where `read_number` answered none
+  pub operands-bad : NumberSeen s i end None → OperandsRead (parts 44 (slice at end s)) first end None operands₀ operands
+  operands-bad none =
       let f = field_end s i end in
       let found = field_found s i end on.high within in
       let p = parts_first s i end 44 f on.high within found in
       record {
         keep = on.keep;
         len = on.len;
-        bad = λ u. on.form ∙ ap (λ (ps : Fields). all ps is_number) p.1 ∙ all-no (slice i f s) p.0 (read.ends.none z f found);
-        good = λ u. absurd (omega arith);
+        says = on.form ∙ ap (λ (ps : Fields). all ps is_number) p.1 ∙ all-no (slice i f s) p.0 (none f found);
       }
 
-  -- the field is a number
-  module _ (some : i < e) where
+  -- where it answered v and e
+  module _ (e v : ℕ) (read : NumberRead s i end v e) (some : i < e) where
     abbrev put : List ℕ
     put = set operands m v
 
@@ -101,14 +99,13 @@ module _ (s : List ℕ) (at end first : ℕ) (operands₀ operands : List ℕ) (
       count_turn : first + length (parts 44 (slice at end s)) ≡ m + 1 + length ps
       count_turn = omega (arith, on.count, ap length p)
 
-    pub operands-last : e ≡ end → OperandsRead (parts 44 (slice at end s)) first end (m + 1) operands₀ put
+    pub operands-last : e ≡ end → OperandsRead (parts 44 (slice at end s)) first end (Some (m + 1)) operands₀ put
     operands-last x =
         let p = parts_last s i end 44 e on.high within (read.ends.ends some) x in
         record {
           keep = kept;
           len = length-set operands m v ∙ on.len;
-          bad = λ z. absurd (omega arith);
-          good = λ z. record {
+          says = record {
             form = form-turn [] p ∙ all_nil;
             is = sym (is-turn [] p ∙ ap (λ (l : List ℕ). slice first (m + 1) put ++ l) values-nil ∙ append-nil (slice first (m + 1) put));
             count = omega (arith, count_turn [] p);
@@ -163,19 +160,19 @@ module _ (s : List ℕ) (at₀ end first a : ℕ) (operands : List ℕ) (le : at
   abbrev fs : Fields
   fs = fields (slice at₀ end s)
 
-  none : is_late fs ≡ false → LateRead fs first end 0 operands operands
-  none e = record { keep = refl; len = refl; bad = λ z. e; good = λ z. absurd (omega arith) }
+  none : is_late fs ≡ false → LateRead fs first end None operands operands
+  none e = record { keep = refl; len = refl; says = e }
 
-  pub late-other : same (slice at₀ a s) (bytes "N") ≡ false → LateRead fs first end 0 operands operands
+  pub late-other : same (slice at₀ a s) (bytes "N") ≡ false → LateRead fs first end None operands operands
   unfolding fields
   late-other e = let p = parts_first s at₀ end 44 a le inside found in none (ap is_late p.1 ∙ late_of_lem (slice at₀ a s) p.0 false _ e refl)
 
-  pub late-none : a ≡ end → LateRead fs first end 0 operands operands
+  pub late-none : a ≡ end → LateRead fs first end None operands operands
   unfolding fields
   late-none z = none (ap is_late (parts_last s at₀ end 44 a le inside found z) ∙ too_short (slice at₀ a s) [] (omega arith))
 
-  -- where `read_operands` answered m
-  module _ (more : a < end) (m : ℕ) (operands' : List ℕ) (read : OperandsRead (parts 44 (slice (a + 1) end s)) first end m operands operands') where
+  -- where `read_operands` answered r
+  module _ (more : a < end) (r : Option ℕ) (operands' : List ℕ) (read : OperandsRead (parts 44 (slice (a + 1) end s)) first end r operands operands') where
     abbrev ps : Fields
     ps = parts 44 (slice (a + 1) end s)
 
@@ -183,52 +180,63 @@ module _ (s : List ℕ) (at₀ end first a : ℕ) (operands : List ℕ) (le : at
     unfolding fields
     split = parts-on s at₀ end 44 a le inside found more
 
-    pub late-bad : m < first + 2 → LateRead fs first end 0 operands operands'
-    late-bad u = record { keep = read.keep; len = read.len; bad = λ z. ap is_late split ∙ go (ℕ_discrete m 0); good = λ z. absurd (omega arith) }
-      where
-        go : Dec (m ≡ 0) → is_late (slice at₀ a s ∷ ps) ≡ false
-        go (yes z) = no_number (slice at₀ a s) ps (read.bad z)
-        go (no n) = too_short (slice at₀ a s) ps (omega (arith, (read.good (omega arith)).count))
+    pub late-bad : r ≡ None → LateRead fs first end None operands operands'
+    late-bad is = record {
+      keep = read.keep;
+      len = read.len;
+      says = ap is_late split ∙ no_number (slice at₀ a s) ps (subst (λ (o : Option ℕ). operands_seen ps first end o operands') is read.says);
+    }
 
-    pub late-here : same (slice at₀ a s) (bytes "N") ≡ true → first + 2 ≤ m → LateRead fs first end m operands operands'
-    late-here word u =
-        let g = read.good (omega arith) in
-        let two : 2 ≤ length ps = omega (arith, g.count) in
-        let z : first + (m - first) ≡ m = omega arith in
-        record {
-          keep = read.keep;
-          len = read.len;
-          bad = λ z. absurd (omega arith);
-          good = λ q. record {
-            form = ap is_late split ∙ late_of_lem (slice at₀ a s) ps true true word g.form ∙ le-leb 3 (suc (length ps)) (omega arith);
-            is = ap late_of (sym (slice_is first (m - first) operands') ∙ ap (λ (x : ℕ). slice first x operands') z ∙ g.is) ∙ late-values (slice at₀ a s) ps two ∙ ap late_asked (sym split);
-            two = u;
-            room = g.room;
-          };
-        }
+    module _ (m : ℕ) (is : r ≡ Some m) where
+      got : Operands ps first end m operands'
+      got = subst (λ (o : Option ℕ). operands_seen ps first end o operands') is read.says
+
+      pub late-few : m < first + 2 → LateRead fs first end None operands operands'
+      late-few u = record { keep = read.keep; len = read.len; says = ap is_late split ∙ too_short (slice at₀ a s) ps (omega (arith, got.count)) }
+
+      pub late-here : same (slice at₀ a s) (bytes "N") ≡ true → first + 2 ≤ m → LateRead fs first end (Some m) operands operands'
+      late-here word u =
+          let two : 2 ≤ length ps = omega (arith, got.count) in
+          let z : first + (m - first) ≡ m = omega arith in
+          record {
+            keep = read.keep;
+            len = read.len;
+            says = record {
+              form = ap is_late split ∙ late_of_lem (slice at₀ a s) ps true true word got.form ∙ le-leb 3 (suc (length ps)) (omega arith);
+              is = ap late_of (sym (slice_is first (m - first) operands') ∙ ap (λ (x : ℕ). slice first x operands') z ∙ got.is) ∙ late-values (slice at₀ a s) ps two ∙ ap late_asked (sym split);
+              two = u;
+              room = got.room;
+            };
+          }
 
 -- ---- a call line
 module _ (fs : Fields) (end used : ℕ) (operands : List ℕ) (room : 2 * used ≤ end) where
-  pub called-short : (k a b : ℕ) → Named fs k a b → CallRead fs end used (Asks k a b used) operands operands
-  called-short k a b x = record { keep = refl; len = refl; says = record { call = x.call; is = x.is operands; says = x.says; entry = x.entry used; more = omega arith; room = room } }
+  pub called-short : (c : Short) → Named fs c.letter c.first c.second → CallRead fs end used (Some (record { letter = c.letter; first = c.first; second = c.second; used = used })) operands operands
+  called-short c x = record { keep = refl; len = refl; says = record { call = x.call; is = x.is operands; says = x.says; entry = x.entry used; more = omega arith; room = room } }
 
-  module _ (other : asked fs ≡ cond (is_late fs) (late_asked fs) nothing) (m : ℕ) (operands' : List ℕ) (read : LateRead fs used end m operands operands') where
-    pub called-none : m ≡ 0 → CallRead fs end used Nothing operands operands'
-    called-none z = record { keep = read.keep; len = read.len; says = sym (other ∙ ap (λ (t : Bool). cond t (late_asked fs) nothing) (read.bad z)) }
+  module _ (other : asked fs ≡ cond (is_late fs) (late_asked fs) nothing) (r : Option ℕ) (operands' : List ℕ) (read : LateRead fs used end r operands operands') where
+    pub called-none : r ≡ None → CallRead fs end used None operands operands'
+    called-none is = record {
+      keep = read.keep;
+      len = read.len;
+      says = sym (other ∙ ap (λ (t : Bool). cond t (late_asked fs) nothing) (subst (λ (o : Option ℕ). late_seen fs used end o operands') is read.says));
+    }
 
-    pub called-late : (m ≡ 0 → ⊥) → CallRead fs end used (Asks 78 used (m - used) m) operands operands'
-    unfolding call_of is_entry
-    called-late n =
-        let g = read.good (omega arith) in
-        record {
-          keep = read.keep;
-          len = read.len;
-          says = record {
-            call = call_n (at fs 1) (at fs 2) (values (drop 3 fs));
-            is = g.is;
-            says = other ∙ ap (λ (t : Bool). cond t (late_asked fs) nothing) g.form;
-            entry = ap (λ (t : Bool). t && leb (used + (m - used)) m) (le-leb 2 (m - used) (omega (arith, g.two))) ∙ le-leb (used + (m - used)) m (omega (arith, g.two));
-            more = omega (arith, g.two);
-            room = g.room;
-          };
-        }
+    module _ (m : ℕ) (is : r ≡ Some m) where
+      pub late : Late fs used end m operands'
+      late = subst (λ (o : Option ℕ). late_seen fs used end o operands') is read.says
+
+      pub called-late : CallRead fs end used (Some (record { letter = 78; first = used; second = m - used; used = m })) operands operands'
+      unfolding call_of is_entry
+      called-late = record {
+        keep = read.keep;
+        len = read.len;
+        says = record {
+          call = call_n (at fs 1) (at fs 2) (values (drop 3 fs));
+          is = late.is;
+          says = other ∙ ap (λ (t : Bool). cond t (late_asked fs) nothing) late.form;
+          entry = ap (λ (t : Bool). t && leb (used + (m - used)) m) (le-leb 2 (m - used) (omega (arith, late.two))) ∙ le-leb (used + (m - used)) m (omega (arith, late.two));
+          more = omega (arith, late.two);
+          room = late.room;
+        };
+      }

@@ -1,6 +1,6 @@
 -- What the first line announces, and the ranges of its numbers. Rests on Line of specs.
 use Prim.Native.Nat.{ℕ}
-use mathlib.Core.Path.{◌≡◌, ap, sym, ◌∙◌}
+use mathlib.Core.Path.{◌≡◌, ap, sym, subst, ◌∙◌}
 use mathlib.Core.Bool.{Bool, true, false, ◌||◌, or-true}
 use mathlib.Core.List.{List, [], ◌∷◌}
 use native.Mathlib.Omega.{arith}
@@ -10,7 +10,9 @@ use Rattle.guarantees.specs.Reading.{within-range}
 use Rattle.text.specs.Field.{form_of}
 use Rattle.text.proofs.Lines.{numbered, line-yes, line-no}
 use Rattle.lines.specs.Line.{Announces, InRange}
-use Rattle.lines.specs.declared.Head.TheVariants.{Sale, NoSale}
+use Rattle.std.specs.Prelude.{Result, Ok, Err}
+use Rattle.refusal.specs.declared.Refusal.{Refusal}
+use Rattle.lines.specs.declared.Head.{Head}
 use Rattle.lines.proofs.Asks.{word-SALE, word-EST}
 
 -- the forms of the line x with the words EST and SALE
@@ -27,17 +29,18 @@ module _ (x : List ℕ) (est : ℕ) (is : est ≡ form_of (69 ∷ 83 ∷ 84 ∷ 
     numbered = λ i l u. numbered (83 ∷ 65 ∷ 76 ∷ 69 ∷ []) (fields x) 4 i (sym that ∙ e) l u;
   }
 
-pub no-sale : {q l b k t : ℕ} {e : Bool} → NoSale q ≡ Sale l b k t e → ⊥
+pub no-sale : {q : Refusal} {a : Head} → ◌≡◌ {A = Result Head Refusal} (Err q) (Ok a) → ⊥
 no-sale e = let z : ◌≡◌ {A = ℕ} 0 1 = cc in omega arith
 
-pub sale-ranges : (limits : Limits) {x y z u l b k t : ℕ} {est est' : Bool} → Sale x y z u est ≡ Sale l b k t est' → within 1 limits.vertex_limit x ≡ true → within 0 limits.net_limit y ≡ true → within 2 limits.block_limit z ≡ true → within 0 1000 u ≡ true → InRange limits l b k t
-sale-ranges limits {x} {y} {z} {u} {l} {b} {k} {t} e p q r w =
-    let e1 : x ≡ l = cc in
-    let e2 : y ≡ b = cc in
-    let e3 : z ≡ k = cc in
-    let e4 : u ≡ t = cc in
-    let p1 = within-range 1 limits.vertex_limit x p in
-    let q1 = within-range 0 limits.net_limit y q in
-    let r1 = within-range 2 limits.block_limit z r in
-    let w1 = within-range 0 1000 u w in
-    record { l-low = omega arith; l-high = omega arith; b-high = omega arith; k-low = omega arith; k-high = omega arith; t-high = omega arith }
+abbrev head_or : Head → Result Head Refusal → Head
+head_or a (Ok b) = b
+head_or a (Err e) = a
+
+pub sale-ranges : (limits : Limits) (a : Head) {b : Head} → ◌≡◌ {A = Result Head Refusal} (Ok a) (Ok b) → within 1 limits.vertex_limit a.vertices ≡ true → within 0 limits.net_limit a.nets ≡ true → within 2 limits.block_limit a.blocks ≡ true → within 0 1000 a.imbalance ≡ true → InRange limits b.vertices b.nets b.blocks b.imbalance
+sale-ranges limits a e p q r w =
+    let p1 = within-range 1 limits.vertex_limit a.vertices p in
+    let q1 = within-range 0 limits.net_limit a.nets q in
+    let r1 = within-range 2 limits.block_limit a.blocks r in
+    let w1 = within-range 0 1000 a.imbalance w in
+    let range : InRange limits a.vertices a.nets a.blocks a.imbalance = record { l-low = omega arith; l-high = omega arith; b-high = omega arith; k-low = omega arith; k-high = omega arith; t-high = omega arith } in
+    subst (λ (h : Head). InRange limits h.vertices h.nets h.blocks h.imbalance) (ap (head_or a) e) range

@@ -1,5 +1,5 @@
 -- The numbers of an N line in the table of operands, and a call line of any kind. Rests on Line. Assumes nothing.
-use Rattle.std.specs.Prelude.{ℕ, ◌+◌, ◌-◌, ◌*◌, ◌≤◌, ◌<◌, ◌≡◌, true, false, List, length, take}
+use Rattle.std.specs.Prelude.{ℕ, ◌+◌, ◌-◌, ◌*◌, ◌≤◌, ◌≡◌, true, false, List, length, take, Option, Some, None}
 use Rattle.std.proofs.Math.Seq.{slice}
 use Rattle.laws.specs.Fold.{all}
 use Rattle.model.specs.Sale.{Request}
@@ -7,7 +7,6 @@ use Rattle.model.specs.Grammar.{Fields, is_number, values, asks, nothing, asked,
 use Rattle.model.specs.ListEntry.{is_entry}
 use Rattle.lines.specs.Line.{is_late, late_asked}
 use Rattle.lines.specs.declared.Ask.{Ask}
-use Rattle.lines.specs.declared.Ask.TheVariants.{Asks, Nothing}
 
 -- fields that end at the byte `end` are numbers, and stand in the operands from `first` to r
 pub record Operands (fs : Fields) (first end r : ℕ) (operands : List ℕ) : Type 0 where
@@ -16,12 +15,15 @@ pub record Operands (fs : Fields) (first end r : ℕ) (operands : List ℕ) : Ty
   pub count : r ≡ first + length fs
   pub room : 2 * r ≤ end
 
--- r is 0 where a field is no number; operands before `first` are kept
-pub record OperandsRead (fs : Fields) (first end r : ℕ) (operands operands' : List ℕ) : Type 0 where
+-- where the operands end, if each field is a number; operands before `first` are kept
+abbrev pub operands_seen : Fields → ℕ → ℕ → Option ℕ → List ℕ → Type 0
+operands_seen fs first end (Some r) operands = Operands fs first end r operands
+operands_seen fs first end None operands = all fs is_number ≡ false
+
+pub record OperandsRead (fs : Fields) (first end : ℕ) (r : Option ℕ) (operands operands' : List ℕ) : Type 0 where
   pub keep : take first operands' ≡ take first operands
   pub len : length operands' ≡ length operands
-  pub bad : r ≡ 0 → all fs is_number ≡ false
-  pub good : 0 < r → Operands fs first end r operands'
+  pub says : operands_seen fs first end r operands'
 
 -- the same of an N line: bales, session and buyers
 pub record Late (fs : Fields) (first end r : ℕ) (operands : List ℕ) : Type 0 where
@@ -30,12 +32,15 @@ pub record Late (fs : Fields) (first end r : ℕ) (operands : List ℕ) : Type 0
   pub two : first + 2 ≤ r
   pub room : 2 * r ≤ end
 
--- r is 0 where the line is no N line
-pub record LateRead (fs : Fields) (first end r : ℕ) (operands operands' : List ℕ) : Type 0 where
+-- where the operands end, if the line is an N line
+abbrev pub late_seen : Fields → ℕ → ℕ → Option ℕ → List ℕ → Type 0
+late_seen fs first end (Some r) operands = Late fs first end r operands
+late_seen fs first end None operands = is_late fs ≡ false
+
+pub record LateRead (fs : Fields) (first end : ℕ) (r : Option ℕ) (operands operands' : List ℕ) : Type 0 where
   pub keep : take first operands' ≡ take first operands
   pub len : length operands' ≡ length operands
-  pub bad : r ≡ 0 → is_late fs ≡ false
-  pub good : 0 < r → Late fs first end r operands'
+  pub says : late_seen fs first end r operands'
 
 -- three numbers and the operands stand for a line's call, which has no use for operands from n on; two bytes for each of the n
 pub record Asking (fs : Fields) (end used k a b n : ℕ) (operands : List ℕ) : Type 0 where
@@ -46,12 +51,12 @@ pub record Asking (fs : Fields) (end used k a b n : ℕ) (operands : List ℕ) :
   pub more : used ≤ n
   pub room : 2 * n ≤ end
 
-abbrev pub answered : Fields → ℕ → ℕ → Ask → List ℕ → Type 0
-answered fs end used (Asks k a b n) operands = Asking fs end used k a b n operands
-answered fs end used Nothing operands = nothing ≡ asked fs
+abbrev pub answered : Fields → ℕ → ℕ → Option Ask → List ℕ → Type 0
+answered fs end used (Some c) operands = Asking fs end used c.letter c.first c.second c.used operands
+answered fs end used None operands = nothing ≡ asked fs
 
 -- a call line; the operands in use are kept, and those behind them may change whatever the line is
-pub record CallRead (fs : Fields) (end used : ℕ) (r : Ask) (operands operands' : List ℕ) : Type 0 where
+pub record CallRead (fs : Fields) (end used : ℕ) (r : Option Ask) (operands operands' : List ℕ) : Type 0 where
   pub keep : take used operands' ≡ take used operands
   pub len : length operands' ≡ length operands
   pub says : answered fs end used r operands'

@@ -1,5 +1,5 @@
 -- What the functions for the first line, a lot line and a call line other than N answer. Rests on model's grammar. Assumes nothing.
-use Rattle.std.specs.Prelude.{ℕ, ◌≤◌, ◌≡◌, Bool, true, cond, not, ◌&&◌, ◌||◌, List, [], eqb, leb, ltb, length, get_or, drop}
+use Rattle.std.specs.Prelude.{ℕ, ◌≤◌, ◌≡◌, Bool, true, cond, not, ◌&&◌, ◌||◌, List, [], eqb, leb, ltb, length, get_or, drop, Option, Some, None, Result, Ok, Err}
 use Rattle.std.proofs.Math.Seq.{slice}
 use Rattle.model.specs.Catalogue.{Limits, Hypergraph}
 use Rattle.model.specs.Sale.{Request, call_n}
@@ -9,11 +9,10 @@ use Rattle.text.specs.Field.{Numbered}
 use Rattle.guarantees.specs.Ranges.{Few}
 use Rattle.lines.specs.declared.Limits.{Limits as Given}
 use Rattle.lines.specs.declared.Short.{Short}
-use Rattle.lines.specs.declared.Short.TheVariants.{Calls, Other}
 use Rattle.lines.specs.declared.Head.{Head}
-use Rattle.lines.specs.declared.Head.TheVariants.{Sale, NoSale}
 use Rattle.lines.specs.declared.Lot.{Lot}
-use Rattle.lines.specs.declared.Lot.TheVariants.{Of, NoLot}
+use Rattle.refusal.specs.declared.Refusal.{Refusal}
+use Rattle.refusal.specs.Number.{number_of}
 
 -- a book by its parts
 abbrev pub book : Bool → ℕ → ℕ → Hypergraph → ℕ → List Request → Book
@@ -48,9 +47,12 @@ abbrev pub late_asked : Fields → Asked
 late_asked fs = asks (call_n (at fs 1) (at fs 2) (values (drop 3 fs)))
 
 -- a call line with a fixed number of fields; any other is an N line or none
-abbrev pub ShortRead : Fields → Short → Type 0
-ShortRead fs (Calls k a b) = Named fs k a b
-ShortRead fs Other = asked fs ≡ cond (is_late fs) (late_asked fs) nothing
+abbrev pub short_of : ℕ → ℕ → ℕ → Short
+short_of k a b = record { letter = k; first = a; second = b }
+
+abbrev pub ShortRead : Fields → Option Short → Type 0
+ShortRead fs (Some c) = Named fs c.letter c.first c.second
+ShortRead fs None = asked fs ≡ cond (is_late fs) (late_asked fs) nothing
 
 -- ---- the first line
 -- it announces a sale or an estimate, and its four numbers are there
@@ -68,13 +70,13 @@ pub record InRange (limits : Limits) (l b k t : ℕ) : Type 0 where
   pub k-high : k ≤ limits.block_limit
   pub t-high : t ≤ 1000
 
-abbrev pub opened : ℕ → Head → Reading
-opened n (Sale lots buyers blocks imbalance estimated) = reading (book estimated lots buyers (record { blocks = blocks; imbalance = imbalance; total_weight = 0; lows = []; weights = []; draft = []; fixed = []; nets = [] }) 0 [])
-opened n (NoSale q) = stopped q n
+abbrev pub opened : ℕ → Result Head Refusal → Reading
+opened n (Ok a) = reading (book a.estimated a.vertices a.nets (record { blocks = a.blocks; imbalance = a.imbalance; total_weight = 0; lows = []; weights = []; draft = []; fixed = []; nets = [] }) 0 [])
+opened n (Err e) = stopped (number_of e) n
 
-pub record SaleRead (limits : Limits) (fs : Fields) (r : Head) : Type 0 where
+pub record SaleRead (limits : Limits) (fs : Fields) (r : Result Head Refusal) : Type 0 where
   pub says : (n : ℕ) → opened n r ≡ sale_line limits n fs
-  pub ranges : (l b k t : ℕ) (estimated : Bool) → r ≡ Sale l b k t estimated → InRange limits l b k t
+  pub ranges : (a : Head) → r ≡ Ok a → InRange limits a.vertices a.nets a.blocks a.imbalance
 
 -- ---- the lots
 -- r is where the fields of a line that may end in `,K` end
@@ -99,9 +101,9 @@ abbrev pub first_of : ℕ → ℕ → ℕ
 first_of one other = cond (eqb one 0) other one
 
 -- a lot line, after a book
-abbrev pub lotted : ℕ → Book → Lot → Reading
-lotted n k (Of low high b fixed) = grown n (book k.estimated k.lots k.buyers (with_lot k.graph low high b fixed) k.marks [])
-lotted n k (NoLot q) = stopped q n
+abbrev pub lotted : ℕ → Book → Result Lot Refusal → Reading
+lotted n k (Ok a) = grown n (book k.estimated k.lots k.buyers (with_lot k.graph a.low a.high a.block a.fixed) k.marks [])
+lotted n k (Err e) = stopped (number_of e) n
 
-abbrev pub LotRead : ℕ → Bool → List ℕ → Lot → Type 0
+abbrev pub LotRead : ℕ → Bool → List ℕ → Result Lot Refusal → Type 0
 LotRead blocks estimated l r = (n : ℕ) (k : Book) → k.estimated ≡ estimated → k.graph.blocks ≡ blocks → lotted n k r ≡ lot_line n k (ends_in_k l) (fields (before_k l))

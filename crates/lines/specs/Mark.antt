@@ -1,14 +1,14 @@
 -- The marks of one buyer, the stamps that tell which lots it has marked, and a buyer's line. Rests on Line. Assumes nothing.
-use Rattle.std.specs.Prelude.{ℕ, ◌+◌, ◌-◌, ◌≤◌, ◌<◌, ◌≡◌, Bool, false, ◌&&◌, cond, List, [], eqb, leb, length, get_or, take, drop}
+use Rattle.std.specs.Prelude.{ℕ, ◌+◌, ◌-◌, ◌≤◌, ◌<◌, ◌≡◌, Bool, false, ◌&&◌, cond, List, [], eqb, leb, length, get_or, take, drop, Option, Some, None, Result, Ok, Err}
 use Rattle.std.proofs.Math.Seq.{slice}
 use Rattle.laws.specs.Fold.{all, any}
 use Rattle.model.specs.Catalogue.{Limits, Hypergraph, vertices}
 use Rattle.model.specs.Grammar.{Fields, parts, fields, at as field_at, is_number, is_line, Book, Reading, stopped, Marking, marked, wrong, mark, marking, net_read, buy_line}
 use Rattle.lines.specs.Line.{Past}
-use Rattle.lines.specs.declared.Pinned.{Pinned}
-use Rattle.lines.specs.declared.Pinned.TheVariants.{Good, Wrong}
-use Rattle.lines.specs.declared.Buy.{Buy}
-use Rattle.lines.specs.declared.Buy.TheVariants.{Bought, NoBuy}
+use Rattle.text.specs.declared.Number.{Number}
+use Rattle.lines.specs.declared.Buyer.{Buyer}
+use Rattle.refusal.specs.declared.Refusal.{Refusal}
+use Rattle.refusal.specs.Number.{number_of}
 
 -- the marks from `first` to m are those of buyer j, at most so many in all, and the stamp of a lot is j if and only if it is among them
 pub record Stamped (most first m j : ℕ) (marks stamps : List ℕ) : Type 0 where
@@ -42,39 +42,42 @@ unfoldable pub tested : Limits → Hypergraph → Marking → Fields → Marking
 tested limits h m fs = cond (all fs is_number) (marking limits h m fs) (wrong 2)
 
 -- the marks of a line
-abbrev pub marks_seen : ℕ → Pinned → List ℕ → Marking
-marks_seen first (Good m) marks = marked (slice first m marks) m
-marks_seen first (Wrong q) marks = wrong q
+abbrev pub marks_seen : ℕ → Result ℕ Refusal → List ℕ → Marking
+marks_seen first (Ok m) marks = marked (slice first m marks) m
+marks_seen first (Err e) marks = wrong (number_of e)
 
-pub record MarksRead (fs : Fields) (lots most j first : ℕ) (r : Pinned) (marks marks' stamps' : List ℕ) : Type 0 where
+pub record MarksRead (fs : Fields) (lots most j first : ℕ) (r : Result ℕ Refusal) (marks marks' stamps' : List ℕ) : Type 0 where
   pub keep : take first marks' ≡ take first marks
-  pub past : (m : ℕ) → r ≡ Good m → Past m marks marks'
+  pub past : (m : ℕ) → r ≡ Ok m → Past m marks marks'
   pub len : length marks' ≡ length marks
   pub slen : length stamps' ≡ 1024
   pub says : (limits : Limits) (h : Hypergraph) → limits.pin_limit ≡ most → vertices h ≡ lots → marks_seen first r marks' ≡ tested limits h (marked [] first) fs
-  pub next : (m : ℕ) → r ≡ Good m → Stamped most first m j marks' stamps'
+  pub next : (m : ℕ) → r ≡ Ok m → Stamped most first m j marks' stamps'
 
 -- ---- a buyer's line
 -- it begins as one and has a lot
 abbrev pub is_buy : Fields → Bool
 is_buy fs = is_line "BUY" fs && leb 3 (length fs)
 
--- its weight is v, if the field of it ends at e before the line does; the form is then that of the fields behind it
+-- its weight is v, and the field of it ends at e, before the line does; the form is then that of the fields behind it
 pub record WeightRead (s : List ℕ) (at end v e : ℕ) : Type 0 where
-  pub high : e ≤ end
-  pub none : e ≡ end → is_buy (fields (slice at end s)) ≡ false
-  pub form : e < end → is_buy (fields (slice at end s)) ≡ all (parts 44 (slice (e + 1) end s)) is_number
-  pub is : e < end → v ≡ field_at (fields (slice at end s)) 1
-  pub rest : e < end → parts 44 (slice (e + 1) end s) ≡ drop 2 (fields (slice at end s))
+  pub more : e < end
+  pub form : is_buy (fields (slice at end s)) ≡ all (parts 44 (slice (e + 1) end s)) is_number
+  pub is : v ≡ field_at (fields (slice at end s)) 1
+  pub rest : parts 44 (slice (e + 1) end s) ≡ drop 2 (fields (slice at end s))
 
-abbrev pub buy_seen : ℕ → Book → ℕ → Buy → List ℕ → Reading
-buy_seen n k first (Bought w m) marks = net_read n k w (marked (slice first m marks) m)
-buy_seen n k first (NoBuy q) marks = stopped q n
+abbrev pub WeightSeen : List ℕ → ℕ → ℕ → Option Number → Type 0
+WeightSeen s at end (Some n) = WeightRead s at end n.value n.end
+WeightSeen s at end None = is_buy (fields (slice at end s)) ≡ false
 
-pub record BuyRead (fs : Fields) (lots most j first : ℕ) (r : Buy) (marks marks' stamps' : List ℕ) : Type 0 where
+abbrev pub buy_seen : ℕ → Book → ℕ → Result Buyer Refusal → List ℕ → Reading
+buy_seen n k first (Ok a) marks = net_read n k a.weight (marked (slice first a.pins marks) a.pins)
+buy_seen n k first (Err e) marks = stopped (number_of e) n
+
+pub record BuyRead (fs : Fields) (lots most j first : ℕ) (r : Result Buyer Refusal) (marks marks' stamps' : List ℕ) : Type 0 where
   pub keep : take first marks' ≡ take first marks
-  pub past : (w m : ℕ) → r ≡ Bought w m → Past m marks marks'
+  pub past : (a : Buyer) → r ≡ Ok a → Past a.pins marks marks'
   pub len : length marks' ≡ length marks
   pub slen : length stamps' ≡ 1024
   pub says : (limits : Limits) (n : ℕ) (k : Book) → limits.pin_limit ≡ most → vertices k.graph ≡ lots → k.marks ≡ first → buy_seen n k first r marks' ≡ buy_line limits n k fs
-  pub next : (w m : ℕ) → r ≡ Bought w m → Stamped most first m j marks' stamps'
+  pub next : (a : Buyer) → r ≡ Ok a → Stamped most first a.pins j marks' stamps'

@@ -1,7 +1,7 @@
 -- An accepted catalogue: its tables are those of a fresh machine, its numbers fit, and no session is above its cap. Rests on Fill, Stretches and guarantees'
 -- laws of a catalogue that is read whole.
 use Prim.Native.Nat.{ℕ, zero, suc, ◌+◌, ◌-◌, ◌*◌, ◌≤◌, ◌<◌}
-use mathlib.Core.Path.{◌≡◌, refl, ap, sym, ◌∙◌}
+use mathlib.Core.Path.{◌≡◌, refl, ap, sym, subst, ◌∙◌}
 use mathlib.Core.Bool.{Bool, true, false, cond}
 use mathlib.Core.List.{List, []}
 use native.Mathlib.Omega.{arith}
@@ -29,22 +29,26 @@ use Rattle.pins.specs.Sorting.{start, SortableNets}
 use Rattle.lines.specs.Line.{book, Within}
 use Rattle.reader.specs.Whole.{average_of, graph_of, Fitted, CatalogueRead, catalogue_seen as told}
 use Rattle.reader.specs.declared.Catalogue.{Catalogue}
-use Rattle.reader.specs.declared.Catalogue.TheVariants.{Taken, Refused}
+use Rattle.std.specs.Prelude.{Result, Ok, Err}
+use Rattle.refusal.specs.declared.Refused.{Refused}
+use Rattle.refusal.proofs.Results.{err-ok, ok-ok}
 use Rattle.reader.specs.Buyers.{nets_of, Laid}
 use Rattle.reader.proofs.Loads.{average-is, capacity-is}
-use Rattle.loader.specs.Tables.{InOrder, Started, LoadsCatalogue, sizes_of}
+use Rattle.loader.specs.Tables.{InOrder, Started, Accepts, LoadsCatalogue, sizes_of}
 use Rattle.loader.specs.declared.Sizes.{Sizes}
-use Rattle.loader.specs.declared.LoadedCatalogue.TheVariants.{Fits, Fails}
+use Rattle.loader.specs.declared.LoadedCatalogue.{LoadedCatalogue}
 use Rattle.loader.proofs.Fill.{filled, filled_in, filled-out, filled-as}
 use Rattle.loader.proofs.Stretches.{count-is, size_is, first-is, pins-count, pins-at, present-is, sets-is, marks-inside}
 
-fails-fits : {A : Type 0} {q m i : ℕ} {z : Sizes} → Fails q m ≡ Fits z i → A
-fails-fits e = absurd (let z : ◌≡◌ {A = ℕ} 0 1 = cc in omega arith)
-
 -- a refused catalogue
-pub fails : (limits : Limits) (n : ℕ) (file : List ℕ) (at : ℕ) (r : Catalogue) (q m : ℕ) (w₀ d₀ fx₀ a pp pc f₀ c₀ lp₀ w d fx nw lo f c lp : List ℕ) → CatalogueRead limits n file at r w₀ d₀ fx₀ f₀ c₀ lp₀ w d fx nw lo f c lp → r ≡ Refused q m
-    → LoadsCatalogue limits n file at (Fails q m) (lists w₀ d₀ a fx₀ lp₀ pp f₀ c₀ pc) (lists w d a fx lp pp f c pc) nw lo
-fails limits n file at r q m w₀ d₀ fx₀ a pp pc f₀ c₀ lp₀ w d fx nw lo f c lp read is = record { estimated = read.estimated; says = ap (λ (x : Catalogue). told n file read.estimated x w d fx nw lo f c lp) (sym is) ∙ read.says; inside = λ z i y. fails-fits y; accepts = λ z i y. fails-fits y }
+pub fails : (limits : Limits) (n : ℕ) (file : List ℕ) (at : ℕ) (r : Result Catalogue Refused) (q : Refused) (w₀ d₀ fx₀ a pp pc f₀ c₀ lp₀ w d fx nw lo f c lp : List ℕ) → CatalogueRead limits n file at r w₀ d₀ fx₀ f₀ c₀ lp₀ w d fx nw lo f c lp → r ≡ Err q
+    → LoadsCatalogue limits n file at (Err q) (lists w₀ d₀ a fx₀ lp₀ pp f₀ c₀ pc) (lists w d a fx lp pp f c pc) nw lo
+fails limits n file at r q w₀ d₀ fx₀ a pp pc f₀ c₀ lp₀ w d fx nw lo f c lp read is = record {
+  estimated = read.estimated;
+  says = ap (λ (x : Result Catalogue Refused). told n file read.estimated x w d fx nw lo f c lp) (sym is) ∙ read.says;
+  inside = λ a y. err-ok y;
+  accepts = λ a y. err-ok y;
+}
 
 -- ---- weights are small
 pub small-average : (limits : Limits) (h : Hypergraph) → Good limits h → vertices h ≤ 1024 → (k : ℕ) → average_of k h.lows ≤ 67107855 + k
@@ -52,24 +56,39 @@ small-average limits h g l k =
     let s = sum_over-le h.weights (λ w. (1 ≤ w) × (w ≤ 65535)) (λ w. w) 65535 g.weights-in (λ w r. r.1) in
     omega (arith, sum_below h.lows h.weights g.lows-long g.lows-in, div-le_self (sum_over h.lows (λ w. w) + (k - 1)) k)
 
-module _ (limits : Limits) (n : ℕ) (file : List ℕ) (at l b k t m i : ℕ) (w₀ d₀ a₀ fx₀ lp₀ pp₀ f₀ c₀ pc₀ w d a fx lp pp f c pc nw lo : List ℕ) where
+module _ (limits : Limits) (n : ℕ) (file : List ℕ) (at : ℕ) (x : Catalogue) (w₀ d₀ a₀ fx₀ lp₀ pp₀ f₀ c₀ pc₀ w d a fx lp pp f c pc nw lo : List ℕ) where
+  abbrev l : ℕ
+  l = x.vertices
+
+  abbrev b : ℕ
+  b = x.nets
+
+  abbrev k : ℕ
+  k = x.blocks
+
+  abbrev t : ℕ
+  t = x.imbalance
+
+  abbrev m : ℕ
+  m = x.pins
+
   abbrev h : Hypergraph
   h = graph_of l b k t w d fx nw lo f c lp
 
   abbrev k' : Bool → Book
   k' est = book est l b h m []
 
-  module _ (r : Catalogue) (read : CatalogueRead limits n file at r w₀ d₀ fx₀ f₀ c₀ lp₀ w d fx nw lo f c lp) (is : r ≡ Taken l b k t m i) (within : Within limits)
+  module _ (r : Result Catalogue Refused) (read : CatalogueRead limits n file at r w₀ d₀ fx₀ f₀ c₀ lp₀ w d fx nw lo f c lp) (is : r ≡ Ok x) (within : Within limits)
       (w-len : length w ≡ length w₀) (d-len : length d ≡ length d₀) (fx-len : length fx ≡ length fx₀) (lp-len : length lp ≡ length lp₀) (f-len : length f ≡ length f₀) (c_len : length c ≡ length c₀)
       (w-long : limits.vertex_limit ≤ length w₀) (d-long : limits.vertex_limit ≤ length d₀) (lp-long : 8192 ≤ length lp₀) (pp-long : 8192 ≤ length pp₀) where
-    says : ended (k' read.estimated) (n + 1 + l + b) (parts 10 (slice i (length file) file)) ≡ through limits n unread (parts 10 (slice at (length file) file))
-    says = ap (λ (x : Catalogue). told n file read.estimated x w d fx nw lo f c lp) (sym is) ∙ read.says
+    says : ended (k' read.estimated) (n + 1 + l + b) (parts 10 (slice x.end (length file) file)) ≡ through limits n unread (parts 10 (slice at (length file) file))
+    says = ap (λ (y : Result Catalogue Refused). told n file read.estimated y w d fx nw lo f c lp) (sym is) ∙ read.says
 
-    fit : Fitted limits file l b k t m i w₀ d₀ fx₀ f₀ c₀ lp₀ w d fx nw lo f c lp
-    fit = read.fitted l b k t m i is
+    fit : Fitted limits file x w₀ d₀ fx₀ f₀ c₀ lp₀ w d fx nw lo f c lp
+    fit = read.fitted x is
 
     all_read : Read limits (k' read.estimated) × (whole (k' read.estimated) ≡ true)
-    all_read = part-read limits n (parts 10 (slice at (length file) file)) (k' read.estimated) (n + 1 + l + b) (parts 10 (slice i (length file) file)) (sym says)
+    all_read = part-read limits n (parts 10 (slice at (length file) file)) (k' read.estimated) (n + 1 + l + b) (parts 10 (slice x.end (length file) file)) (sym says)
 
     good : Good limits h
     good = all_read.0.loads
@@ -214,17 +233,16 @@ module _ (limits : Limits) (n : ℕ) (file : List ℕ) (at l b k t m i : ℕ) (w
 
       capped : Capped h (capacities h) [] (drafted h)
       unfolding fresh
-      capped = (held-part limits n (parts 10 (slice at (length file) file)) (k' read.estimated) (n + 1 + l + b) (parts 10 (slice i (length file) file)) (sym says)).capped
+      capped = (held-part limits n (parts 10 (slice at (length file) file)) (k' read.estimated) (n + 1 + l + b) (parts 10 (slice x.end (length file) file)) (sym says)).capped
 
       pub fits : (s : Sizes) → s ≡ sizes_of l b k t m (average_of k (take l lo)) (nearest ((1000 + t) * average_of k (take l lo)))
-          → LoadsCatalogue limits n file at (Fits s i) (lists w₀ d₀ a₀ fx₀ lp₀ pp₀ f₀ c₀ pc₀) (lists w d a fx lp pp f c pc) nw lo
+          → LoadsCatalogue limits n file at (Ok (record { sizes = s; end = x.end })) (lists w₀ d₀ a₀ fx₀ lp₀ pp₀ f₀ c₀ pc₀) (lists w d a fx lp pp f c pc) nw lo
       fits s e = record {
         estimated = read.estimated;
         says = rw e says;
-        inside = λ z j q. let p : i ≡ j = cc in omega (arith, fit.inside);
-        accepts = λ z j q.
-            let p : s ≡ z = cc in
-            rw (← p, e) (record {
+        inside = λ y q. subst (λ (v : LoadedCatalogue). v.end ≤ length file) (ok-ok q) fit.inside;
+        accepts = λ y q.
+            subst (λ (v : LoadedCatalogue). Accepts limits v.sizes (lists w₀ d₀ a₀ fx₀ lp₀ pp₀ f₀ c₀ pc₀) (lists w d a fx lp pp f c pc) nw lo) (ok-ok q) (rw e (record {
               range = fit.range;
               pins-le = laid.m-le;
               costs = fit.nw-len;
@@ -236,5 +254,5 @@ module _ (limits : Limits) (n : ℕ) (file : List ℕ) (at l b k t m i : ℕ) (w
               capacity = sym (capacity-is l k t w d fx lo (nets_of b nw f c lp));
               capped = capped;
               started = started;
-            });
+            }));
       }

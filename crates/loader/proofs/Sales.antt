@@ -1,6 +1,6 @@
 -- A sale's file: its catalogue from the first byte and line 1, and its call lines behind it. Rests on guarantees' Through and on reader's call lines.
 use Prim.Native.Nat.{ℕ, ◌+◌, ◌≤◌, ◌<◌}
-use mathlib.Core.Path.{◌≡◌, refl, ap, sym, ◌∙◌}
+use mathlib.Core.Path.{◌≡◌, refl, ap, sym, subst, ◌∙◌}
 use mathlib.Core.Bool.{Bool, true, false, ◌&&◌}
 use mathlib.Core.List.{List, [], ◌∷◌}
 use native.Mathlib.Omega.{arith}
@@ -16,26 +16,25 @@ use Rattle.guarantees.specs.Through.{onward, lines-through}
 use Rattle.text.proofs.Walk.{parts-some}
 use Rattle.lines.specs.Line.{book}
 use Rattle.reader.specs.Seen.{called, CallsRead}
-use Rattle.reader.specs.declared.Ended.{Ended}
-use Rattle.reader.specs.declared.Ended.TheVariants.{Up, Stop}
-use Rattle.loader.specs.Tables.{graph, Accepts, catalogue_seen, LoadsCatalogue, Loads}
+use Rattle.std.specs.Prelude.{Result, Ok, Err}
+use Rattle.refusal.specs.declared.Refusal.TheVariants.{FileTooLong}
+use Rattle.refusal.specs.declared.Refused.{Refused}
+use Rattle.refusal.specs.Number.{number_of, refused_at}
+use Rattle.refusal.proofs.Results.{err-ok, ok-ok}
+use Rattle.loader.specs.Tables.{graph, Accepts, CallsKnown, catalogue_seen, LoadsCatalogue, Loads}
 use Rattle.loader.specs.declared.Sizes.{Sizes}
 use Rattle.loader.specs.declared.LoadedCatalogue.{LoadedCatalogue}
-use Rattle.loader.specs.declared.LoadedCatalogue.TheVariants.{Fits, Fails}
-use Rattle.loader.specs.declared.Loaded.TheVariants.{Accepted, Refused}
-
-refused-accepted : {A : Type 0} {q m n : ℕ} {z : Sizes} → Refused q m ≡ Accepted z n → A
-refused-accepted e = absurd (let z : ◌≡◌ {A = ℕ} 0 1 = cc in omega arith)
+use Rattle.loader.specs.declared.Loaded.{Loaded}
 
 module _ (limits : Limits) (file : List ℕ) (old new : Lists) (nw lo calls ops : List ℕ) where
-  stops : (q m : ℕ) → stopped q m ≡ parse limits file → Loads limits file (Refused q m) old new nw lo calls ops
-  stops q m e = record { estimated = false; says = e; accepts = λ z n y. refused-accepted y; calls-known = λ z n y. refused-accepted y }
+  stops : (q : Refused) → stopped (number_of q.refusal) q.line ≡ parse limits file → Loads limits file (Err q) old new nw lo calls ops
+  stops q e = record { estimated = false; says = e; accepts = λ a y. err-ok y; calls-known = λ a y. err-ok y }
 
-  pub too_long : 60000 < length file → Loads limits file (Refused 1 0) old new nw lo calls ops
+  pub too_long : 60000 < length file → Loads limits file (Err (refused_at FileTooLong 0)) old new nw lo calls ops
   unfolding parse
-  too_long l = stops 1 0 (rw (lt-ltb 60000 (length file) l))
+  too_long l = stops (refused_at FileTooLong 0) (rw (lt-ltb 60000 (length file) l))
 
-  module _ (short : length file ≤ 60000) (r : LoadedCatalogue) (loads : LoadsCatalogue limits 1 file 0 r old new nw lo) where
+  module _ (short : length file ≤ 60000) (r : Result LoadedCatalogue Refused) (loads : LoadsCatalogue limits 1 file 0 r old new nw lo) where
     -- a sale's lines are its catalogue's and those behind it
     apart : parse limits file ≡ onward limits (through limits 1 unread (parts 10 (slice 0 (length file) file)))
     unfolding parse
@@ -48,13 +47,16 @@ module _ (limits : Limits) (file : List ℕ) (old new : Lists) (nw lo calls ops 
     on : onward limits (catalogue_seen 1 file loads.estimated r new nw lo) ≡ parse limits file
     on = ap (onward limits) loads.says ∙ sym apart
 
-    pub file-fails : (q m : ℕ) → r ≡ Fails q m → Loads limits file (Refused q m) old new nw lo calls ops
+    pub file-fails : (q : Refused) → r ≡ Err q → Loads limits file (Err q) old new nw lo calls ops
     unfolding onward
-    file-fails q m e = stops q m (ap (λ (x : LoadedCatalogue). onward limits (catalogue_seen 1 file loads.estimated x new nw lo)) (sym e) ∙ on)
+    file-fails q e = stops q (ap (λ (x : Result LoadedCatalogue Refused). onward limits (catalogue_seen 1 file loads.estimated x new nw lo)) (sym e) ∙ on)
 
-    module _ (z : Sizes) (i : ℕ) (is : r ≡ Fits z i) (n : ℕ) (n-is : n ≡ z.vertices + z.nets + 2) (c : Ended) (read : CallsRead file i n c calls ops) where
+    module _ (y : LoadedCatalogue) (is : r ≡ Ok y) (n : ℕ) (n-is : n ≡ y.sizes.vertices + y.sizes.nets + 2) (c : Result ℕ Refused) (read : CallsRead file y.end n c calls ops) where
+      abbrev z : Sizes
+      z = y.sizes
+
       told : Accepts limits z old new nw lo
-      told = loads.accepts z i is
+      told = loads.accepts y is
 
       abbrev first-book : Book
       first-book = book loads.estimated z.vertices z.nets (graph z new nw lo) z.pins []
@@ -67,17 +69,20 @@ module _ (limits : Limits) (file : List ℕ) (old new : Lists) (nw lo calls ops 
       all_read =
           let q : n ≡ 1 + 1 + z.vertices + z.nets = omega arith in
           read.says limits loads.estimated z.vertices z.nets z.pins (graph z new nw lo) full
-          ∙ ap (λ (x : ℕ). lines limits x (reading first-book) (parts 10 (slice i (length file) file))) q
-          ∙ ap (λ (x : LoadedCatalogue). onward limits (catalogue_seen 1 file loads.estimated x new nw lo)) (sym is)
+          ∙ ap (λ (x : ℕ). lines limits x (reading first-book) (parts 10 (slice y.end (length file) file))) q
+          ∙ ap (λ (x : Result LoadedCatalogue Refused). onward limits (catalogue_seen 1 file loads.estimated x new nw lo)) (sym is)
           ∙ on
 
-      pub calls-fail : (q m : ℕ) → c ≡ Stop q m → Loads limits file (Refused q m) old new nw lo calls ops
-      calls-fail q m e = stops q m (ap (λ (x : Ended). called loads.estimated z.vertices z.nets (graph z new nw lo) z.pins x calls ops) (sym e) ∙ all_read)
+      seen-calls : (d : Result ℕ Refused) → c ≡ d → called loads.estimated z.vertices z.nets (graph z new nw lo) z.pins d calls ops ≡ parse limits file
+      seen-calls d e = ap (λ (x : Result ℕ Refused). called loads.estimated z.vertices z.nets (graph z new nw lo) z.pins x calls ops) (sym e) ∙ all_read
 
-      pub file-fits : (x : ℕ) → c ≡ Up x → Loads limits file (Accepted z x) old new nw lo calls ops
+      pub calls-fail : (q : Refused) → c ≡ Err q → Loads limits file (Err q) old new nw lo calls ops
+      calls-fail q e = stops q (seen-calls (Err q) e)
+
+      pub file-fits : (x : ℕ) → c ≡ Ok x → Loads limits file (Ok (record { sizes = z; calls = x })) old new nw lo calls ops
       file-fits x e = record {
         estimated = loads.estimated;
-        says = ap (λ (y : Ended). called loads.estimated z.vertices z.nets (graph z new nw lo) z.pins y calls ops) (sym e) ∙ all_read;
-        accepts = λ y m q. let p : z ≡ y = cc in rw (← p) told;
-        calls-known = λ y m q. let p : x ≡ m = cc in rw (← p) (record { calls-le = (read.known x e).0; known = (read.known x e).1; entries = read.entries x e });
+        says = seen-calls (Ok x) e;
+        accepts = λ a q. subst (λ (v : Loaded). Accepts limits v.sizes old new nw lo) (ok-ok q) told;
+        calls-known = λ a q. subst (λ (v : Loaded). CallsKnown v.calls calls ops) (ok-ok q) (record { calls-le = (read.known x e).0; known = (read.known x e).1; entries = read.entries x e });
       }

@@ -1,6 +1,6 @@
 -- What loading leaves in lent memory: for an accepted catalogue, exactly what document 01's "Lent memory" says before any call. What is promised of a
 -- catalogue names no file: a sale's and a hall's both give it. Rests on model's Memory and Through and on reader. Assumes nothing.
-use Rattle.std.specs.Prelude.{ℕ, ◌+◌, ◌≤◌, ◌≡◌, Bool, true, false, List, [], ltb, length, get_or}
+use Rattle.std.specs.Prelude.{ℕ, ◌+◌, ◌≤◌, ◌≡◌, Bool, true, false, List, [], ltb, length, get_or, Result, Ok, Err}
 use Rattle.std.proofs.Math.Seq.{slice}
 use Rattle.laws.specs.Fold.{sum_over}
 use Rattle.model.specs.Catalogue.{Limits, Hypergraph, vertices, fixed_entry, drafted, average_weight, capacity, capacities}
@@ -19,9 +19,9 @@ use Rattle.lines.specs.Line.{book, InRange}
 use Rattle.reader.specs.Whole.{graph_of}
 use Rattle.loader.specs.declared.Sizes.{Sizes}
 use Rattle.loader.specs.declared.LoadedCatalogue.{LoadedCatalogue}
-use Rattle.loader.specs.declared.LoadedCatalogue.TheVariants.{Fits, Fails}
 use Rattle.loader.specs.declared.Loaded.{Loaded}
-use Rattle.loader.specs.declared.Loaded.TheVariants.{Accepted, Refused}
+use Rattle.refusal.specs.declared.Refused.{Refused}
+use Rattle.refusal.specs.Number.{number_of}
 
 -- the lists have the lengths of document 01, lots by the entry's limit
 pub record LongLists (v : ℕ) (t : Lists) : Type 0 where
@@ -79,16 +79,16 @@ pub record Accepts (limits : Limits) (z : Sizes) (old new : Lists) (nw lo : List
   pub started : Started (graph z new nw lo) old new
 
 -- what the answer and the tables say of a catalogue whose first line is line n: the catalogue, the next line's number, and what is left from there on
-abbrev pub catalogue_seen : ℕ → List ℕ → Bool → LoadedCatalogue → Lists → List ℕ → List ℕ → Stage
-catalogue_seen n file estimated (Fits z i) t nw lo = ended (book estimated z.vertices z.nets (graph z t nw lo) z.pins []) (n + 1 + z.vertices + z.nets) (parts 10 (slice i (length file) file))
-catalogue_seen n file estimated (Fails q m) t nw lo = refused q m
+abbrev pub catalogue_seen : ℕ → List ℕ → Bool → Result LoadedCatalogue Refused → Lists → List ℕ → List ℕ → Stage
+catalogue_seen n file estimated (Ok a) t nw lo = ended (book estimated a.sizes.vertices a.sizes.nets (graph a.sizes t nw lo) a.sizes.pins []) (n + 1 + a.sizes.vertices + a.sizes.nets) (parts 10 (slice a.end (length file) file))
+catalogue_seen n file estimated (Err e) t nw lo = refused (number_of e.refusal) e.line
 
 -- the promise of a catalogue, a sale's or an estimate's, that begins at place `at` with line n: model's grammar on the same lines, and the tables
-pub record LoadsCatalogue (limits : Limits) (n : ℕ) (file : List ℕ) (at : ℕ) (r : LoadedCatalogue) (old new : Lists) (nw lo : List ℕ) : Type 0 where
+pub record LoadsCatalogue (limits : Limits) (n : ℕ) (file : List ℕ) (at : ℕ) (r : Result LoadedCatalogue Refused) (old new : Lists) (nw lo : List ℕ) : Type 0 where
   pub estimated : Bool
   pub says : catalogue_seen n file estimated r new nw lo ≡ through limits n unread (parts 10 (slice at (length file) file))
-  pub inside : (z : Sizes) (i : ℕ) → r ≡ Fits z i → i ≤ length file
-  pub accepts : (z : Sizes) (i : ℕ) → r ≡ Fits z i → Accepts limits z old new nw lo
+  pub inside : (a : LoadedCatalogue) → r ≡ Ok a → a.end ≤ length file
+  pub accepts : (a : LoadedCatalogue) → r ≡ Ok a → Accepts limits a.sizes old new nw lo
 
 -- ---- a sale's file
 -- n calls: each three numbers of the table are a call, whose operands are there
@@ -98,13 +98,13 @@ pub record CallsKnown (n : ℕ) (calls ops : List ℕ) : Type 0 where
   pub entries : entries_to (length ops) n calls ≡ true
 
 -- what the loader's answer and the tables say
-abbrev pub seen : Bool → Loaded → Lists → List ℕ → List ℕ → List ℕ → List ℕ → Reading
-seen estimated (Accepted z n) t nw lo calls ops = reading (book estimated z.vertices z.nets (graph z t nw lo) z.pins (calls_of ops n calls))
-seen estimated (Refused q n) t nw lo calls ops = stopped q n
+abbrev pub seen : Bool → Result Loaded Refused → Lists → List ℕ → List ℕ → List ℕ → List ℕ → Reading
+seen estimated (Ok a) t nw lo calls ops = reading (book estimated a.sizes.vertices a.sizes.nets (graph a.sizes t nw lo) a.sizes.pins (calls_of ops a.calls calls))
+seen estimated (Err e) t nw lo calls ops = stopped (number_of e.refusal) e.line
 
 -- the loader's promise: model's grammar on the same bytes, a sale's or an estimate's, and the tables of an accepted file
-pub record Loads (limits : Limits) (file : List ℕ) (r : Loaded) (old new : Lists) (nw lo calls ops : List ℕ) : Type 0 where
+pub record Loads (limits : Limits) (file : List ℕ) (r : Result Loaded Refused) (old new : Lists) (nw lo calls ops : List ℕ) : Type 0 where
   pub estimated : Bool
   pub says : seen estimated r new nw lo calls ops ≡ parse limits file
-  pub accepts : (z : Sizes) (n : ℕ) → r ≡ Accepted z n → Accepts limits z old new nw lo
-  pub calls-known : (z : Sizes) (n : ℕ) → r ≡ Accepted z n → CallsKnown n calls ops
+  pub accepts : (a : Loaded) → r ≡ Ok a → Accepts limits a.sizes old new nw lo
+  pub calls-known : (a : Loaded) → r ≡ Ok a → CallsKnown a.calls calls ops

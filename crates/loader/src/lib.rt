@@ -1,4 +1,4 @@
-// Loads a catalogue, from any place and line of a file, or a whole sale file into lent tables, or says the first refusal. Rests on reader.
+// Loads a catalogue, from any place and line of a file, or a whole sale file into lent tables, or says the first refusal. Rests on reader and pins.
 #![tactic(auto)]
 
 ghost use Rattle.std.specs.Prelude.{◌≡◌, ◌+◌, ◌*◌, ◌≤◌, ltb, length, get_or, take};
@@ -12,7 +12,8 @@ ghost use Rattle.loader.specs.Tables.{LongLists, InOrder, sizes_of, LoadsCatalog
 
 use lines::Limits;
 use pins::sort_nets;
-use reader::{Catalogue, Ended};
+use reader::Catalogue;
+use refusal::{Refusal, Refused};
 
 // The sizes of an accepted catalogue: how many lots, buyers, sessions, thousandths of slack and marks; ⌈W/k⌉; the cap.
 #[derive(Clone, Copy)]
@@ -26,42 +27,18 @@ pub struct Sizes {
     pub capacity: u32,
 }
 
-// An accepted catalogue's sizes and the place behind its last line; or the refusal's number and the line's.
+// An accepted catalogue's sizes and the place behind its last line.
 #[derive(Clone, Copy)]
-pub enum LoadedCatalogue {
-    Fits(Sizes, usize),
-    Fails(u8, usize),
+pub struct LoadedCatalogue {
+    pub sizes: Sizes,
+    pub end: usize,
 }
 
-// An accepted file's sizes and how many calls it has; or the refusal's number and the line's.
+// An accepted file's sizes and how many calls it has.
 #[derive(Clone, Copy)]
-pub enum Loaded {
-    Accepted(Sizes, usize),
-    Refused(u8, usize),
-}
-
-// The first n entries become 0.
-fn clear(to: &mut [u16], n: usize)
-    requires { n ≤ length to.old }
-    ensures { Filled 0 (λ i. ltb i n) (λ i. 0) to.old to.new }
-{
-    let mut i = 0;
-    while i < n {
-        to[i] = 0;
-        i += 1;
-    }
-}
-
-// The first n entries become those of `from`.
-fn copy(from: &[u16], to: &mut [u16], n: usize)
-    requires { (n ≤ length from.now) × (n ≤ length to.old) }
-    ensures { Filled 0 (λ i. ltb i n) (λ i. get_or from.now i 0) to.old to.new }
-{
-    let mut i = 0;
-    while i < n {
-        to[i] = from[i];
-        i += 1;
-    }
+pub struct Loaded {
+    pub sizes: Sizes,
+    pub calls: usize,
 }
 
 // No lot is joined into another, and the present marks are the loaded ones, each buyer's in order.
@@ -81,33 +58,26 @@ fn start(
         × InOrder loadedpins.now loadedsizes.now nets m presentpins.old presentpins.new
         × Filled 0 (λ i. ltb i nets) (λ i. get_or loadedsizes.now i 0) presentsizes.old presentsizes.new }
 {
-    clear(aboves, vertices);
-    copy(loadedpins, presentpins, m);
+    aboves[..vertices].fill(0);
+    presentpins[..m].copy_from_slice(&loadedpins[..m]);
     sort_nets(presentpins, loadedsizes, nets);
-    copy(loadedsizes, presentsizes, nets);
+    presentsizes[..nets].copy_from_slice(&loadedsizes[..nets]);
 }
 
 // The sizes of an accepted catalogue, with ⌈W/k⌉ and the cap, which are of the lows.
-fn measure(
-    lows: &[u32],
-    vertices: u32,
-    nets: u32,
-    blocks: u32,
-    imbalance: u32,
-    pins: usize,
-) -> Sizes
-    requires { (vertices ≤ 1024) × (vertices ≤ length lows.now) × (1 ≤ blocks) × (blocks ≤ 16) × (imbalance ≤ 1000)
-        × (average_of blocks (take vertices lows.now) ≤ 67107871) }
-    ensures { result ≡ sizes_of vertices nets blocks imbalance pins (average_of blocks (take vertices lows.now)) (nearest ((1000 + imbalance) * average_of blocks (take vertices lows.now))) }
+fn measure(lows: &[u32], c: Catalogue) -> Sizes
+    requires { (c.vertices ≤ 1024) × (c.vertices ≤ length lows.now) × (1 ≤ c.blocks) × (c.blocks ≤ 16) × (c.imbalance ≤ 1000)
+        × (average_of c.blocks (take c.vertices lows.now) ≤ 67107871) }
+    ensures { result ≡ sizes_of c.vertices c.nets c.blocks c.imbalance c.pins (average_of c.blocks (take c.vertices lows.now)) (nearest ((1000 + c.imbalance) * average_of c.blocks (take c.vertices lows.now))) }
 {
-    let average = reader::average_weight(lows, vertices as usize, blocks);
-    let capacity = reader::capacity(average, imbalance);
+    let average = reader::average_weight(lows, c.vertices as usize, c.blocks);
+    let capacity = reader::capacity(average, c.imbalance);
     Sizes {
-        vertices: vertices,
-        nets: nets,
-        blocks: blocks,
-        imbalance: imbalance,
-        pins: pins,
+        vertices: c.vertices,
+        nets: c.nets,
+        blocks: c.blocks,
+        imbalance: c.imbalance,
+        pins: c.pins,
         average: average as u32,
         capacity: capacity as u32,
     }
@@ -130,7 +100,7 @@ pub fn load_catalogue(
     presentsizes: &mut [u16],
     netweights: &mut [u16; 1024],
     lows: &mut [u32; 1024],
-) -> LoadedCatalogue
+) -> Result<LoadedCatalogue, Refused>
     requires { (at ≤ length s.now) × (line ≤ 60001) × Within (limits_of limits) × (length netweights.old ≡ 1024) × (length lows.old ≡ 1024) × LongLists limits.lots
         (lists weights.old blocks.old aboves.old fixed.old loadedpins.old presentpins.old firsts.old loadedsizes.old presentsizes.old) }
     ensures { LoadsCatalogue (limits_of limits) line s.now at result
@@ -138,7 +108,7 @@ pub fn load_catalogue(
         (lists weights.new blocks.new aboves.new fixed.new loadedpins.new presentpins.new firsts.new loadedsizes.new presentsizes.new)
         netweights.new lows.new }
 {
-    match reader::read_catalogue(
+    let c = reader::read_catalogue(
         s,
         at,
         line,
@@ -151,22 +121,21 @@ pub fn load_catalogue(
         firsts,
         loadedsizes,
         loadedpins,
-    ) {
-        Catalogue::Refused(q, n) => LoadedCatalogue::Fails(q, n),
-        Catalogue::Taken(l, b, k, t, m, i) => {
-            start(
-                l as usize,
-                b as usize,
-                m,
-                loadedpins,
-                loadedsizes,
-                aboves,
-                presentpins,
-                presentsizes,
-            );
-            LoadedCatalogue::Fits(measure(lows, l, b, k, t, m), i)
-        }
-    }
+    )?;
+    start(
+        c.vertices as usize,
+        c.nets as usize,
+        c.pins,
+        loadedpins,
+        loadedsizes,
+        aboves,
+        presentpins,
+        presentsizes,
+    );
+    Ok(LoadedCatalogue {
+        sizes: measure(lows, c),
+        end: c.end,
+    })
 }
 
 // Loads a sale file within the limits. The calls are three numbers each: the letter's byte and two numbers, which for N are
@@ -187,7 +156,7 @@ pub fn load(
     lows: &mut [u32; 1024],
     calls: &mut [u32],
     operands: &mut [u32],
-) -> Loaded
+) -> Result<Loaded, Refused>
     requires { Within (limits_of limits) × (length netweights.old ≡ 1024) × (length lows.old ≡ 1024) × (1536 ≤ length calls.old) × (30000 ≤ length operands.old) × LongLists limits.lots
         (lists weights.old blocks.old aboves.old fixed.old loadedpins.old presentpins.old firsts.old loadedsizes.old presentsizes.old) }
     ensures { Loads (limits_of limits) s.now result
@@ -196,9 +165,9 @@ pub fn load(
         netweights.new lows.new calls.new operands.new }
 {
     if 60000 < s.len() {
-        return Loaded::Refused(1, 0);
+        return Err(Refusal::FileTooLong.at(0));
     }
-    match load_catalogue(
+    let catalogue = load_catalogue(
         s,
         0,
         1,
@@ -214,14 +183,12 @@ pub fn load(
         presentsizes,
         netweights,
         lows,
-    ) {
-        LoadedCatalogue::Fails(q, n) => Loaded::Refused(q, n),
-        LoadedCatalogue::Fits(z, i) => {
-            let n = z.vertices as usize + z.nets as usize + 2;
-            match reader::read_calls(s, i, n, calls, operands) {
-                Ended::Stop(q, m) => Loaded::Refused(q, m),
-                Ended::Up(c) => Loaded::Accepted(z, c),
-            }
-        }
-    }
+    )?;
+    let sizes = catalogue.sizes;
+    let n = sizes.vertices as usize + sizes.nets as usize + 2;
+    let count = reader::read_calls(s, catalogue.end, n, calls, operands)?;
+    Ok(Loaded {
+        sizes,
+        calls: count,
+    })
 }

@@ -1,5 +1,5 @@
 -- Laws of the lines from a cursor on: one line further, and a comment passed over. Rests on text's laws of parts.
-use Prim.Native.Nat.{ℕ, suc, ◌+◌, ◌≤◌, ◌<◌}
+use Prim.Native.Nat.{ℕ, ◌+◌, ◌≤◌, ◌<◌}
 use native.Mathlib.Omega.{arith}
 use native.Mathlib.Decide.{ℕ_discrete}
 use mathlib.Core.Path.{◌≡◌, refl, ap, sym, ◌∙◌}
@@ -8,13 +8,12 @@ use mathlib.Core.List.{List, [], ◌∷◌}
 use borrow.Author.Tests.{eq-eqb, ne_eqb}
 use lib.ListN.{length, get_or}
 use lib.Seq.{slice, slice_empty}
-use Rattle.laws.specs.Fold.{all}
-use Rattle.model.specs.Grammar.{Fields, bytes, same, parts, is_number}
+use Rattle.model.specs.Grammar.{Fields, bytes, same, parts}
 use Rattle.text.specs.Field.{FirstAt}
 use Rattle.text.proofs.Walk.{slice_at, slice-head, first_on, parts-some}
 use Rattle.text.proofs.Lines.{parts-on, parts_last}
 use Rattle.model.specs.Hmetis.{all_but_last, lines_of, is_comment, is_part, with_line, sections}
-use Rattle.passes.specs.Rows.{lines_at, sections_at, line_then, no_sections, at_part, RowAt, list_count}
+use Rattle.passes.specs.Rows.{lines_at, sections_at, line_then, no_sections, at_part, RowAt}
 
 all-but-more : (l : List ℕ) (ls : Fields) → (ls ≡ [] → ⊥) → all_but_last (l ∷ ls) ≡ l ∷ all_but_last ls
 unfolding all_but_last
@@ -85,41 +84,5 @@ pub sections-end : (s : List ℕ) (i : ℕ) → i ≡ length s → sections_at s
 sections-end s i q = ap sections (lines_end s i q) ∙ sections-nil
 
 -- ---- what `row` answers
-module _ (s : List ℕ) (at i : ℕ) (low : at ≤ i) (says : sections_at s at ≡ sections_at s i) where
-  pub row-none : i ≤ length s → sections_at s i ≡ no_sections → RowAt s at (length s) (length s)
-  row-none h z = record { low = omega arith; mid = omega arith; high = omega arith; line = λ lt. absurd (omega arith); none = λ q. says ∙ z }
-
-  pub row-found : (e : ℕ) → i < length s → FirstAt s i (length s) 10 e → (get_or s i 0 ≡ 37 → ⊥) → RowAt s at i e
-  row-found e lt found n = record {
-    low = low;
-    mid = found.low;
-    high = found.high;
-    line = λ more. says ∙ other-line s i e lt found more n;
-    none = λ q. says ∙ sections-none s i e lt found q;
-  }
-
--- ---- the listing, line by line
-count-nil : (k : ℕ) → list_count k [] ≡ k
-unfolding list_count all
-count-nil k = omega arith
-
-count_no : (k : ℕ) (l : List ℕ) (ls : Fields) → is_number l ≡ false → list_count k (l ∷ ls) ≡ 0
-unfolding list_count all
-count_no k l ls e = rw e
-
-count-on : (k : ℕ) (l : List ℕ) (ls : Fields) → is_number l ≡ true → list_count k (l ∷ ls) ≡ list_count (k + 1) ls
-unfolding list_count all
-count-on k l ls e = let z : k + suc (length ls) ≡ k + 1 + length ls = omega arith in rw (e, z)
-
-module _ (s : List ℕ) (i e k : ℕ) (le : i ≤ length s) (found : FirstAt s i (length s) 10 e) where
-  pub list-none : e ≡ length s → list_count k (lines_at s i) ≡ k
-  list-none q = ap (list_count k) (lines_none s i e le found q) ∙ count-nil k
-
-  pub list-bad : e < length s → is_number (slice i e s) ≡ false → list_count k (lines_at s i) ≡ 0
-  list-bad lt n = ap (list_count k) (lines-on s i e le found lt) ∙ count_no k (slice i e s) (lines_at s (e + 1)) n
-
-  pub list_on : e < length s → is_number (slice i e s) ≡ true → list_count k (lines_at s i) ≡ list_count (k + 1) (lines_at s (e + 1))
-  list_on lt n = ap (list_count k) (lines-on s i e le found lt) ∙ count-on k (slice i e s) (lines_at s (e + 1)) n
-
-pub list-end : (s : List ℕ) (i k : ℕ) → i ≡ length s → list_count k (lines_at s i) ≡ k
-list-end s i k q = ap (list_count k) (lines_end s i q) ∙ count-nil k
+pub row-found : (s : List ℕ) (at i : ℕ) → at ≤ i → sections_at s at ≡ sections_at s i → (e : ℕ) → i < length s → FirstAt s i (length s) 10 e → e < length s → (get_or s i 0 ≡ 37 → ⊥) → RowAt s at i e
+row-found s at i low says e lt found more n = record { low = low; mid = found.low; high = more; line = says ∙ other-line s i e lt found more n }

@@ -1,7 +1,6 @@
 -- Laws of the rows from a cursor on: which forms they have, the next one, the first n. Rests on Lines.
 use Prim.Native.Nat.{ℕ, zero, suc, ◌+◌, ◌-◌, ◌≤◌, ◌<◌}
 use native.Mathlib.Omega.{arith}
-use native.Mathlib.Decide.{ℕ_discrete}
 use mathlib.Core.Path.{◌≡◌, refl, ap, sym, ◌∙◌}
 use mathlib.Core.Bool.{Bool, true, false, ◌&&◌, cond, true≢false, and-false}
 use mathlib.Core.List.{List, [], ◌∷◌}
@@ -13,7 +12,7 @@ use Rattle.laws.specs.Fold.{all}
 use Rattle.laws.specs.Choice.{and_left, and_right}
 use Rattle.model.specs.Grammar.{Fields, bytes, same, parts, is_number}
 use Rattle.model.specs.Hmetis.{is_part, Sections, with_line, sections, later, words, numbers_in, is_edge}
-use Rattle.passes.specs.Rows.{lines_at, sections_at, rows_at, line_then, at_part, RowAt, well_rows, RowsPassed, PartPassed}
+use Rattle.passes.specs.Rows.{lines_at, sections_at, rows_at, no_sections, line_then, at_part, RowAt, well_rows, RowsPassed, NoPart, PartPassed}
 
 -- ---- PART is no row of numbers
 same-is : (l m : List ℕ) → same l m ≡ true → l ≡ m
@@ -102,27 +101,27 @@ take-first (suc m) l ls some = let z : suc m - 1 ≡ m = omega arith in rw z
 
 module _ (p : List ℕ → Bool) (not : p PART ≡ false) (s : List ℕ) (i a e : ℕ) (row : RowAt s i a e) where
   pub row_here : (m : ℕ) → 1 ≤ m → well_rows p m (rows_at s i) ≡ true → RowHere p s i m a e
-  row_here m some w = go (ℕ_discrete e (length s))
+  row_here m some w = here (is_part (slice a e s)) refl (p (slice a e s)) refl
     where
       never : (ls : Fields) → rows_at s i ≡ ls → well_rows p m ls ≡ false → ⊥
       never ls q f = true≢false (sym w ∙ ap (well_rows p m) q ∙ f)
 
-      here : e < length s → (b : Bool) → is_part (slice a e s) ≡ b → (c : Bool) → p (slice a e s) ≡ c → RowHere p s i m a e
-      here more true q c f = absurd (never [] (ap (λ (x : Sections). x.graph) (row.line more ∙ then-part (slice a e s) (lines_at s (e + 1)) q)) (well-none p m some))
-      here more false q false f = absurd (never (slice a e s ∷ rows_at s (e + 1)) (ap (λ (x : Sections). x.graph) (row.line more ∙ then-row (slice a e s) (lines_at s (e + 1)) q)) (well-bad p m (slice a e s) (rows_at s (e + 1)) some f))
-      here more false q true f =
-          let rows = ap (λ (x : Sections). x.graph) (row.line more ∙ then-row (slice a e s) (lines_at s (e + 1)) q) in
+      here : (b : Bool) → is_part (slice a e s) ≡ b → (c : Bool) → p (slice a e s) ≡ c → RowHere p s i m a e
+      here true q c f = absurd (never [] (ap (λ (x : Sections). x.graph) (row.line ∙ then-part (slice a e s) (lines_at s (e + 1)) q)) (well-none p m some))
+      here false q false f = absurd (never (slice a e s ∷ rows_at s (e + 1)) (ap (λ (x : Sections). x.graph) (row.line ∙ then-row (slice a e s) (lines_at s (e + 1)) q)) (well-bad p m (slice a e s) (rows_at s (e + 1)) some f))
+      here false q true f =
+          let rows = ap (λ (x : Sections). x.graph) (row.line ∙ then-row (slice a e s) (lines_at s (e + 1)) q) in
           record {
-            more = more;
+            more = row.high;
             rows = rows;
             form = f;
             well = sym (well-on p m (slice a e s) (rows_at s (e + 1)) some f) ∙ ap (well_rows p m) (sym rows) ∙ w;
             first = ap (take m) rows ∙ take-first m (slice a e s) (rows_at s (e + 1)) some;
           }
 
-      go : Dec (e ≡ length s) → RowHere p s i m a e
-      go (yes q) = absurd (never [] (ap (λ (x : Sections). x.graph) (row.none q)) (well-none p m some))
-      go (no n) = here (omega (arith, row.high)) (is_part (slice a e s)) refl (p (slice a e s)) refl
+-- where rows are left, there is one
+pub row_there : (p : List ℕ → Bool) (s : List ℕ) (i m : ℕ) → 1 ≤ m → well_rows p m (rows_at s i) ≡ true → sections_at s i ≡ no_sections → ⊥
+row_there p s i m some w q = true≢false (sym w ∙ ap (λ (x : Sections). well_rows p m x.graph) q ∙ well-none p m some)
 
 -- ---- rows passed over
 pub record OnRows (p : List ℕ → Bool) (s : List ℕ) (at n i k : ℕ) : Type 0 where
@@ -138,81 +137,63 @@ pub rows_start : (p : List ℕ → Bool) (s : List ℕ) (at n : ℕ) → 1 ≤ a
 rows_start p s at n l h = record { low = l; high = h; done = omega arith; rest = refl; found = refl; listing = refl; says = let z : n ≡ n - 0 = omega arith in ap (λ (m : ℕ). well_rows p m (rows_at s at)) z }
 
 module _ (p : List ℕ → Bool) (s : List ℕ) (at n i k : ℕ) (on : OnRows p s at n i k) where
-  refused : well_rows p (n - k) (rows_at s i) ≡ false → RowsPassed p s at n 0
-  refused f = record {
-    bad = λ z. on.says ∙ f;
-    well = λ z. absurd (omega arith);
-    high = omega arith;
-    rest = λ z. absurd (omega arith);
-    found = λ z. absurd (omega arith);
-    listing = λ z. absurd (omega arith);
-  }
-
   pub rows-done : n ≤ k → RowsPassed p s at n i
   rows-done l =
       let z : n - k ≡ 0 = omega arith in
       let q : k ≡ n = omega (arith, on.done) in
       record {
-        bad = λ z. absurd (omega (arith, on.low));
-        well = λ _. on.says ∙ ap (λ (m : ℕ). well_rows p m (rows_at s i)) z ∙ well-zero p (rows_at s i);
+        low = on.low;
+        well = on.says ∙ ap (λ (m : ℕ). well_rows p m (rows_at s i)) z ∙ well-zero p (rows_at s i);
         high = on.high;
-        rest = λ _. on.rest ∙ ap (λ (m : ℕ). drop m (rows_at s at)) q;
-        found = λ _. on.found;
-        listing = λ _. on.listing;
+        rest = on.rest ∙ ap (λ (m : ℕ). drop m (rows_at s at)) q;
+        found = on.found;
+        listing = on.listing;
       }
 
+  pub rows_short : k < n → sections_at s i ≡ no_sections → well_rows p n (rows_at s at) ≡ false
+  rows_short more q = on.says ∙ ap (λ (x : Sections). well_rows p (n - k) x.graph) q ∙ well-none p (n - k) (omega arith)
+
   module _ (a e : ℕ) (row : RowAt s i a e) (more : k < n) where
-    pub rows_short : e ≡ length s → RowsPassed p s at n 0
-    rows_short q = refused (ap (λ (x : Sections). well_rows p (n - k) x.graph) (row.none q) ∙ well-none p (n - k) (omega arith))
+    pub rows-bad : p (slice a e s) ≡ false → well_rows p n (rows_at s at) ≡ false
+    rows-bad f = on.says ∙ ap (λ (x : Sections). well_rows p (n - k) x.graph) row.line ∙ go (is_part (slice a e s)) refl
+      where
+        go : (b : Bool) → is_part (slice a e s) ≡ b → well_rows p (n - k) (line_then (slice a e s) (lines_at s (e + 1))).graph ≡ false
+        go true q = ap (λ (x : Sections). well_rows p (n - k) x.graph) (then-part (slice a e s) (lines_at s (e + 1)) q) ∙ well-none p (n - k) (omega arith)
+        go false q = ap (λ (x : Sections). well_rows p (n - k) x.graph) (then-row (slice a e s) (lines_at s (e + 1)) q) ∙ well-bad p (n - k) (slice a e s) (rows_at s (e + 1)) (omega arith) f
 
-    module _ (lt : e < length s) where
-      pub rows-bad : p (slice a e s) ≡ false → RowsPassed p s at n 0
-      rows-bad f = refused (ap (λ (x : Sections). well_rows p (n - k) x.graph) (row.line lt) ∙ go (is_part (slice a e s)) refl)
-        where
-          go : (b : Bool) → is_part (slice a e s) ≡ b → well_rows p (n - k) (line_then (slice a e s) (lines_at s (e + 1))).graph ≡ false
-          go true q = ap (λ (x : Sections). well_rows p (n - k) x.graph) (then-part (slice a e s) (lines_at s (e + 1)) q) ∙ well-none p (n - k) (omega arith)
-          go false q = ap (λ (x : Sections). well_rows p (n - k) x.graph) (then-row (slice a e s) (lines_at s (e + 1)) q) ∙ well-bad p (n - k) (slice a e s) (rows_at s (e + 1)) (omega arith) f
+    pub rows-first : p PART ≡ false → p (slice a e s) ≡ true → take (n - k) (rows_at s i) ≡ slice a e s ∷ take (n - (k + 1)) (rows_at s (e + 1))
+    rows-first not f =
+        let x = row.line ∙ then-row (slice a e s) (lines_at s (e + 1)) (no_part p not (slice a e s) f) in
+        let z : n - k - 1 ≡ n - (k + 1) = omega arith in
+        ap (λ (x : Sections). take (n - k) x.graph) x ∙ take-first (n - k) (slice a e s) (rows_at s (e + 1)) (omega arith) ∙ ap (λ (m : ℕ). slice a e s ∷ take m (rows_at s (e + 1))) z
 
-      pub rows-first : p PART ≡ false → p (slice a e s) ≡ true → take (n - k) (rows_at s i) ≡ slice a e s ∷ take (n - (k + 1)) (rows_at s (e + 1))
-      rows-first not f =
-          let x = row.line lt ∙ then-row (slice a e s) (lines_at s (e + 1)) (no_part p not (slice a e s) f) in
-          let z : n - k - 1 ≡ n - (k + 1) = omega arith in
-          ap (λ (x : Sections). take (n - k) x.graph) x ∙ take-first (n - k) (slice a e s) (rows_at s (e + 1)) (omega arith) ∙ ap (λ (m : ℕ). slice a e s ∷ take m (rows_at s (e + 1))) z
-
-      pub rows_on : p PART ≡ false → p (slice a e s) ≡ true → OnRows p s at n (e + 1) (k + 1)
-      rows_on not f =
-          let x = row.line lt ∙ then-row (slice a e s) (lines_at s (e + 1)) (no_part p not (slice a e s) f) in
-          let g = ap (λ (x : Sections). x.graph) x in
-          let z : n - k - 1 ≡ n - (k + 1) = omega arith in
-          record {
-            low = omega arith;
-            high = omega arith;
-            done = omega arith;
-            rest = ap (drop 1) (sym g ∙ on.rest) ∙ drop-drop 1 k (rows_at s at);
-            found = ap (λ (x : Sections). x.found) (sym x) ∙ on.found;
-            listing = ap (λ (x : Sections). x.listing) (sym x) ∙ on.listing;
-            says = on.says ∙ ap (well_rows p (n - k)) g ∙ well-on p (n - k) (slice a e s) (rows_at s (e + 1)) (omega arith) f ∙ ap (λ (m : ℕ). well_rows p m (rows_at s (e + 1))) z;
-          }
+    pub rows_on : p PART ≡ false → p (slice a e s) ≡ true → OnRows p s at n (e + 1) (k + 1)
+    rows_on not f =
+        let x = row.line ∙ then-row (slice a e s) (lines_at s (e + 1)) (no_part p not (slice a e s) f) in
+        let g = ap (λ (x : Sections). x.graph) x in
+        let z : n - k - 1 ≡ n - (k + 1) = omega arith in
+        record {
+          low = omega arith;
+          high = omega (arith, row.high);
+          done = omega arith;
+          rest = ap (drop 1) (sym g ∙ on.rest) ∙ drop-drop 1 k (rows_at s at);
+          found = ap (λ (x : Sections). x.found) (sym x) ∙ on.found;
+          listing = ap (λ (x : Sections). x.listing) (sym x) ∙ on.listing;
+          says = on.says ∙ ap (well_rows p (n - k)) g ∙ well-on p (n - k) (slice a e s) (rows_at s (e + 1)) (omega arith) f ∙ ap (λ (m : ℕ). well_rows p m (rows_at s (e + 1))) z;
+        }
 
 -- ---- PART passed over
 module _ (s : List ℕ) (at a e : ℕ) (row : RowAt s at a e) where
-  part-refused : (eqb (length (rows_at s at)) 0 && (sections_at s at).found) ≡ false → PartPassed s at 0
-  part-refused f = record { bad = λ z. f; high = omega arith; none = λ z. absurd (omega arith); found = λ z. absurd (omega arith); listing = λ z. absurd (omega arith) }
+  pub part-other : is_part (slice a e s) ≡ false → NoPart s at
+  part-other f = record { none = ap (λ (x : Sections). eqb (length x.graph) 0 && x.found) (row.line ∙ then-row (slice a e s) (lines_at s (e + 1)) f) ∙ ap (λ (b : Bool). b && (sections_at s (e + 1)).found) (ne_eqb (suc (length (rows_at s (e + 1)))) 0 (λ z. omega arith)) }
 
-  pub part-short : e ≡ length s → PartPassed s at 0
-  part-short q = part-refused (ap (λ (x : Sections). eqb (length x.graph) 0 && x.found) (row.none q))
-
-  module _ (lt : e < length s) where
-    pub part-other : is_part (slice a e s) ≡ false → PartPassed s at 0
-    part-other f = part-refused (ap (λ (x : Sections). eqb (length x.graph) 0 && x.found) (row.line lt ∙ then-row (slice a e s) (lines_at s (e + 1)) f) ∙ ap (λ (b : Bool). b && (sections_at s (e + 1)).found) (ne_eqb (suc (length (rows_at s (e + 1)))) 0 (λ z. omega arith)))
-
-    pub part-here : is_part (slice a e s) ≡ true → PartPassed s at (e + 1)
-    part-here f =
-        let x = row.line lt ∙ then-part (slice a e s) (lines_at s (e + 1)) f in
-        record {
-          bad = λ z. absurd (omega arith);
-          high = omega arith;
-          none = λ z. ap (λ (x : Sections). x.graph) x;
-          found = λ z. ap (λ (x : Sections). x.found) x;
-          listing = λ z. ap (λ (x : Sections). x.listing) x;
-        }
+  pub part-here : is_part (slice a e s) ≡ true → PartPassed s at (e + 1)
+  part-here f =
+      let x = row.line ∙ then-part (slice a e s) (lines_at s (e + 1)) f in
+      record {
+        low = omega arith;
+        high = omega (arith, row.high);
+        none = ap (λ (x : Sections). x.graph) x;
+        found = ap (λ (x : Sections). x.found) x;
+        listing = ap (λ (x : Sections). x.listing) x;
+      }

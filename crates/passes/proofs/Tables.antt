@@ -20,10 +20,10 @@ use Rattle.fields.specs.Wrote.{Wrote, Remains}
 use Rattle.fields.proofs.Laws.{remains-all, remains-more, remains-none, remains-room}
 use Rattle.model.specs.Hmetis.{Edge, is_edge, edge_of}
 use Rattle.model.specs.Convert.{is_carried, net_of}
-use Rattle.spaced.specs.Pins.{Fresh, EdgeChecked, edge_row}
-use Rattle.passes.specs.Rows.{lines_at, rows_at, RowAt, well_rows, RowsPassed, list_count}
+use Rattle.spaced.specs.Pins.{Fresh, NoEdge, EdgeChecked, edge_row}
+use Rattle.passes.specs.Rows.{lines_at, rows_at, RowAt, well_rows}
 use Rattle.passes.specs.Read.{WeightsRead, BlocksRead, edges_at, EdgesRead}
-use Rattle.passes.proofs.Lines.{lines-on, lines_none, lines_end, list-none, list-bad, list_on, list-end}
+use Rattle.passes.proofs.Lines.{lines-on, lines_none, lines_end}
 use Rattle.passes.proofs.Rows.{part-number, part_edge, RowHere, OnRows, rows_start, rows-done, rows-bad, rows-first, rows_on}
 
 -- ---- tests over a list
@@ -62,14 +62,6 @@ pub record OnWeights (s : List ℕ) (at n : ℕ) (table : List ℕ) (i k : ℕ) 
   pub says : all (numbers_at s at n) (within 1 65535) ≡ (good && all (numbers_at s i (n - k)) (within 1 65535))
   pub are : n ≤ 1024 → numbers_at s at n ≡ take k table ++ numbers_at s i (n - k)
 
-pub weights-start : (s : List ℕ) (at n : ℕ) (table : List ℕ) → 1 ≤ at → at ≤ length s → length table ≡ 1024 → OnWeights s at n table at 0 true
-weights-start s at n table l h len =
-    let z : n ≡ n - 0 = omega arith in
-    record { rows = rows_start is_number s at n l h; len = len; says = ap (λ (m : ℕ). all (numbers_at s at m) (within 1 65535)) z; are = λ _. ap (numbers_at s at) z }
-
-pub weights-bad : (s : List ℕ) (at n : ℕ) (table : List ℕ) → length table ≡ 1024 → RowsPassed is_number s at n 0 → WeightsRead s at n 0 false table
-weights-bad s at n table len passed = record { len = len; passed = passed; says = λ z. absurd (omega arith); are = λ z. absurd (omega arith) }
-
 module _ (s : List ℕ) (at n : ℕ) (table : List ℕ) (i k : ℕ) (good : Bool) (on : OnWeights s at n table i k good) where
   pub weights-done : n ≤ k → WeightsRead s at n i good table
   weights-done l =
@@ -79,17 +71,17 @@ module _ (s : List ℕ) (at n : ℕ) (table : List ℕ) (i k : ℕ) (good : Bool
       record {
         len = on.len;
         passed = rows-done is_number s at n i k on.rows l;
-        says = λ _. all_end (within 1 65535) _ good (numbers_at s i (n - k)) none on.says;
-        are = λ _ few. sym (on.are few ∙ ap (λ (l : List ℕ). take k table ++ l) none ∙ append-nil (take k table) ∙ ap (λ (m : ℕ). take m table) q);
+        says = all_end (within 1 65535) _ good (numbers_at s i (n - k)) none on.says;
+        are = λ few. sym (on.are few ∙ ap (λ (l : List ℕ). take k table ++ l) none ∙ append-nil (take k table) ∙ ap (λ (m : ℕ). take m table) q);
       }
 
-  module _ (a e : ℕ) (row : RowAt s i a e) (more : k < n) (lt : e < length s) (form : is_number (slice a e s) ≡ true) (w : ℕ) (is : w ≡ value (slice a e s)) where
+  module _ (a e : ℕ) (row : RowAt s i a e) (more : k < n) (form : is_number (slice a e s) ≡ true) (w : ℕ) (is : w ≡ value (slice a e s)) where
     next : numbers_at s i (n - k) ≡ w ∷ numbers_at s (e + 1) (n - (k + 1))
-    next = ap (map value) (rows-first is_number s at n i k on.rows a e row more lt part-number form) ∙ ap (λ (x : ℕ). x ∷ numbers_at s (e + 1) (n - (k + 1))) (sym is)
+    next = ap (map value) (rows-first is_number s at n i k on.rows a e row more part-number form) ∙ ap (λ (x : ℕ). x ∷ numbers_at s (e + 1) (n - (k + 1))) (sym is)
 
     pub weights-on : (b : Bool) → b ≡ within 1 65535 w → (g : Bool) → g ≡ (good && b) → (table' : List ℕ) → length table' ≡ 1024 → (k < 1024 → table' ≡ set table k w) → OnWeights s at n table' (e + 1) (k + 1) g
     weights-on b range g both table' len kept = record {
-      rows = rows_on is_number s at n i k on.rows a e row more lt part-number form;
+      rows = rows_on is_number s at n i k on.rows a e row more part-number form;
       len = len;
       says = all-next (within 1 65535) _ good b g w (numbers_at s (e + 1) (n - (k + 1))) (numbers_at s i (n - k)) next on.says range both;
       are = λ few.
@@ -105,35 +97,36 @@ pub record OnBlocks (s : List ℕ) (at blocks : ℕ) (table : List ℕ) (i k : �
   pub few : k < i
   pub high : i ≤ length s
   pub len : length table ≡ 1024
-  pub lines_are : list_count 1 (lines_at s at) ≡ list_count (k + 1) (lines_at s i)
+  pub well : all (lines_at s at) is_number ≡ all (lines_at s i) is_number
   pub left : length (lines_at s at) ≡ k + length (lines_at s i)
   pub says : all (blocks_at s at) (λ b. ltb b blocks) ≡ (good && all (blocks_at s i) (λ b. ltb b blocks))
   pub are : good ≡ true → blocks ≤ 16 → length (lines_at s at) ≤ 1024 → map suc (blocks_at s at) ≡ take k table ++ map suc (blocks_at s i)
 
-pub blocks_start : (s : List ℕ) (at blocks : ℕ) (table : List ℕ) → 1 ≤ at → at ≤ length s → length table ≡ 1024 → OnBlocks s at blocks table at 0 true
-blocks_start s at blocks table l h len = record { few = omega arith; high = h; len = len; lines_are = refl; left = omega arith; says = refl; are = λ _ _ _. refl }
-
 module _ (s : List ℕ) (at blocks : ℕ) (table : List ℕ) (i k : ℕ) (good : Bool) (on : OnBlocks s at blocks table i k good) where
-  ended : lines_at s i ≡ [] → list_count (k + 1) (lines_at s i) ≡ k + 1 → BlocksRead s at blocks (k + 1) good table
-  ended none count =
+  ended : lines_at s i ≡ [] → BlocksRead s at blocks k good table
+  ended none =
       let q : k ≡ length (lines_at s at) = omega (arith, on.left, ap length none) in
       record {
         len = on.len;
-        lines_are = sym (on.lines_are ∙ count);
-        says = λ _. all_end (λ b. ltb b blocks) _ good (blocks_at s i) (ap (map value) none) on.says;
-        are = λ _ yes few fit. sym (on.are yes few fit ∙ ap (λ (ls : Fields). take k table ++ map suc (map value ls)) none ∙ append-nil (take k table) ∙ ap (λ (m : ℕ). take m table) q);
+        well = on.well ∙ ap (λ (ls : Fields). all ls is_number) none ∙ all_nil is_number;
+        lines_are = q;
+        says = all_end (λ b. ltb b blocks) _ good (blocks_at s i) (ap (map value) none) on.says;
+        are = λ yes few fit. sym (on.are yes few fit ∙ ap (λ (ls : Fields). take k table ++ map suc (map value ls)) none ∙ append-nil (take k table) ∙ ap (λ (m : ℕ). take m table) q);
       }
 
-  pub blocks_end : i ≡ length s → BlocksRead s at blocks (k + 1) good table
-  blocks_end q = ended (lines_end s i q) (list-end s i (k + 1) q)
+  pub blocks_end : i ≡ length s → BlocksRead s at blocks k good table
+  blocks_end q = ended (lines_end s i q)
 
   module _ (e : ℕ) (found : FirstAt s i (length s) 10 e) where
-    pub blocks-none : e ≡ length s → BlocksRead s at blocks (k + 1) good table
-    blocks-none q = ended (lines_none s i e on.high found q) (list-none s i e (k + 1) on.high found q)
+    pub blocks-none : e ≡ length s → BlocksRead s at blocks k good table
+    blocks-none q = ended (lines_none s i e on.high found q)
 
     module _ (lt : e < length s) where
-      pub blocks-bad : is_number (slice i e s) ≡ false → BlocksRead s at blocks 0 false table
-      blocks-bad n = record { len = on.len; lines_are = sym (on.lines_are ∙ list-bad s i e (k + 1) on.high found lt n); says = λ z. absurd (omega arith); are = λ z. absurd (omega arith) }
+      line-tests : all (lines_at s at) is_number ≡ (is_number (slice i e s) && all (lines_at s (e + 1)) is_number)
+      line-tests = on.well ∙ ap (λ (ls : Fields). all ls is_number) (lines-on s i e on.high found lt) ∙ all_cons (slice i e s) (lines_at s (e + 1)) is_number
+
+      pub blocks-bad : is_number (slice i e s) ≡ false → all (lines_at s at) is_number ≡ false
+      blocks-bad n = line-tests ∙ ap (λ (t : Bool). t && all (lines_at s (e + 1)) is_number) n
 
       module _ (form : is_number (slice i e s) ≡ true) (b : ℕ) (is : b ≡ value (slice i e s)) where
         line : lines_at s i ≡ slice i e s ∷ lines_at s (e + 1)
@@ -147,7 +140,7 @@ module _ (s : List ℕ) (at blocks : ℕ) (table : List ℕ) (i k : ℕ) (good :
           few = omega (arith, on.few, found.low);
           high = omega arith;
           len = len;
-          lines_are = on.lines_are ∙ list_on s i e (k + 1) on.high found lt form;
+          well = line-tests ∙ ap (λ (t : Bool). t && all (lines_at s (e + 1)) is_number) form;
           left = omega (arith, on.left, ap length line);
           says = all-next (λ b. ltb b blocks) _ good (ltb b blocks) g b (blocks_at s (e + 1)) (blocks_at s i) next-block on.says refl both;
           are = λ yes few fit.
@@ -212,46 +205,37 @@ edges-start weighted s at n v stamps l h len blank =
       size_is = zero-add _ ∙ ap (λ (m : ℕ). length (text_of (edges_at weighted s at m))) (sym z);
     }
 
-pub edges-bad : (weighted : Bool) (s : List ℕ) (at n v next : ℕ) (r : Bool) (pins size : ℕ) → next ≡ 0 → size ≡ 0 → RowsPassed (is_edge weighted) s at n 0 → EdgesRead weighted s at n v next r pins size
-edges-bad weighted s at n v next r pins size z none passed = record {
-  passed = subst (λ (m : ℕ). RowsPassed (is_edge weighted) s at n m) (sym z) passed;
-  says = λ l. absurd (omega arith);
-  pins-are = λ l. absurd (omega arith);
-  size_is = λ l. absurd (omega arith);
-  small = omega arith;
-}
-
 module _ (weighted : Bool) (s : List ℕ) (at n v : ℕ) (stamps : List ℕ) (i k : ℕ) (good : Bool) (pins size : ℕ) (on : OnEdges weighted s at n v stamps i k good pins size) where
   pub edges-done : length s ≤ 60000 → n ≤ k → EdgesRead weighted s at n v i good pins size
   edges-done short l =
       let z : n - k ≡ 0 = omega arith in
       record {
         passed = rows-done (is_edge weighted) s at n i k on.rows l;
-        says = λ _. all_end (is_carried v) _ good (edges_at weighted s i (n - k)) (ap (edges_at weighted s i) z) on.says;
-        pins-are = λ _. omega (arith, on.pins-are, ap (λ (m : ℕ). pins_of (edges_at weighted s i m)) z, pins-nil);
-        size_is = λ _. omega (arith, on.size_is, ap (λ (m : ℕ). length (text_of (edges_at weighted s i m))) z, ap length text-nil);
+        says = all_end (is_carried v) _ good (edges_at weighted s i (n - k)) (ap (edges_at weighted s i) z) on.says;
+        pins-are = omega (arith, on.pins-are, ap (λ (m : ℕ). pins_of (edges_at weighted s i m)) z, pins-nil);
+        size_is = omega (arith, on.size_is, ap (λ (m : ℕ). length (text_of (edges_at weighted s i m))) z, ap length text-nil);
         small = omega (arith, on.small, on.few, on.turns, on.rows.high);
       }
 
-  module _ (a e : ℕ) (row : RowAt s i a e) (more : k < n) (lt : e < length s) (count : ℕ) (b : Bool) (bytes : ℕ) (stamps' : List ℕ) (x : EdgeChecked s a e weighted v (k + 1) count b bytes stamps') where
-    pub edges-stop : count ≡ 0 → RowsPassed (is_edge weighted) s at n 0
-    edges-stop z = rows-bad (is_edge weighted) s at n i k on.rows a e row more lt (x.bad z)
+  module _ (a e : ℕ) (row : RowAt s i a e) (more : k < n) where
+    pub edges-stop : {stamps' : List ℕ} → NoEdge s a e weighted stamps' → well_rows (is_edge weighted) n (rows_at s at) ≡ false
+    edges-stop x = rows-bad (is_edge weighted) s at n i k on.rows a e row more x.form
 
-    pub edges-on : 1 ≤ count → (g : Bool) → g ≡ (good && b) → OnEdges weighted s at n v stamps' (e + 1) (k + 1) g (pins + count) (size + bytes)
-    edges-on some g both =
+    pub edges-on : (count : ℕ) (b : Bool) (bytes : ℕ) (stamps' : List ℕ) → EdgeChecked s a e weighted v (k + 1) count b bytes stamps' → (g : Bool) → g ≡ (good && b) → OnEdges weighted s at n v stamps' (e + 1) (k + 1) g (pins + count) (size + bytes)
+    edges-on count b bytes stamps' x g both =
         let edge : Edge = edge_of weighted (slice a e s) in
         let left : List Edge = edges_at weighted s (e + 1) (n - (k + 1)) in
-        let next : edges_at weighted s i (n - k) ≡ edge ∷ left = ap (map (edge_of weighted)) (rows-first (is_edge weighted) s at n i k on.rows a e row more lt (part_edge weighted) (x.form some)) in
+        let next : edges_at weighted s i (n - k) ≡ edge ∷ left = ap (map (edge_of weighted)) (rows-first (is_edge weighted) s at n i k on.rows a e row more (part_edge weighted) x.form) in
         record {
-          rows = rows_on (is_edge weighted) s at n i k on.rows a e row more lt (part_edge weighted) (x.form some);
+          rows = rows_on (is_edge weighted) s at n i k on.rows a e row more (part_edge weighted) x.form;
           turns = omega (arith, on.turns, row.low, row.mid);
           len = x.len;
-          fresh = record { below = λ y. omega (arith, x.below some y) };
+          fresh = record { below = λ y. omega (arith, x.below y) };
           few = omega (arith, on.few, x.few, row.low);
           small = omega (arith, on.small, x.small);
-          says = all-next (is_carried v) _ good b g edge left (edges_at weighted s i (n - k)) next on.says (x.says some) both;
-          pins-are = omega (arith, on.pins-are, ap pins_of next, pins-cons edge left, x.count-is some);
-          size_is = omega (arith, on.size_is, ap (λ (es : List Edge). length (text_of es)) next, text-size edge left, x.size_is some);
+          says = all-next (is_carried v) _ good b g edge left (edges_at weighted s i (n - k)) next on.says x.says both;
+          pins-are = omega (arith, on.pins-are, ap pins_of next, pins-cons edge left, x.count-is);
+          size_is = omega (arith, on.size_is, ap (λ (es : List Edge). length (text_of es)) next, text-size edge left, x.size_is);
         }
 
 -- ---- edges written

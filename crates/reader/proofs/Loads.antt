@@ -7,10 +7,9 @@ use native.Mathlib.Omega.{arith}
 use native.Mathlib.Numerals.{add-one}
 use borrow.Author.Tests.{le-ltb, lt-ltb, eq-eqb, ne_eqb}
 use lib.Dec.{eqb, ltb}
-use lib.ListN.{length, get_or, take}
+use lib.ListN.{length, take}
 use lib.Seq.{length-take-le, get_or-take}
-use Rattle.laws.specs.Fold.{sum_over}
-use Rattle.laws.specs.Sum.{sum, sum_to, fold_to, fold_to-none, fold_to-more, fold_to-found, sum-ext, sum-list, sum-sum_to}
+use Rattle.laws.specs.Sum.{sum, sum_to, fold_to, fold_to-none, fold_to-more, fold_to-found, sum-sum_to}
 use Rattle.model.specs.Catalogue.{Net, Hypergraph, vertices, loaded, drafted, average_weight, nearest, capacity}
 use Rattle.model.specs.Measure.{block_weight}
 use Rattle.model.specs.Grammar.{overfull}
@@ -19,11 +18,6 @@ use Rattle.reader.specs.Seen.{lots_graph}
 use Rattle.reader.specs.Buyers.{with_nets}
 use Rattle.block_weights.specs.Term.{block_term}
 use Rattle.reader.specs.Whole.{average_of}
-
-pub sum-take : (n : ℕ) (w : List ℕ) → n ≤ length w → sum n (λ i. get_or w i 0) ≡ sum_over (take n w) (λ x. x)
-sum-take n w l =
-    let e : length (take n w) ≡ n = length-take-le n w l in
-    sum-ext n _ _ (λ i u. sym (get_or-take n w i 0 u)) ∙ ap (λ (k : ℕ). sum k (λ i. get_or (take n w) i 0)) (sym e) ∙ sum-list (take n w) 0 (λ x. x)
 
 -- the cases of rounding
 module _ (x : ℕ) where

@@ -17,13 +17,16 @@ use Rattle.model.specs.Sale.{Request}
 use Rattle.model.specs.Grammar.{Book, Reading, reading, stopped, parts, fields, whole, overfull, grown, with_lot, ends_in_k, before_k, lot_line, line}
 use Rattle.text.specs.Field.{FirstAt}
 use Rattle.reader.proofs.Turns.{through-none, through-on}
+use Rattle.refusal.proofs.Results.{err-ok}
 use Rattle.lines.specs.Line.{book, Past, lotted, LotRead}
 use Rattle.model.specs.Through.{through}
 use Rattle.guarantees.specs.Through.{unfinished, through-stopped}
 use Rattle.reader.specs.Seen.{lots_graph, LotsRead}
-use Rattle.reader.specs.declared.Ended.TheVariants.{Up, Stop}
+use Rattle.std.specs.Prelude.{Result, Ok, Err}
+use Rattle.refusal.specs.declared.Refusal.{Refusal}
+use Rattle.refusal.specs.declared.Refusal.TheVariants.{BadlyWritten}
+use Rattle.refusal.specs.Number.{number_of, refused_at}
 use Rattle.lines.specs.declared.Lot.{Lot}
-use Rattle.lines.specs.declared.Lot.TheVariants.{Of, NoLot}
 
 -- a truth value as an entry
 byte_one : (t : Bool) → bool_byte t ≡ one t
@@ -85,7 +88,7 @@ lots-start n s at l blocks est w d fx lo a low high p q r o = record {
       rw z (ap (λ (r : Reading). through limits (n + 1) r (parts 10 (slice at (length s) s))) (sym (partly (book est l b (lots_graph blocks imbalance 0 w d fx lo) 0 []) (few-lots est l b (lots_graph blocks imbalance 0 w d fx lo) 0 [] (omega arith)) n)));
 }
 
-pub lots-done : (n : ℕ) (s : List ℕ) (at l blocks : ℕ) (est : Bool) (w₀ d₀ fx₀ w d fx lo : List ℕ) (i k : ℕ) → OnLots n s at l blocks est w₀ d₀ fx₀ w d fx lo i k → k ≡ l → LotsRead n s at l blocks est (Up i) w₀ d₀ fx₀ w d fx lo
+pub lots-done : (n : ℕ) (s : List ℕ) (at l blocks : ℕ) (est : Bool) (w₀ d₀ fx₀ w d fx lo : List ℕ) (i k : ℕ) → OnLots n s at l blocks est w₀ d₀ fx₀ w d fx lo i k → k ≡ l → LotsRead n s at l blocks est (Ok i) w₀ d₀ fx₀ w d fx lo
 lots-done n s at l blocks est w₀ d₀ fx₀ w d fx lo i k on e = record {
   inside = λ j q. let z : i ≡ j = cc in omega (arith, on.i-le);
   w-past = λ x u. on.w-past x (omega arith);
@@ -108,13 +111,10 @@ module _ (n : ℕ) (s : List ℕ) (at l blocks : ℕ) (est : Bool) (w₀ d₀ fx
   here : (limits : Limits) (b imbalance : ℕ) → through limits (n + 1) (reading (book est l b (lots_graph blocks imbalance 0 w d fx lo) 0 [])) (parts 10 (slice at (length s) s)) ≡ through limits (n + k + 1) (reading (book est l b (graph imbalance) 0 [])) (parts 10 (slice i (length s) s))
   here limits b imbalance = on.says limits b imbalance ∙ ap (λ (r : Reading). through limits (n + k + 1) r (parts 10 (slice i (length s) s))) (partly (book est l b (graph imbalance) 0 []) (some b imbalance) (n + k))
 
-  never : {A : Type 0} (q m j : ℕ) → Stop q m ≡ Up j → A
-  never q m j e = absurd (let z : ◌≡◌ {A = ℕ} 0 1 = cc in omega arith)
-
   module _ (e : ℕ) (found : FirstAt s i (length s) 10 e) where
-    pub lots-none : e ≡ length s → LotsRead n s at l blocks est (Stop 2 (n + k + 1)) w₀ d₀ fx₀ w d fx lo
+    pub lots-none : e ≡ length s → LotsRead n s at l blocks est (Err (refused_at BadlyWritten (n + k + 1))) w₀ d₀ fx₀ w d fx lo
     lots-none x = record {
-      inside = λ j q. never 2 (n + k + 1) j q;
+      inside = λ j q. err-ok q;
       w-past = λ x u. on.w-past x (omega arith);
       d-past = λ x u. on.d-past x (omega arith);
       fx-past = λ x u. on.fx-past x (omega arith);
@@ -122,7 +122,7 @@ module _ (n : ℕ) (s : List ℕ) (at l blocks : ℕ) (est : Bool) (w₀ d₀ fx
       says = λ limits b imbalance. sym (here limits b imbalance ∙ through-none limits s (length s) i e (n + k + 1) on.i-le (omega arith) found (reading (book est l b (graph imbalance) 0 [])) (partly-on (book est l b (graph imbalance) 0 []) (some b imbalance)) x);
     }
 
-    module _ (more : e < length s) (r : Lot) (read : LotRead blocks est (slice i e s) r) where
+    module _ (more : e < length s) (r : Result Lot Refusal) (read : LotRead blocks est (slice i e s) r) where
       step : (limits : Limits) (b imbalance : ℕ) → through limits (n + 1) (reading (book est l b (lots_graph blocks imbalance 0 w d fx lo) 0 [])) (parts 10 (slice at (length s) s))
           ≡ through limits (n + k + 1 + 1) (lotted (n + k + 1) (book est l b (graph imbalance) 0 []) r) (parts 10 (slice (e + 1) (length s) s))
       step limits b imbalance =
@@ -131,19 +131,19 @@ module _ (n : ℕ) (s : List ℕ) (at l blocks : ℕ) (est : Bool) (w₀ d₀ fx
           ∙ ap (λ (x : Reading). through limits (n + k + 1 + 1) x (parts 10 (slice (e + 1) (length s) s)))
           (lot-turn est l b (graph imbalance) 0 [] (omega (arith, size)) limits (n + k + 1) (slice i e s) ∙ sym (read (n + k + 1) (book est l b (graph imbalance) 0 []) refl refl))
 
-      pub lots-stop : (q : ℕ) → r ≡ NoLot q → LotsRead n s at l blocks est (Stop q (n + k + 1)) w₀ d₀ fx₀ w d fx lo
+      pub lots-stop : (q : Refusal) → r ≡ Err q → LotsRead n s at l blocks est (Err (refused_at q (n + k + 1))) w₀ d₀ fx₀ w d fx lo
       lots-stop q x = record {
-        inside = λ j z. never q (n + k + 1) j z;
+        inside = λ j z. err-ok z;
         w-past = λ x u. on.w-past x (omega arith);
         d-past = λ x u. on.d-past x (omega arith);
         fx-past = λ x u. on.fx-past x (omega arith);
         lo-len = on.lo-len;
-        says = λ limits b imbalance. sym (step limits b imbalance ∙ ap (λ (y : Lot). through limits (n + k + 1 + 1) (lotted (n + k + 1) (book est l b (graph imbalance) 0 []) y) (parts 10 (slice (e + 1) (length s) s))) x ∙ through-stopped limits (n + k + 1 + 1) q (n + k + 1) (parts 10 (slice (e + 1) (length s) s)));
+        says = λ limits b imbalance. sym (step limits b imbalance ∙ ap (λ (y : Result Lot Refusal). through limits (n + k + 1 + 1) (lotted (n + k + 1) (book est l b (graph imbalance) 0 []) y) (parts 10 (slice (e + 1) (length s) s))) x ∙ through-stopped limits (n + k + 1 + 1) (number_of q) (n + k + 1) (parts 10 (slice (e + 1) (length s) s)));
       }
 
-      pub lots-on : (o x y : ℕ) (t : Bool) → r ≡ Of o x y t → OnLots n s at l blocks est w₀ d₀ fx₀ (set w k x) (set d k y) (set fx k (bool_byte t)) (set lo k o) (e + 1) (k + 1)
+      pub lots-on : (a : Lot) → r ≡ Ok a → OnLots n s at l blocks est w₀ d₀ fx₀ (set w k a.high) (set d k a.block) (set fx k (bool_byte a.fixed)) (set lo k a.low) (e + 1) (k + 1)
       unfolding with_lot
-      lots-on o x y t z = record {
+      lots-on a z = record {
         i-le = omega arith;
         k-le = omega arith;
         l_le = on.l_le;
@@ -154,16 +154,16 @@ module _ (n : ℕ) (s : List ℕ) (at l blocks : ℕ) (est : Bool) (w₀ d₀ fx
         w-same = simp length-set on.w-same;
         d-same = simp length-set on.d-same;
         fx-same = simp length-set on.fx-same;
-        w-past = λ z u. get_or-set_other w k z x 0 (λ c. omega arith) ∙ on.w-past z (omega arith);
-        d-past = λ z u. get_or-set_other d k z y 0 (λ c. omega arith) ∙ on.d-past z (omega arith);
-        fx-past = λ z u. get_or-set_other fx k z (bool_byte t) 0 (λ c. omega arith) ∙ on.fx-past z (omega arith);
+        w-past = λ z u. get_or-set_other w k z a.high 0 (λ c. omega arith) ∙ on.w-past z (omega arith);
+        d-past = λ z u. get_or-set_other d k z a.block 0 (λ c. omega arith) ∙ on.d-past z (omega arith);
+        fx-past = λ z u. get_or-set_other fx k z (bool_byte a.fixed) 0 (λ c. omega arith) ∙ on.fx-past z (omega arith);
         says = λ limits b imbalance.
             let p : n + (k + 1) ≡ n + k + 1 = omega arith in
-            let u : take (k + 1) (set w k x) ≡ take k w ++ (x ∷ []) = rw add-one (take-suc-set w k x (omega (arith, on.w-len, on.l_le))) in
-            let v : take (k + 1) (set d k y) ≡ take k d ++ (y ∷ []) = rw add-one (take-suc-set d k y (omega (arith, on.d-len, on.l_le))) in
-            let m : take (k + 1) (set lo k o) ≡ take k lo ++ (o ∷ []) = rw add-one (take-suc-set lo k o (omega (arith, on.lo-len, on.l_le))) in
-            let g : take (k + 1) (set fx k (bool_byte t)) ≡ take k fx ++ (one t ∷ []) = rw (add-one, ← byte_one t) (take-suc-set fx k (bool_byte t) (omega (arith, on.fx-len, on.l_le))) in
+            let u : take (k + 1) (set w k a.high) ≡ take k w ++ (a.high ∷ []) = rw add-one (take-suc-set w k a.high (omega (arith, on.w-len, on.l_le))) in
+            let v : take (k + 1) (set d k a.block) ≡ take k d ++ (a.block ∷ []) = rw add-one (take-suc-set d k a.block (omega (arith, on.d-len, on.l_le))) in
+            let m : take (k + 1) (set lo k a.low) ≡ take k lo ++ (a.low ∷ []) = rw add-one (take-suc-set lo k a.low (omega (arith, on.lo-len, on.l_le))) in
+            let g : take (k + 1) (set fx k (bool_byte a.fixed)) ≡ take k fx ++ (one a.fixed ∷ []) = rw (add-one, ← byte_one a.fixed) (take-suc-set fx k (bool_byte a.fixed) (omega (arith, on.fx-len, on.l_le))) in
             step limits b imbalance
-            ∙ ap (λ (r : Lot). through limits (n + k + 1 + 1) (lotted (n + k + 1) (book est l b (graph imbalance) 0 []) r) (parts 10 (slice (e + 1) (length s) s))) z
-            ∙ rw (p, u, v, m, g, sum_over-more (take k lo) o (λ y. y));
+            ∙ ap (λ (r : Result Lot Refusal). through limits (n + k + 1 + 1) (lotted (n + k + 1) (book est l b (graph imbalance) 0 []) r) (parts 10 (slice (e + 1) (length s) s))) z
+            ∙ rw (p, u, v, m, g, sum_over-more (take k lo) a.low (λ y. y));
       }

@@ -1,6 +1,6 @@
 -- The buyers' lines: none read, one more, all read; where their marks lie. Rests on Lots and Turns.
 use Prim.Native.Nat.{ℕ, zero, suc, ◌+◌, ◌-◌, ◌≤◌, ◌<◌}
-use mathlib.Core.Path.{◌≡◌, refl, ap, sym, ◌∙◌}
+use mathlib.Core.Path.{◌≡◌, refl, ap, sym, subst, ◌∙◌}
 use mathlib.Core.List.{List, [], ◌∷◌, ◌++◌}
 use mathlib.Core.Bool.{Bool, true, false, ◌&&◌}
 use native.Mathlib.Omega.{arith}
@@ -15,15 +15,19 @@ use Rattle.model.specs.Catalogue.{Limits, Net, Hypergraph, vertices}
 use Rattle.model.specs.Grammar.{Book, Reading, reading, parts, fields, whole, grown, with_net, marked, net_read, buy_line, line}
 use Rattle.text.specs.Field.{FirstAt}
 use Rattle.reader.proofs.Turns.{through-none, through-on}
+use Rattle.refusal.proofs.Results.{err-ok, ok-ok}
 use Rattle.reader.proofs.Lots.{partly, partly-on}
 use Rattle.lines.specs.Line.{book, Past}
 use Rattle.lines.specs.Mark.{Stamped, Fresh, buy_seen, BuyRead}
 use Rattle.model.specs.Through.{through}
 use Rattle.guarantees.specs.Through.{through-stopped}
 use Rattle.reader.specs.Buyers.{Laid, nets_of, with_nets, BuysRead, BuysReady}
-use Rattle.lines.specs.declared.Buy.{Buy}
-use Rattle.lines.specs.declared.Buy.TheVariants.{Bought, NoBuy}
-use Rattle.reader.specs.declared.Nets.TheVariants.{All, Cut}
+use Rattle.std.specs.Prelude.{Result, Ok, Err}
+use Rattle.refusal.specs.declared.Refusal.{Refusal}
+use Rattle.refusal.specs.declared.Refusal.TheVariants.{BadlyWritten}
+use Rattle.refusal.specs.Number.{number_of, refused_at}
+use Rattle.lines.specs.declared.Buyer.{Buyer}
+use Rattle.reader.specs.declared.Nets.{Nets}
 
 pub nets-length : (j : ℕ) (w f c marks : List ℕ) → length (nets_of j w f c marks) ≡ j
 unfolding nets_of
@@ -147,11 +151,11 @@ buys-start p s at most l b w f c marks stamps r = record {
 }
 
 module _ (p : ℕ) (s : List ℕ) (at most l b : ℕ) (f₀ c₀ marks₀ w f c marks stamps : List ℕ) (i j m : ℕ) (on : OnBuys p s at most l b f₀ c₀ marks₀ w f c marks stamps i j m) where
-  pub buys-done : j ≡ b → BuysRead p s at most l b (All i m) f₀ c₀ marks₀ w f c marks
+  pub buys-done : j ≡ b → BuysRead p s at most l b (Ok (record { end = i; pins = m })) f₀ c₀ marks₀ w f c marks
   buys-done e = record {
-    inside = λ x y q. let z : i ≡ x = cc in omega (arith, on.i-le);
-    w-len = λ x y q. on.w-len;
-    laid = λ x y q. let z : m ≡ y = cc in rw (← z, ← e) on.laid;
+    inside = λ a q. subst (λ (x : Nets). x.end ≤ length s) (ok-ok q) on.i-le;
+    w-len = λ a q. on.w-len;
+    laid = λ a q. subst (λ (x : Nets). Laid most b x.pins f₀ c₀ marks₀ f c marks) (ok-ok q) (rw (← e) on.laid);
     says = λ limits est h lim q. sym (on.says limits est h lim q ∙ ap (λ (n : ℕ). through limits (p + 1 + n) (grown (p + n) (book est l b (with_nets h (nets_of n w f c marks)) m [])) (parts 10 (slice i (length s) s))) e);
   }
 
@@ -169,15 +173,15 @@ module _ (p : ℕ) (s : List ℕ) (at most l b : ℕ) (f₀ c₀ marks₀ w f c 
     here limits est h lim q = on.says limits est h lim q ∙ ap (λ (r : Reading). through limits (p + 1 + j) r (parts 10 (slice i (length s) s))) (partly (now-book est h) (few est h q) (p + j))
 
     module _ (e : ℕ) (found : FirstAt s i (length s) 10 e) where
-      pub buys-none : e ≡ length s → BuysRead p s at most l b (Cut 2 (p + 1 + j)) f₀ c₀ marks₀ w f c marks
+      pub buys-none : e ≡ length s → BuysRead p s at most l b (Err (refused_at BadlyWritten (p + 1 + j))) f₀ c₀ marks₀ w f c marks
       buys-none x = record {
-        inside = λ y z q. absurd (let u : ◌≡◌ {A = ℕ} 0 1 = cc in omega arith);
-        w-len = λ y z q. on.w-len;
-        laid = λ y z q. absurd (let u : ◌≡◌ {A = ℕ} 0 1 = cc in omega arith);
+        inside = λ a q. err-ok q;
+        w-len = λ a q. on.w-len;
+        laid = λ a q. err-ok q;
         says = λ limits est h lim q. sym (here limits est h lim q ∙ through-none limits s (length s) i e (p + 1 + j) on.i-le (omega arith) found (reading (now-book est h)) (partly-on (now-book est h) (few est h q)) x);
       }
 
-      module _ (more : e < length s) (r : Buy) (marks' stamps' : List ℕ) (read : BuyRead (fields (slice i e s)) l most (j + 1) m r marks marks' stamps') where
+      module _ (more : e < length s) (r : Result Buyer Refusal) (marks' stamps' : List ℕ) (read : BuyRead (fields (slice i e s)) l most (j + 1) m r marks marks' stamps') where
         step : (limits : Limits) (est : Bool) (h : Hypergraph) → limits.pin_limit ≡ most → vertices h ≡ l → through limits (p + 1) (grown p (book est l b (with_nets h []) 0 [])) (parts 10 (slice at (length s) s))
             ≡ through limits (p + 1 + j + 1) (buy_seen (p + 1 + j) (now-book est h) m r marks') (parts 10 (slice (e + 1) (length s) s))
         step limits est h lim q =
@@ -186,17 +190,23 @@ module _ (p : ℕ) (s : List ℕ) (at most l b : ℕ) (f₀ c₀ marks₀ w f c 
             ∙ ap (λ (x : Reading). through limits (p + 1 + j + 1) x (parts 10 (slice (e + 1) (length s) s)))
             (buy-turn est l b h m ns q (omega (arith, nets-length j w f c marks)) limits (p + 1 + j) (slice i e s) ∙ sym (read.says limits (p + 1 + j) (now-book est h) lim q refl))
 
-        pub buys-stop : (q : ℕ) → r ≡ NoBuy q → BuysRead p s at most l b (Cut q (p + 1 + j)) f₀ c₀ marks₀ w f c marks'
+        pub buys-stop : (q : Refusal) → r ≡ Err q → BuysRead p s at most l b (Err (refused_at q (p + 1 + j))) f₀ c₀ marks₀ w f c marks'
         buys-stop q x = record {
-          inside = λ y z u. absurd (let v : ◌≡◌ {A = ℕ} 0 1 = cc in omega arith);
-          w-len = λ y z u. on.w-len;
-          laid = λ y z u. absurd (let v : ◌≡◌ {A = ℕ} 0 1 = cc in omega arith);
-          says = λ limits est h lim z. sym (step limits est h lim z ∙ ap (λ (y : Buy). through limits (p + 1 + j + 1) (buy_seen (p + 1 + j) (now-book est h) m y marks') (parts 10 (slice (e + 1) (length s) s))) x ∙ through-stopped limits (p + 1 + j + 1) q (p + 1 + j) (parts 10 (slice (e + 1) (length s) s)));
+          inside = λ a u. err-ok u;
+          w-len = λ a u. on.w-len;
+          laid = λ a u. err-ok u;
+          says = λ limits est h lim z. sym (step limits est h lim z ∙ ap (λ (y : Result Buyer Refusal). through limits (p + 1 + j + 1) (buy_seen (p + 1 + j) (now-book est h) m y marks') (parts 10 (slice (e + 1) (length s) s))) x ∙ through-stopped limits (p + 1 + j + 1) (number_of q) (p + 1 + j) (parts 10 (slice (e + 1) (length s) s)));
         }
 
-        module _ (x z : ℕ) (is : r ≡ Bought x z) where
+        module _ (a : Buyer) (is : r ≡ Ok a) where
+          abbrev x : ℕ
+          x = a.weight
+
+          abbrev z : ℕ
+          z = a.pins
+
           pub grows : Stamped most m z (j + 1) marks' stamps'
-          grows = read.next x z is
+          grows = read.next a is
 
           pub buys-on : OnBuys p s at most l b f₀ c₀ marks₀ (set w j x) (set f j m) (set c j (z - m)) marks' stamps' (e + 1) (j + 1) z
           buys-on =
@@ -221,12 +231,12 @@ module _ (p : ℕ) (s : List ℕ) (at most l b : ℕ) (f₀ c₀ marks₀ w f c 
                 m-same = read.len ∙ on.m-same;
                 fresh = record { below = λ y. omega (arith, grows.below y) };
                 inside = inside-more j m z x w f c marks marks' read.keep le wl fl cl on.inside;
-                laid = laid_more most j m z f₀ c₀ marks₀ f c marks marks' le fl cl grows.m-le on.laid (read.past x z is);
+                laid = laid_more most j m z f₀ c₀ marks₀ f c marks marks' le fl cl grows.m-le on.laid (read.past a is);
                 says = λ limits est h lim q.
                     let v : p + 1 + (j + 1) ≡ p + 1 + j + 1 = omega arith in
                     let u : p + (j + 1) ≡ p + 1 + j = omega arith in
                     step limits est h lim q
-                    ∙ ap (λ (y : Buy). through limits (p + 1 + j + 1) (buy_seen (p + 1 + j) (now-book est h) m y marks') (parts 10 (slice (e + 1) (length s) s))) is
+                    ∙ ap (λ (y : Result Buyer Refusal). through limits (p + 1 + j + 1) (buy_seen (p + 1 + j) (now-book est h) m y marks') (parts 10 (slice (e + 1) (length s) s))) is
                     ∙ ap (λ (y : Reading). through limits (p + 1 + j + 1) y (parts 10 (slice (e + 1) (length s) s))) (net-read-is est (p + 1 + j) l b x m z h ns (slice m z marks'))
                     ∙ rw (v, u, nets-more j m z x w f c marks marks' read.keep le wl fl cl on.inside);
               }

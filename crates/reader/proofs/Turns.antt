@@ -23,10 +23,13 @@ use Rattle.text.proofs.Lines.{parts-on, parts_last}
 use Rattle.lines.specs.Line.{book}
 use Rattle.lines.specs.Late.{Asking, answered, CallRead}
 use Rattle.lines.specs.declared.Ask.{Ask}
-use Rattle.lines.specs.declared.Ask.TheVariants.{Asks, Nothing}
+use Rattle.std.specs.Prelude.{Option, Some, None, Ok, Err}
+use Rattle.refusal.specs.declared.Refusal.{Refusal}
+use Rattle.refusal.specs.declared.Refusal.TheVariants.{BadlyWritten, TooManyCalls}
+use Rattle.refusal.specs.Number.{number_of, refused_at}
+use Rattle.refusal.proofs.Results.{err-ok}
 use Rattle.reader.specs.Seen.{CallsRead}
 use Rattle.reader.proofs.CallTable.{entries-more, same-calls, calls-put, entries-put}
-use Rattle.reader.specs.declared.Ended.TheVariants.{Up, Stop}
 
 lines-stopped : (limits : Limits) (n q m : ℕ) (ls : List (List ℕ)) → lines limits n (stopped q m) ls ≡ stopped q m
 unfolding lines ending line
@@ -136,9 +139,6 @@ module _ (limits : Limits) (est : Bool) (l b m : ℕ) (h : Hypergraph) (cs : Lis
           (λ x xs. ap (λ (t : Bool). cond t (stopped 7 n) (stopped 2 n)) (is-full u))
 
 -- ---- the lines of calls
-pub stop-up : {A : Type 0} {q n c : ℕ} → Stop q n ≡ Up c → A
-stop-up e = absurd (let z : ◌≡◌ {A = ℕ} 0 1 = cc in omega arith)
-
 -- c calls are read, up to the cursor i, with so many operands in use: half as many as the bytes before it at most
 pub record OnCalls (s : List ℕ) (at n : ℕ) (t₀ ops₀ t ops : List ℕ) (i c used : ℕ) : Type 0 where
   pub i-le : i ≤ length s
@@ -173,7 +173,7 @@ calls-start s at n t ops a short b c d = record {
 }
 
 module _ (s : List ℕ) (at n : ℕ) (t₀ ops₀ t ops : List ℕ) (i c used : ℕ) (on : OnCalls s at n t₀ ops₀ t ops i c used) where
-  pub calls-done : i ≡ length s → CallsRead s at n (Up c) t ops
+  pub calls-done : i ≡ length s → CallsRead s at n (Ok c) t ops
   calls-done e = record {
     known = λ d q. let z : c ≡ d = cc in (omega (arith, on.c-le), rw (← z) on.count);
     entries = λ d q. let z : c ≡ d = cc in rw (← z) (entries-more used (length ops) c t (omega (arith, on.room, on.i-le, on.short, on.ops-wide)) on.entries);
@@ -182,28 +182,40 @@ module _ (s : List ℕ) (at n : ℕ) (t₀ ops₀ t ops : List ℕ) (i c used : 
 
   module _ (lt : i < length s) where
     -- the file is turned down, and the operands may have changed
-    stops : (ops' : List ℕ) (q k : ℕ) → ((limits : Limits) (est : Bool) (l b m : ℕ) (h : Hypergraph) → whole (book est l b h m []) ≡ true
-        → lines limits (n + c) (reading (book est l b h m (calls_of ops c t))) (parts 10 (slice i (length s) s)) ≡ stopped q k) → CallsRead s at n (Stop q k) t ops'
-    stops ops' q k f = record { known = λ d z. stop-up z; entries = λ d z. stop-up z; says = λ limits est l b m h w. sym (on.says limits est l b m h w ∙ f limits est l b m h w) }
+    stops : (ops' : List ℕ) (q : Refusal) (k : ℕ) → ((limits : Limits) (est : Bool) (l b m : ℕ) (h : Hypergraph) → whole (book est l b h m []) ≡ true
+        → lines limits (n + c) (reading (book est l b h m (calls_of ops c t))) (parts 10 (slice i (length s) s)) ≡ stopped (number_of q) k) → CallsRead s at n (Err (refused_at q k)) t ops'
+    stops ops' q k f = record { known = λ d z. err-ok z; entries = λ d z. err-ok z; says = λ limits est l b m h w. sym (on.says limits est l b m h w ∙ f limits est l b m h w) }
 
-    pub calls-full : c ≡ 512 → CallsRead s at n (Stop 7 (n + c)) t ops
-    calls-full e = stops ops 7 (n + c) (λ limits est l b m h w. call-full limits est l b m h (calls_of ops c t) w (n + c) s (length s) i lt (omega arith) (omega (arith, on.count)))
+    pub calls-full : c ≡ 512 → CallsRead s at n (Err (refused_at TooManyCalls (n + c))) t ops
+    calls-full e = stops ops TooManyCalls (n + c) (λ limits est l b m h w. call-full limits est l b m h (calls_of ops c t) w (n + c) s (length s) i lt (omega arith) (omega (arith, on.count)))
 
     module _ (e : ℕ) (found : FirstAt s i (length s) 10 e) (room : c < 512) where
-      pub calls-unended : e ≡ length s → CallsRead s at n (Stop 2 (n + c)) t ops
-      calls-unended x = stops ops 2 (n + c) (λ limits est l b m h w. unended limits s (length s) i e (n + c) lt (omega arith) found (reading (book est l b h m (calls_of ops c t))) (stopped 2 (n + c)) x (call-unended limits est l b m h (calls_of ops c t) w (n + c) (omega (arith, on.count))))
+      pub calls-unended : e ≡ length s → CallsRead s at n (Err (refused_at BadlyWritten (n + c))) t ops
+      calls-unended x = stops ops BadlyWritten (n + c) (λ limits est l b m h w. unended limits s (length s) i e (n + c) lt (omega arith) found (reading (book est l b h m (calls_of ops c t))) (stopped 2 (n + c)) x (call-unended limits est l b m h (calls_of ops c t) w (n + c) (omega (arith, on.count))))
 
       module _ (more : e < length s) where
         -- where `call_line` answered r
-        module _ (r : Ask) (ops' : List ℕ) (read : CallRead (fields (slice i e s)) e used r ops ops') where
-          pub calls-bad : r ≡ Nothing → CallsRead s at n (Stop 2 (n + c)) t ops'
+        module _ (r : Option Ask) (ops' : List ℕ) (read : CallRead (fields (slice i e s)) e used r ops ops') where
+          pub calls-bad : r ≡ None → CallsRead s at n (Err (refused_at BadlyWritten (n + c))) t ops'
           calls-bad is =
-              let x : nothing ≡ asked (fields (slice i e s)) = subst (λ (y : Ask). answered (fields (slice i e s)) e used y ops') is read.says in
-              stops ops' 2 (n + c) (λ limits est l b m h w. turn-stop limits s (length s) i e (n + c) lt (omega arith) found (reading (book est l b h m (calls_of ops c t))) 2 (n + c) more (call-bad limits est l b m h (calls_of ops c t) w (n + c) (slice i e s) (omega (arith, on.count)) x))
+              let x : nothing ≡ asked (fields (slice i e s)) = subst (λ (y : Option Ask). answered (fields (slice i e s)) e used y ops') is read.says in
+              stops ops' BadlyWritten (n + c) (λ limits est l b m h w. turn-stop limits s (length s) i e (n + c) lt (omega arith) found (reading (book est l b h m (calls_of ops c t))) 2 (n + c) more (call-bad limits est l b m h (calls_of ops c t) w (n + c) (slice i e s) (omega (arith, on.count)) x))
 
-          module _ (k a b u : ℕ) (is : r ≡ Asks k a b u) where
+          module _ (y : Ask) (is : r ≡ Some y) where
+            abbrev k : ℕ
+            k = y.letter
+
+            abbrev a : ℕ
+            a = y.first
+
+            abbrev b : ℕ
+            b = y.second
+
+            abbrev u : ℕ
+            u = y.used
+
             x : Asking (fields (slice i e s)) e used k a b u ops'
-            x = subst (λ (y : Ask). answered (fields (slice i e s)) e used y ops') is read.says
+            x = subst (λ (y : Option Ask). answered (fields (slice i e s)) e used y ops') is read.says
 
             abbrev put : List ℕ
             put = set (set (set t (3 * c) k) (3 * c + 1) a) (3 * c + 2) b

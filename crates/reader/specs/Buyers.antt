@@ -1,5 +1,5 @@
 -- The buyers that the tables show, and what the buyers' lines are read as. Rests on Seen. Assumes nothing.
-use Rattle.std.specs.Prelude.{ℕ, zero, suc, ◌+◌, ◌≤◌, ◌<◌, ◌≡◌, Bool, List, [], ◌∷◌, ◌++◌, length, get_or}
+use Rattle.std.specs.Prelude.{ℕ, zero, suc, ◌+◌, ◌≤◌, ◌<◌, ◌≡◌, Bool, List, [], ◌∷◌, ◌++◌, length, get_or, Result, Ok, Err}
 use Rattle.std.proofs.Math.Seq.{slice}
 use Rattle.laws.specs.Sum.{sum}
 use Rattle.model.specs.Catalogue.{Limits, Net, Hypergraph, vertices}
@@ -8,7 +8,8 @@ use Rattle.model.specs.Through.{Stage, refused, through}
 use Rattle.lines.specs.Line.{book, Past}
 use Rattle.lines.specs.Mark.{Fresh}
 use Rattle.reader.specs.declared.Nets.{Nets}
-use Rattle.reader.specs.declared.Nets.TheVariants.{All, Cut}
+use Rattle.refusal.specs.declared.Refused.{Refused}
+use Rattle.refusal.specs.Number.{number_of}
 
 -- the first j buyers of the tables: weights, first places, how many marks, and the marks
 unfoldable pub nets_of : ℕ → List ℕ → List ℕ → List ℕ → List ℕ → List Net
@@ -29,14 +30,14 @@ pub record Laid (most j m : ℕ) (f₀ c₀ marks₀ f c marks : List ℕ) : Typ
   pub c-past : Past j c₀ c
 
 -- the buyers' lines, which follow line p: what is left to read, from the place where they end
-abbrev pub buys_seen : ℕ → Limits → List ℕ → Bool → ℕ → ℕ → Hypergraph → Nets → List ℕ → List ℕ → List ℕ → List ℕ → Stage
-buys_seen p limits s estimated l b h (All i m) w f c marks = through limits (p + 1 + b) (grown (p + b) (book estimated l b (with_nets h (nets_of b w f c marks)) m [])) (parts 10 (slice i (length s) s))
-buys_seen p limits s estimated l b h (Cut q n) w f c marks = refused q n
+abbrev pub buys_seen : ℕ → Limits → List ℕ → Bool → ℕ → ℕ → Hypergraph → Result Nets Refused → List ℕ → List ℕ → List ℕ → List ℕ → Stage
+buys_seen p limits s estimated l b h (Ok a) w f c marks = through limits (p + 1 + b) (grown (p + b) (book estimated l b (with_nets h (nets_of b w f c marks)) a.pins [])) (parts 10 (slice a.end (length s) s))
+buys_seen p limits s estimated l b h (Err e) w f c marks = refused (number_of e.refusal) e.line
 
-pub record BuysRead (p : ℕ) (s : List ℕ) (at most l b : ℕ) (r : Nets) (f₀ c₀ marks₀ w f c marks : List ℕ) : Type 0 where
-  pub inside : (i m : ℕ) → r ≡ All i m → i ≤ length s
-  pub w-len : (i m : ℕ) → r ≡ All i m → length w ≡ 1024
-  pub laid : (i m : ℕ) → r ≡ All i m → Laid most b m f₀ c₀ marks₀ f c marks
+pub record BuysRead (p : ℕ) (s : List ℕ) (at most l b : ℕ) (r : Result Nets Refused) (f₀ c₀ marks₀ w f c marks : List ℕ) : Type 0 where
+  pub inside : (a : Nets) → r ≡ Ok a → a.end ≤ length s
+  pub w-len : (a : Nets) → r ≡ Ok a → length w ≡ 1024
+  pub laid : (a : Nets) → r ≡ Ok a → Laid most b a.pins f₀ c₀ marks₀ f c marks
   pub says : (limits : Limits) (estimated : Bool) (h : Hypergraph) → limits.pin_limit ≡ most → vertices h ≡ l → buys_seen p limits s estimated l b h r w f c marks ≡ through limits (p + 1) (grown p (book estimated l b (with_nets h []) 0 [])) (parts 10 (slice at (length s) s))
 
 -- what the buyers' lines presume of their tables: lengths, and that no lot is stamped

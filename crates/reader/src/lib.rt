@@ -11,31 +11,35 @@ ghost use Rattle.reader.specs.Seen.{CallsRead, LotsRead};
 ghost use Rattle.reader.specs.Buyers.{BuysRead, BuysReady};
 ghost use Rattle.reader.specs.Whole.{average_of, Long, Ready, overfull_is, NetsRead, BodyRead, CatalogueRead};
 
-use lines::{Ask, Buy, Head, Limits, Lot};
+use lines::{Head, Limits};
+use refusal::{Refusal, Refused};
 
-// How the buyers' lines ended: where, and with how many marks; or refused with the refusal's number and the line's.
-#[derive(Clone, Copy)]
-pub enum Nets {
-    All(usize, usize),
-    Cut(u8, usize),
+// Where the buyers' lines end, and how many marks they have.
+#[derive(Clone, Copy, Debug, PartialEq, Eq)]
+pub struct Nets {
+    pub end: usize,
+    pub pins: usize,
 }
 
-// A catalogue: lots, buyers, sessions, slack, marks and the place behind its last line; or the refusal's number and the line's.
-#[derive(Clone, Copy)]
-pub enum Catalogue {
-    Taken(u32, u32, u32, u32, usize, usize),
-    Refused(u8, usize),
+// A catalogue: lots, buyers, sessions, slack, marks and the place behind its last line.
+#[derive(Clone, Copy, Debug, PartialEq, Eq)]
+pub struct Catalogue {
+    pub vertices: u32,
+    pub nets: u32,
+    pub blocks: u32,
+    pub imbalance: u32,
+    pub pins: usize,
+    pub end: usize,
 }
 
-// How a run of lines ended: with a number, or refused with the refusal's number and the line's.
-#[derive(Clone, Copy)]
-pub enum Ended {
-    Up(usize),
-    Stop(u8, usize),
-}
-
-// Reads the call lines, the first of which is the n-th line. A line has at most half as many operands as bytes, so that all have room.
-pub fn read_calls(s: &[u8], at: usize, n: usize, calls: &mut [u32], operands: &mut [u32]) -> Ended
+// Reads the call lines, the first of which is the n-th line, and says how many there are. A line has at most half as many operands as bytes, so that all have room.
+pub fn read_calls(
+    s: &[u8],
+    at: usize,
+    n: usize,
+    calls: &mut [u32],
+    operands: &mut [u32],
+) -> Result<usize, Refused>
     requires { (at ≤ length s.now) × (length s.now ≤ 60000) × (n ≤ 4096) × (1536 ≤ length calls.old) × (30000 ≤ length operands.old) }
     ensures { CallsRead s.now at n result calls.new operands.new }
 {
@@ -43,33 +47,30 @@ pub fn read_calls(s: &[u8], at: usize, n: usize, calls: &mut [u32], operands: &m
     let mut i = at;
     let mut c: usize = 0;
     let mut used: usize = 0;
+    // No for: a line begins where the last one ended.
     while i < len {
         if c == 512 {
-            return Ended::Stop(7, n + c);
+            return Err(Refusal::TooManyCalls.at(n + c));
         }
         let e = text::line_end(s, i, len);
         if e == len {
-            return Ended::Stop(2, n + c);
+            return Err(Refusal::BadlyWritten.at(n + c));
         }
-        match lines::call_line(s, i, e, used, operands) {
-            Ask::Nothing => {
-                return Ended::Stop(2, n + c);
-            }
-            Ask::Asks(k, a, b, u) => {
-                let x = 3 * c;
-                calls[x] = k;
-                calls[x + 1] = a;
-                calls[x + 2] = b;
-                c += 1;
-                used = u;
-            }
-        }
+        let Some(call) = lines::call_line(s, i, e, used, operands) else {
+            return Err(Refusal::BadlyWritten.at(n + c));
+        };
+        let x = 3 * c;
+        calls[x] = call.letter;
+        calls[x + 1] = call.first;
+        calls[x + 2] = call.second;
+        c += 1;
+        used = call.used;
         i = e + 1;
     }
-    Ended::Up(c)
+    Ok(c)
 }
 
-// Reads the lot lines of a catalogue whose first line is the given one.
+// Reads the lot lines of a catalogue whose first line is the given one, and says where they end.
 fn read_vertices(
     s: &[u8],
     at: usize,
@@ -81,34 +82,26 @@ fn read_vertices(
     draft: &mut [u16],
     fixed: &mut [u16],
     lows: &mut [u32; 1024],
-) -> Ended
+) -> Result<usize, Refused>
     requires { (at ≤ length s.now) × (1 ≤ vertices) × (vertices ≤ 1024) × (vertices ≤ length weights.old) × (vertices ≤ length draft.old) × (vertices ≤ length fixed.old)
         × (length lows.old ≡ 1024) × (line ≤ 60001) }
     ensures { LotsRead line s.now at vertices blocks estimated result weights.old draft.old fixed.old weights.new draft.new fixed.new lows.new }
 {
     let len = s.len();
     let mut i = at;
-    let mut k: usize = 0;
-    while k < vertices {
+    for k in 0..vertices {
         let e = text::line_end(s, i, len);
         if e == len {
-            return Ended::Stop(2, line + k + 1);
+            return Err(Refusal::BadlyWritten.at(line + k + 1));
         }
-        match lines::lot_line(s, i, e, blocks, estimated) {
-            Lot::NoLot(q) => {
-                return Ended::Stop(q, line + k + 1);
-            }
-            Lot::Of(low, high, b, f) => {
-                weights[k] = high;
-                draft[k] = b;
-                fixed[k] = f as u16;
-                lows[k] = low;
-            }
-        }
-        k += 1;
+        let lot = lines::lot_line(s, i, e, blocks, estimated).map_err(|q| q.at(line + k + 1))?;
+        weights[k] = lot.high;
+        draft[k] = lot.block;
+        fixed[k] = u16::from(lot.fixed);
+        lows[k] = lot.low;
         i = e + 1;
     }
-    Ended::Up(i)
+    Ok(i)
 }
 
 // Reads the buyers' lines, which follow line `last`, the last lot's; `most` is the limit of marks.
@@ -124,20 +117,19 @@ fn read_nets(
     loadedsizes: &mut [u16],
     loadedpins: &mut [u16],
     stamps: &mut [u16; 1024],
-) -> Nets
+) -> Result<Nets, Refused>
     requires { (last ≤ 65535) × BuysReady s.now at most vertices nets netweights.old firsts.old loadedsizes.old loadedpins.old stamps.old }
     ensures { BuysRead last s.now at most vertices nets result firsts.old loadedsizes.old loadedpins.old netweights.new firsts.new loadedsizes.new loadedpins.new }
 {
     let len = s.len();
     let mut i = at;
-    let mut j: usize = 0;
     let mut m: usize = 0;
-    while j < nets {
+    for j in 0..nets {
         let e = text::line_end(s, i, len);
         if e == len {
-            return Nets::Cut(2, last + 1 + j);
+            return Err(Refusal::BadlyWritten.at(last + 1 + j));
         }
-        match lines::buy_line(
+        let buyer = lines::buy_line(
             s,
             i,
             e,
@@ -147,21 +139,15 @@ fn read_nets(
             m,
             loadedpins,
             stamps,
-        ) {
-            Buy::NoBuy(q) => {
-                return Nets::Cut(q, last + 1 + j);
-            }
-            Buy::Bought(w, z) => {
-                netweights[j] = w;
-                firsts[j] = m as u16;
-                loadedsizes[j] = (z - m) as u16;
-                m = z;
-            }
-        }
-        j += 1;
+        )
+        .map_err(|q| q.at(last + 1 + j))?;
+        netweights[j] = buyer.weight;
+        firsts[j] = m as u16;
+        loadedsizes[j] = (buyer.pins - m) as u16;
+        m = buyer.pins;
         i = e + 1;
     }
-    Nets::All(i, m)
+    Ok(Nets { end: i, pins: m })
 }
 
 // The weights of the first n vertices together.
@@ -169,11 +155,9 @@ fn total_weight(weights: &[u32], n: usize) -> u64
     requires { (n ≤ 1024) × (n ≤ length weights.now) }
     ensures { (result ≡ sum_over (take n weights.now) (λ w. w)) × (result ≤ n * 4294967295) }
 {
-    let mut i = 0;
     let mut t: u64 = 0;
-    while i < n {
-        t += weights[i] as u64;
-        i += 1;
+    for w in &weights[..n] {
+        t += u64::from(*w);
     }
     t
 }
@@ -223,26 +207,21 @@ pub fn overfull(
     ensures { overfull_is vertices blocks imbalance weights.now draft.now lows.now result }
 {
     let most = capacity(average_weight(lows, vertices as usize, blocks), imbalance);
-    let mut b: u32 = 0;
-    while b < blocks {
-        b += 1;
-        if most < block_weights::block_weight(weights, draft, vertices as usize, b) {
+    for b in 0..blocks {
+        if most < block_weights::block_weight(weights, draft, vertices as usize, b + 1) {
             return true;
         }
     }
     false
 }
 
-// What follows the lot lines, of which the last is line `last`: 6 is tested on the catalogue's last line.
+// What follows the lot lines, of which the last is line `last`: DraftAboveCap is tested on the catalogue's last line.
 fn after_vertices(
     s: &[u8],
     at: usize,
     last: usize,
     most: usize,
-    vertices: u32,
-    nets: u32,
-    blocks: u32,
-    imbalance: u32,
+    head: Head,
     weights: &[u32],
     draft: &[u16],
     netweights: &mut [u16; 1024],
@@ -251,31 +230,35 @@ fn after_vertices(
     loadedsizes: &mut [u16],
     loadedpins: &mut [u16],
     stamps: &mut [u16; 1024],
-) -> Nets
-    requires { (last ≤ 65535) × Ready s.now at most vertices nets blocks imbalance weights.now draft.now netweights.old lows.now firsts.old loadedsizes.old loadedpins.old stamps.old }
-    ensures { NetsRead last s.now at most vertices nets blocks imbalance result weights.now draft.now lows.now firsts.old loadedsizes.old loadedpins.old netweights.new firsts.new loadedsizes.new loadedpins.new }
+) -> Result<Nets, Refused>
+    requires { (last ≤ 65535) × Ready s.now at most head.vertices head.nets head.blocks head.imbalance weights.now draft.now netweights.old lows.now firsts.old loadedsizes.old loadedpins.old stamps.old }
+    ensures { NetsRead last s.now at most head.vertices head.nets head.blocks head.imbalance result weights.now draft.now lows.now firsts.old loadedsizes.old loadedpins.old netweights.new firsts.new loadedsizes.new loadedpins.new }
 {
-    match read_nets(
+    let read = read_nets(
         s,
         at,
         last,
         most,
-        vertices,
-        nets as usize,
+        head.vertices,
+        head.nets as usize,
         netweights,
         firsts,
         loadedsizes,
         loadedpins,
         stamps,
-    ) {
-        Nets::Cut(q, n) => Nets::Cut(q, n),
-        Nets::All(i, m) => {
-            if overfull(vertices, blocks, imbalance, weights, draft, lows) {
-                return Nets::Cut(6, last + nets as usize);
-            }
-            Nets::All(i, m)
-        }
+    )?;
+    let over = overfull(
+        head.vertices,
+        head.blocks,
+        head.imbalance,
+        weights,
+        draft,
+        lows,
+    );
+    if over {
+        return Err(Refusal::DraftAboveCap.at(last + head.nets as usize));
     }
+    Ok(read)
 }
 
 // What follows a catalogue's first line, which is the given one.
@@ -284,11 +267,7 @@ fn after_head(
     at: usize,
     line: usize,
     most: usize,
-    vertices: u32,
-    nets: u32,
-    blocks: u32,
-    imbalance: u32,
-    estimated: bool,
+    head: Head,
     weights: &mut [u32],
     draft: &mut [u16],
     fixed: &mut [u16],
@@ -297,44 +276,39 @@ fn after_head(
     firsts: &mut [u16],
     loadedsizes: &mut [u16],
     loadedpins: &mut [u16],
-) -> Nets
-    requires { (at ≤ length s.now) × (line ≤ 60001) × InRange main_limits vertices nets blocks imbalance
-        × (vertices ≤ length fixed.old) × Long vertices most weights.old draft.old netweights.old lows.old firsts.old loadedsizes.old loadedpins.old }
-    ensures { BodyRead line s.now at most vertices nets blocks imbalance estimated result weights.old draft.old fixed.old firsts.old loadedsizes.old loadedpins.old weights.new draft.new fixed.new netweights.new lows.new firsts.new loadedsizes.new loadedpins.new }
+) -> Result<Nets, Refused>
+    requires { (at ≤ length s.now) × (line ≤ 60001) × InRange main_limits head.vertices head.nets head.blocks head.imbalance
+        × (head.vertices ≤ length fixed.old) × Long head.vertices most weights.old draft.old netweights.old lows.old firsts.old loadedsizes.old loadedpins.old }
+    ensures { BodyRead line s.now at most head.vertices head.nets head.blocks head.imbalance head.estimated result weights.old draft.old fixed.old firsts.old loadedsizes.old loadedpins.old weights.new draft.new fixed.new netweights.new lows.new firsts.new loadedsizes.new loadedpins.new }
 {
     let mut stamps = [0u16; 1024];
-    match read_vertices(
+    let i = read_vertices(
         s,
         at,
         line,
-        vertices as usize,
-        blocks as u16,
-        estimated,
+        head.vertices as usize,
+        head.blocks as u16,
+        head.estimated,
         weights,
         draft,
         fixed,
         lows,
-    ) {
-        Ended::Stop(q, n) => Nets::Cut(q, n),
-        Ended::Up(i) => after_vertices(
-            s,
-            i,
-            line + vertices as usize,
-            most,
-            vertices,
-            nets,
-            blocks,
-            imbalance,
-            weights,
-            draft,
-            netweights,
-            lows,
-            firsts,
-            loadedsizes,
-            loadedpins,
-            &mut stamps,
-        ),
-    }
+    )?;
+    after_vertices(
+        s,
+        i,
+        line + head.vertices as usize,
+        most,
+        head,
+        weights,
+        draft,
+        netweights,
+        lows,
+        firsts,
+        loadedsizes,
+        loadedpins,
+        &mut stamps,
+    )
 }
 
 // Reads a catalogue into the tables: it begins at place `at`, and its first line is the given one.
@@ -351,40 +325,38 @@ pub fn read_catalogue(
     firsts: &mut [u16],
     loadedsizes: &mut [u16],
     loadedpins: &mut [u16],
-) -> Catalogue
+) -> Result<Catalogue, Refused>
     requires { (at ≤ length s.now) × (line ≤ 60001) × Within (limits_of limits) × (limits.lots ≤ length fixed.old)
         × Long limits.lots limits.marks weights.old draft.old netweights.old lows.old firsts.old loadedsizes.old loadedpins.old }
     ensures { CatalogueRead (limits_of limits) line s.now at result weights.old draft.old fixed.old firsts.old loadedsizes.old loadedpins.old weights.new draft.new fixed.new netweights.new lows.new firsts.new loadedsizes.new loadedpins.new }
 {
     let len = s.len();
-    let most = limits.marks as usize;
     let e = text::line_end(s, at, len);
     if e == len {
-        return Catalogue::Refused(2, line);
+        return Err(Refusal::BadlyWritten.at(line));
     }
-    match lines::sale_line(s, at, e, limits) {
-        Head::NoSale(q) => Catalogue::Refused(q, line),
-        Head::Sale(vertices, nets, blocks, imbalance, estimated) => match after_head(
-            s,
-            e + 1,
-            line,
-            most,
-            vertices,
-            nets,
-            blocks,
-            imbalance,
-            estimated,
-            weights,
-            draft,
-            fixed,
-            netweights,
-            lows,
-            firsts,
-            loadedsizes,
-            loadedpins,
-        ) {
-            Nets::Cut(q, n) => Catalogue::Refused(q, n),
-            Nets::All(i, m) => Catalogue::Taken(vertices, nets, blocks, imbalance, m, i),
-        },
-    }
+    let head = lines::sale_line(s, at, e, limits).map_err(|q| q.at(line))?;
+    let nets = after_head(
+        s,
+        e + 1,
+        line,
+        limits.marks as usize,
+        head,
+        weights,
+        draft,
+        fixed,
+        netweights,
+        lows,
+        firsts,
+        loadedsizes,
+        loadedpins,
+    )?;
+    Ok(Catalogue {
+        vertices: head.vertices,
+        nets: head.nets,
+        blocks: head.blocks,
+        imbalance: head.imbalance,
+        pins: nets.pins,
+        end: nets.end,
+    })
 }

@@ -3,7 +3,7 @@ use Prim.Native.Nat.{ℕ, ◌+◌, ◌-◌, ◌*◌, ◌^◌, ◌≤◌, ◌<◌
 use native.Mathlib.Omega.{arith}
 use native.Mathlib.Nat.{one-le-pow}
 use mathlib.Core.Path.{◌≡◌, refl, ap, sym, ◌∙◌}
-use mathlib.Core.Bool.{Bool, true, false, ◌&&◌, true≢false}
+use mathlib.Core.Bool.{Bool, true, false, ◌&&◌}
 use mathlib.Core.List.{List, [], ◌∷◌}
 use borrow.Author.Tests.{le-leb, lt-leb}
 use lib.Dec.{leb}
@@ -14,26 +14,16 @@ use Rattle.model.specs.Grammar.{is_digit, is_number, onward, value}
 use Rattle.text.specs.Field.{first}
 use Rattle.text.proofs.Walk.{slice_at, slice-head, first-here, first_on, first-none}
 use Rattle.text.proofs.Numbers.{all_digits, all_none, empty-bad, long-bad, zero-bad, other-bad, well, value-from, onward-cons, onward-none, ten-room, ten-more}
-use Rattle.spaced.specs.Row.{DigitsRead, WordRead}
+use Rattle.spaced.specs.Row.{DigitsRead, NoWord, WordRead}
 use Rattle.spaced.proofs.Words.{word_end, word-found}
 
 -- ---- a word that is no number
 module _ (s : List ℕ) (at end : ℕ) where
-  refused : at ≤ end → is_number (slice at (word_end s at end) s) ≡ false → (r : Bool) (v e : ℕ) → r ≡ false → e ≡ at → WordRead s at end r v e
-  refused le n r v e q z = record {
-    low = omega arith;
-    high = omega arith;
-    ends = λ y. absurd (true≢false (sym y ∙ q));
-    is = λ y. absurd (true≢false (sym y ∙ q));
-    value-is = λ y. absurd (true≢false (sym y ∙ q));
-    none = λ _ d found. let same : word_end s at end ≡ d = omega (arith, found.is) in ap (λ (k : ℕ). is_number (slice at k s)) (sym same) ∙ n;
-  }
+  refused : is_number (slice at (word_end s at end) s) ≡ false → NoWord s at end
+  refused n = record { none = λ d found. let same : word_end s at end ≡ d = omega (arith, found.is) in ap (λ (k : ℕ). is_number (slice at k s)) (sym same) ∙ n }
 
   -- digits that end where the word does
   module _ (e v : ℕ) (within : e ≤ length s) (read : DigitsRead s at end e v) where
-    le : at ≤ end
-    le = omega (arith, read.ends.low, read.ends.high)
-
     whole : word_end s at end ≡ e
     whole = sym read.ends.is
 
@@ -43,21 +33,20 @@ module _ (s : List ℕ) (at end : ℕ) where
     unlike : is_number (slice at e s) ≡ false → is_number (slice at (word_end s at end) s) ≡ false
     unlike n = ap (λ (k : ℕ). is_number (slice at k s)) whole ∙ n
 
-    pub digits-none : at ≡ e → (r : Bool) (x d : ℕ) → r ≡ false → d ≡ at → WordRead s at end r x d
-    digits-none z = refused le (unlike (empty-bad (slice at e s) (omega (arith, size))))
+    pub digits-none : at ≡ e → NoWord s at end
+    digits-none z = refused (unlike (empty-bad (slice at e s) (omega (arith, size))))
 
-    pub digits-zero : 1 < e - at → get_or s at 0 ≡ 48 → (r : Bool) (x d : ℕ) → r ≡ false → d ≡ at → WordRead s at end r x d
-    digits-zero more z = refused le (unlike (zero-bad (slice at e s) (omega (arith, size)) (slice-head s at e (omega arith) within ∙ z)))
+    pub digits-zero : 1 < e - at → get_or s at 0 ≡ 48 → NoWord s at end
+    digits-zero more z = refused (unlike (zero-bad (slice at e s) (omega (arith, size)) (slice-head s at e (omega arith) within ∙ z)))
 
-    pub digits-here : (at ≡ e → ⊥) → (1 < e - at → get_or s at 0 ≡ 48 → ⊥) → WordRead s at end true v e
+    pub digits-here : (at ≡ e → ⊥) → (1 < e - at → get_or s at 0 ≡ 48 → ⊥) → WordRead s at end v e
     digits-here some head = record {
       low = read.ends.low;
       high = read.ends.high;
-      ends = λ _. read.ends;
-      is = λ _. well (slice at e s) (omega (arith, size, read.ends.low)) (omega (arith, size, read.short))
+      ends = read.ends;
+      is = well (slice at e s) (omega (arith, size, read.ends.low)) (omega (arith, size, read.short))
           (λ more z. head (omega (arith, size)) (sym (slice-head s at e (omega (arith, size)) (omega (arith, read.ends.high))) ∙ z)) read.digits;
-      value-is = λ _. read.is;
-      none = λ z. absurd (true≢false z);
+      value-is = read.is;
     }
 
 -- ---- digit by digit
@@ -110,18 +99,18 @@ module _ (s : List ℕ) (at end v i : ℕ) (le : at ≤ end) (within : end ≤ l
     digit-next : (t : Bool) → is_digit (get_or s i 0) ≡ t → all (slice at e s) is_digit ≡ (t && all (slice (i + 1) e s) is_digit)
     digit-next t q = on.digits ∙ ap (λ (l : List ℕ). all l is_digit) split ∙ all_digits (get_or s i 0) (slice (i + 1) e s) t q
 
-    pub word-other : is_digit (get_or s i 0) ≡ false → (r : Bool) (x d : ℕ) → r ≡ false → d ≡ at → WordRead s at end r x d
-    word-other n = refused s at end le (other-bad (slice at e s) (digit-next false n))
+    pub word-other : is_digit (get_or s i 0) ≡ false → NoWord s at end
+    word-other n = refused s at end (other-bad (slice at e s) (digit-next false n))
 
-    pub word_low : get_or s i 0 < 48 → (r : Bool) (x d : ℕ) → r ≡ false → d ≡ at → WordRead s at end r x d
+    pub word_low : get_or s i 0 < 48 → NoWord s at end
     word_low h = word-other (ap (λ (b : Bool). b && leb (get_or s i 0) 57) (lt-leb 48 (get_or s i 0) h))
 
     module _ (h : 48 ≤ get_or s i 0) where
-      pub word-high : 57 < get_or s i 0 → (r : Bool) (x d : ℕ) → r ≡ false → d ≡ at → WordRead s at end r x d
+      pub word-high : 57 < get_or s i 0 → NoWord s at end
       word-high k = word-other (ap (λ (b : Bool). b && leb (get_or s i 0) 57) (le-leb 48 (get_or s i 0) h) ∙ lt-leb (get_or s i 0) 57 k)
 
-      pub word-long : 9 ≤ i - at → (r : Bool) (x d : ℕ) → r ≡ false → d ≡ at → WordRead s at end r x d
-      word-long k = refused s at end le (long-bad (slice at e s) (omega (arith, length-slice at e s ends, inside, on.low)))
+      pub word-long : 9 ≤ i - at → NoWord s at end
+      word-long k = refused s at end (long-bad (slice at e s) (omega (arith, length-slice at e s ends, inside, on.low)))
 
       module _ (k : get_or s i 0 ≤ 57) (few : i - at < 9) where
         pub word_room : v < 100000000

@@ -1,5 +1,5 @@
 -- The numbers of a line one by one, and an edge's line: its weight, its vertices checked and written. Rests on Words and Stamps.
-use Prim.Native.Nat.{ℕ, zero, suc, ◌+◌, ◌-◌, ◌*◌, ◌≤◌, ◌<◌}
+use Prim.Native.Nat.{ℕ, zero, suc, ◌+◌, ◌*◌, ◌≤◌, ◌<◌}
 use native.Mathlib.Nat.{zero-add}
 use native.Mathlib.Omega.{arith}
 use mathlib.Core.Path.{◌≡◌, refl, ap, ap₂, sym, ◌∙◌, subst}
@@ -9,6 +9,8 @@ use borrow.Author.Tests.{leb-true, le-leb, lt-leb}
 use lib.Dec.{eqb, leb}
 use lib.ListN.{length, get_or, set, length-append, length-map}
 use lib.Seq.{slice}
+use Rattle.std.specs.Prelude.{Option, MatchOption, is_some}
+use Rattle.std.proofs.lemmas.Bool.{some_since}
 use Rattle.laws.specs.Fold.{any, all}
 use Rattle.model.specs.Grammar.{Fields, is_number, value, at, within, bytes}
 use Rattle.model.specs.Report.{digits, tail, row}
@@ -18,8 +20,8 @@ use Rattle.fields.specs.Wrote.{Wrote, Remains}
 use Rattle.fields.proofs.Laws.{remains-all, remains-more, remains-none, remains-room, wrote_one}
 use Rattle.model.specs.Hmetis.{words, numbers_in, Edge, is_edge, edge_from, edge_of}
 use Rattle.model.specs.Convert.{named, is_carried}
-use Rattle.spaced.specs.Row.{Skipped, Numbers, weight_in, pin_words, WordRead, LeadRead}
-use Rattle.spaced.specs.Pins.{Fresh, Stamped, StampOne, commas, PinsChecked, edge_row, EdgeChecked}
+use Rattle.spaced.specs.Row.{Skipped, Numbers, weight_in, pin_words, NoWord, WordRead, LeadRead}
+use Rattle.spaced.specs.Pins.{Fresh, Stamped, StampOne, commas, NoPins, PinsChecked, edge_row, EdgeChecked}
 use Rattle.spaced.proofs.Words.{words_last, words-on, words-first, word_number, words-rest, numbers-counted, count-last, count-on, word_count}
 use Rattle.spaced.proofs.Stamps.{stamped-none}
 
@@ -66,49 +68,45 @@ behind-form : (l : List ℕ) (ws : Fields) → counted 0 (words l) ≡ counted 1
 unfolding is_edge
 behind-form l ws e = ap (leb 2) (numbers-counted l ∙ e) ∙ two-form ws
 
-module _ (s : List ℕ) (at end : ℕ) (le : at ≤ end) (within : end ≤ length s) where
-  pub lead_plain : (weighted : Bool) → weighted ≡ false → LeadRead s at end weighted true 1 at
-  lead_plain true q = absurd (true≢false q)
-  lead_plain false q = record { low = omega arith; high = le; bad = λ z. absurd (true≢false z); form = λ _. plain_form (slice at end s); weight_is = λ _. refl; pins-are = λ _. refl }
+pub lead_plain : (s : List ℕ) (at end : ℕ) → at ≤ end → (weighted : Bool) → weighted ≡ false → LeadRead s at end weighted 1 at
+lead_plain s at end le true q = absurd (true≢false q)
+lead_plain s at end le false q = record {
+  low = omega arith;
+  high = le;
+  form = plain_form (slice at end s);
+  weight_is = refl;
+  pins-are = refl;
+}
 
-  lead-few : (weighted : Bool) → weighted ≡ true → numbers_in (slice at end s) ≤ 1 → LeadRead s at end weighted false 0 end
-  lead-few false q few = absurd (true≢false (sym q))
-  lead-few true q few = record {
-    low = le;
-    high = omega arith;
-    bad = λ _. two-bad (slice at end s) few;
-    form = λ z. absurd (true≢false (sym z));
-    weight_is = λ z. absurd (true≢false (sym z));
-    pins-are = λ z. absurd (true≢false (sym z));
-  }
+module _ (s : List ℕ) (at end : ℕ) (le : at ≤ end) (within : end ≤ length s) (weighted : Bool) (q : weighted ≡ true) where
+  lead-few : numbers_in (slice at end s) ≤ 1 → is_edge weighted (slice at end s) ≡ false
+  lead-few few = ap (λ (b : Bool). is_edge b (slice at end s)) q ∙ two-bad (slice at end s) few
 
-  module _ (weighted : Bool) (q : weighted ≡ true) (well : Bool) (v e : ℕ) (word : WordRead s at end well v e) where
-    pub lead-bad : well ≡ false → LeadRead s at end weighted false 0 end
-    lead-bad z = lead-few weighted q (omega (arith, numbers-counted (slice at end s), word_count s at end le within well v e word z 0))
+  pub lead-bad : NoWord s at end → is_edge weighted (slice at end s) ≡ false
+  lead-bad word = lead-few (omega (arith, numbers-counted (slice at end s), word_count s at end le within word 0))
 
-    module _ (yes : well ≡ true) where
-      pub lead-short : e ≡ end → LeadRead s at end weighted false 0 end
-      lead-short z = lead-few weighted q (omega (arith, numbers-counted (slice at end s), count-last s at end e 0 le within (word.ends yes) (word.is yes) z))
+  module _ (v e : ℕ) (word : WordRead s at end v e) where
+    pub lead-short : e ≡ end → is_edge weighted (slice at end s) ≡ false
+    lead-short z = lead-few (omega (arith, numbers-counted (slice at end s), count-last s at end e 0 le within word.ends word.is z))
 
-      pub lead-behind : (f : ℕ) → e < end → Skipped s (e + 1) end f → LeadRead s at end weighted true v f
-      lead-behind f lt skipped = go weighted q
-        where
-          on : words (slice at end s) ≡ slice at e s ∷ words (slice f end s)
-          on = words-on s at end e le within (word.ends yes) f lt skipped
+    pub lead-behind : (f : ℕ) → e < end → Skipped s (e + 1) end f → LeadRead s at end weighted v f
+    lead-behind f lt skipped = go weighted q
+      where
+        on : words (slice at end s) ≡ slice at e s ∷ words (slice f end s)
+        on = words-on s at end e le within word.ends f lt skipped
 
-          count : counted 0 (words (slice at end s)) ≡ counted 1 (words (slice f end s))
-          count = count-on s at end e 0 le within (word.ends yes) (word.is yes) f lt skipped
+        count : counted 0 (words (slice at end s)) ≡ counted 1 (words (slice f end s))
+        count = count-on s at end e 0 le within word.ends word.is f lt skipped
 
-          go : (b : Bool) → b ≡ true → LeadRead s at end b true v f
-          go false z = absurd (true≢false (sym z))
-          go true z = record {
-            low = omega (arith, word.low, skipped.low);
-            high = skipped.high;
-            bad = λ x. absurd (true≢false x);
-            form = λ _. behind-form (slice at end s) (words (slice f end s)) count ∙ ap (leb 1) (sym (numbers-counted (slice f end s)));
-            weight_is = λ _. word.value-is yes ∙ sym (ap (weight_in true) on);
-            pins-are = λ _. sym (ap (pin_words true) on);
-          }
+        go : (b : Bool) → b ≡ true → LeadRead s at end b v f
+        go false z = absurd (true≢false (sym z))
+        go true z = record {
+          low = omega (arith, word.low, skipped.low);
+          high = skipped.high;
+          form = behind-form (slice at end s) (words (slice f end s)) count ∙ ap (leb 1) (sym (numbers-counted (slice f end s)));
+          weight_is = word.value-is ∙ sym (ap (weight_in true) on);
+          pins-are = sym (ap (pin_words true) on);
+        }
 
 -- ---- the i-th number
 pub record OnGet (s : List ℕ) (at end n i k : ℕ) : Type 0 where
@@ -116,21 +114,24 @@ pub record OnGet (s : List ℕ) (at end n i k : ℕ) : Type 0 where
   pub num : Numbers (slice i end s) k
   pub says : get_or (words (slice at end s)) n [] ≡ get_or (words (slice i end s)) k []
 
-later-at : (f : List ℕ) (fs : Fields) (k : ℕ) → 0 < k → get_or (f ∷ fs) k [] ≡ get_or fs (k - 1) []
-later-at f fs zero l = absurd (omega arith)
-later-at f fs (suc k) l = let z : suc k - 1 ≡ k = omega arith in rw z
+later-at : (f : List ℕ) (fs : Fields) (k m : ℕ) → k ≡ m + 1 → get_or (f ∷ fs) k [] ≡ get_or fs m []
+later-at f fs zero m e = absurd (omega arith)
+later-at f fs (suc k) m e = ap (λ (x : ℕ). get_or fs x []) (omega arith)
+
+pub get-start : (s : List ℕ) (at end n k : ℕ) → at ≤ end → Numbers (slice at end s) n → n ≡ k → OnGet s at end n at k
+get-start s at end n k le num q = subst (λ (x : ℕ). OnGet s at end n at x) q (record { high = le; num = num; says = refl })
 
 module _ (s : List ℕ) (at end n i k e : ℕ) (on : OnGet s at end n i k) (within : end ≤ length s) (found : FirstAt s i end 32 e) where
   pub get-short : 0 < k → e ≡ end → ⊥
   get-short l x = omega (arith, on.num.inside, ap length (words_last s i end e on.high within found x))
 
-  pub get-on : (j : ℕ) → 0 < k → e < end → Skipped s (e + 1) end j → OnGet s at end n j (k - 1)
-  get-on j l lt skipped =
+  pub get-on : (j m : ℕ) → k ≡ m + 1 → e < end → Skipped s (e + 1) end j → OnGet s at end n j m
+  get-on j m q lt skipped =
       let w = words-on s i end e on.high within found j lt skipped in
       record {
         high = skipped.high;
         num = record { inside = omega (arith, on.num.inside, ap length w); are = words-rest s i end e on.high within found on.num.are j lt skipped };
-        says = on.says ∙ ap (λ (ws : Fields). get_or ws k []) w ∙ later-at (slice i e s) (words (slice j end s)) k l;
+        says = on.says ∙ ap (λ (ws : Fields). get_or ws k []) w ∙ later-at (slice i e s) (words (slice j end s)) k m q;
       }
 
   pub get-number : is_number (slice i e s) ≡ true
@@ -200,19 +201,11 @@ pins-start s at end n j stamps le len fresh = record {
   size_is = zero-add _;
 }
 
-module _ (s : List ℕ) (at end n j : ℕ) (stamps : List ℕ) (i count : ℕ) (good : Bool) (size : ℕ) (on : OnPins s at end n j stamps i count good size) (within-s : end ≤ length s) (well : Bool) (v e : ℕ) (word : WordRead s i end well v e) where
-  pub pins-stop : well ≡ false → PinsChecked s at end n j 0 false 0 stamps
-  pins-stop q = record {
-    len = on.len;
-    below = λ z. absurd (omega arith);
-    few = omega (arith, on.few, on.high);
-    small = omega arith;
-    count-is = sym (on.count-is ∙ word_count s i end on.high within-s well v e word q count);
-    says = λ z. absurd (omega arith);
-    size_is = λ z. absurd (omega arith);
-  }
+module _ (s : List ℕ) (at end n j : ℕ) (stamps : List ℕ) (i count : ℕ) (good : Bool) (size : ℕ) (on : OnPins s at end n j stamps i count good size) (within-s : end ≤ length s) where
+  pub pins-stop : NoWord s i end → NoPins s at end stamps
+  pins-stop word = record { len = on.len; none = on.count-is ∙ word_count s i end on.high within-s word count }
 
-  module _ (yes : well ≡ true) (r : Bool) (stamps' : List ℕ) (one : StampOne v n j r stamps stamps') (g : Bool) (both : g ≡ (good && r)) (d : ℕ) (wide : d ≡ length (digits v)) (narrow : d ≤ 10) where
+  module _ (v e : ℕ) (word : WordRead s i end v e) (r : Bool) (stamps' : List ℕ) (one : StampOne v n j r stamps stamps') (g : Bool) (both : g ≡ (good && r)) (d : ℕ) (wide : d ≡ length (digits v)) (narrow : d ≤ 10) where
     said : (vs : List ℕ) → values_at s i end ≡ v ∷ vs → named n [] (values_at s at end) ≡ (g && named n (on.seen ++ (v ∷ [])) vs)
     said vs w =
         on.says ∙ ap (λ (l : List ℕ). good && named n on.seen l) w
@@ -222,20 +215,21 @@ module _ (s : List ℕ) (at end n j : ℕ) (stamps : List ℕ) (i count : ℕ) (
 
     pub pins-last : e ≡ end → PinsChecked s at end n j (count + 1) g (size + (1 + d)) stamps'
     pins-last q =
-        let w = values-last s i end e v on.high within-s (word.ends yes) (word.value-is yes) q in
+        let w = values-last s i end e v on.high within-s word.ends word.value-is q in
         record {
           len = one.len ∙ on.len;
-          below = λ z. (one.next on.seen on.stamped).below;
+          some = omega arith;
+          below = (one.next on.seen on.stamped).below;
           few = omega (arith, on.few, on.high);
           small = omega (arith, on.small);
-          count-is = sym (on.count-is ∙ count-last s i end e count on.high within-s (word.ends yes) (word.is yes) q);
-          says = λ z. sym (said [] w ∙ ap (λ (b : Bool). g && b) (named-nil n (on.seen ++ (v ∷ []))) ∙ and-true g);
-          size_is = λ z. omega (arith, on.size_is, ap (λ (vs : List ℕ). length (commas vs)) w, commas-cons v [], commas-nil);
+          count-is = sym (on.count-is ∙ count-last s i end e count on.high within-s word.ends word.is q);
+          says = sym (said [] w ∙ ap (λ (b : Bool). g && b) (named-nil n (on.seen ++ (v ∷ []))) ∙ and-true g);
+          size_is = omega (arith, on.size_is, ap (λ (vs : List ℕ). length (commas vs)) w, commas-cons v [], commas-nil);
         }
 
     pub pins-on : (k : ℕ) → e < end → Skipped s (e + 1) end k → OnPins s at end n j stamps' k (count + 1) g (size + (1 + d))
     pins-on k lt skipped =
-        let w = values-on s i end e v on.high within-s (word.ends yes) (word.value-is yes) k lt skipped in
+        let w = values-on s i end e v on.high within-s word.ends word.value-is k lt skipped in
         record {
           high = skipped.high;
           len = one.len ∙ on.len;
@@ -243,7 +237,7 @@ module _ (s : List ℕ) (at end n j : ℕ) (stamps : List ℕ) (i count : ℕ) (
           small = omega (arith, on.small);
           seen = on.seen ++ (v ∷ []);
           stamped = one.next on.seen on.stamped;
-          count-is = on.count-is ∙ count-on s i end e count on.high within-s (word.ends yes) (word.is yes) k lt skipped;
+          count-is = on.count-is ∙ count-on s i end e count on.high within-s word.ends word.is k lt skipped;
           says = said (values_at s k end) w;
           size_is = omega (arith, on.size_is, ap (λ (vs : List ℕ). length (commas vs)) w, commas-cons v (values_at s k end));
         }
@@ -299,58 +293,41 @@ edge_row_lem : (w : ℕ) (vs : List ℕ) → row "BUY" (numbers (w ∷ vs)) ≡ 
 unfolding row bytes tail
 edge_row_lem w vs = ap (λ (t : List ℕ). BUY ++ ((44 ∷ digits w) ++ t)) (tail-commas vs)
 
-module _ (s : List ℕ) (at end : ℕ) (weighted well : Bool) (w f : ℕ) (lead : LeadRead s at end weighted well w f) where
-  pub edge-bad : at ≤ end → (n j : ℕ) (stamps : List ℕ) → length stamps ≡ 1024 → well ≡ false → EdgeChecked s at end weighted n j 0 false 0 stamps
-  edge-bad le n j stamps len q = record {
-    len = len;
-    below = λ z. absurd (omega arith);
-    few = omega arith;
-    small = omega arith;
-    bad = λ _. lead.bad q;
-    form = λ z. absurd (omega arith);
-    says = λ z. absurd (omega arith);
-    count-is = λ z. absurd (omega arith);
-    size_is = λ z. absurd (omega arith);
-  }
+-- an edge's line has a lead
+pub no_lead : {A : Type 0} (l : List ℕ) (weighted : Bool) (r : Option A) (Q : A → Type 0) → MatchOption r (is_edge weighted l ≡ false) Q → is_edge weighted l ≡ true → is_some r ≡ true
+no_lead l weighted r Q told form = some_since r (is_edge weighted l ≡ false) Q told (λ q. true≢false (sym form ∙ q))
 
-  pub lead-well : is_edge weighted (slice at end s) ≡ true → well ≡ true
-  lead-well form = go well refl
-    where
-      go : (b : Bool) → well ≡ b → b ≡ true
-      go true q = refl
-      go false q = absurd (true≢false (sym form ∙ lead.bad q))
-
+module _ (s : List ℕ) (at end : ℕ) (weighted : Bool) (w f : ℕ) (lead : LeadRead s at end weighted w f) where
   pub lead-numbers : is_edge weighted (slice at end s) ≡ true → all (words (slice f end s)) is_number ≡ true
-  lead-numbers form = (numbers-are (slice f end s) 1 (omega arith) (sym (lead.form (lead-well form)) ∙ form)).0
+  lead-numbers form = (numbers-are (slice f end s) 1 (omega arith) (sym lead.form ∙ form)).0
 
-  module _ (yes : well ≡ true) where
-    edge-is : edge_of weighted (slice at end s) ≡ record { weight = w; pins = values_at s f end }
-    edge-is = edge-parts weighted (slice at end s) ∙ ap₂ (λ (x : ℕ) (ws : Fields). record { weight = x; pins = map value ws }) (sym (lead.weight_is yes)) (sym (lead.pins-are yes))
+  edge-is : edge_of weighted (slice at end s) ≡ record { weight = w; pins = values_at s f end }
+  edge-is = edge-parts weighted (slice at end s) ∙ ap₂ (λ (x : ℕ) (ws : Fields). record { weight = x; pins = map value ws }) (sym lead.weight_is) (sym lead.pins-are)
 
-    pub edge-text : edge_row (edge_of weighted (slice at end s)) ≡ BUY ++ ((44 ∷ digits w) ++ (commas (values_at s f end) ++ (10 ∷ [])))
-    edge-text = ap edge_row edge-is ∙ edge_row_lem w (values_at s f end)
+  pub edge-text : edge_row (edge_of weighted (slice at end s)) ≡ BUY ++ ((44 ∷ digits w) ++ (commas (values_at s f end) ++ (10 ∷ [])))
+  edge-text = ap edge_row edge-is ∙ edge_row_lem w (values_at s f end)
 
-    pub edge-good : (n j count : ℕ) (good : Bool) (size : ℕ) (stamps : List ℕ) (x : PinsChecked s f end n j count good size stamps) (b : Bool) → b ≡ within 1 1000 w → (g : Bool) → g ≡ (b && good)
-        → (d : ℕ) → d ≡ length (digits w) → d ≤ 10 → EdgeChecked s at end weighted n j count g (size + 5 + d) stamps
-    unfolding is_carried
-    edge-good n j count good size stamps x b range g both d wide narrow = record {
-      len = x.len;
-      below = x.below;
-      few = omega (arith, x.few, lead.low);
-      small = omega (arith, x.small);
-      bad = λ z. lead.form yes ∙ ap (leb 1) (sym x.count-is ∙ z);
-      form = λ z. lead.form yes ∙ ap (leb 1) (sym x.count-is) ∙ le-leb 1 count z;
-      says = λ z. both ∙ ap₂ (λ (y t : Bool). y && t) range (x.says z) ∙ sym (ap (is_carried n) edge-is);
-      count-is = λ z. x.count-is ∙ numbers-length (slice f end s) (omega (arith, x.count-is)) ∙ sym (length-map (words (slice f end s)) value) ∙ sym (ap (λ (y : Edge). length y.pins) edge-is);
-      size_is = λ z. omega (
-        arith,
-        x.size_is z,
-        ap length edge-text,
-        length-append BUY ((44 ∷ digits w) ++ (commas (values_at s f end) ++ (10 ∷ []))),
-        length-append (44 ∷ digits w) (commas (values_at s f end) ++ (10 ∷ [])),
-        length-append (commas (values_at s f end)) (10 ∷ []),
-      );
-    }
+  pub edge-good : (n j count : ℕ) (good : Bool) (size : ℕ) (stamps : List ℕ) (x : PinsChecked s f end n j count good size stamps) (b : Bool) → b ≡ within 1 1000 w → (g : Bool) → g ≡ (b && good)
+      → (d : ℕ) → d ≡ length (digits w) → d ≤ 10 → EdgeChecked s at end weighted n j count g (size + 5 + d) stamps
+  unfolding is_carried
+  edge-good n j count good size stamps x b range g both d wide narrow = record {
+    len = x.len;
+    some = x.some;
+    below = x.below;
+    few = omega (arith, x.few, lead.low);
+    small = omega (arith, x.small);
+    form = lead.form ∙ ap (leb 1) (sym x.count-is) ∙ le-leb 1 count x.some;
+    says = both ∙ ap₂ (λ (y t : Bool). y && t) range x.says ∙ sym (ap (is_carried n) edge-is);
+    count-is = x.count-is ∙ numbers-length (slice f end s) (omega (arith, x.count-is, x.some)) ∙ sym (length-map (words (slice f end s)) value) ∙ sym (ap (λ (y : Edge). length y.pins) edge-is);
+    size_is = omega (
+      arith,
+      x.size_is,
+      ap length edge-text,
+      length-append BUY ((44 ∷ digits w) ++ (commas (values_at s f end) ++ (10 ∷ []))),
+      length-append (44 ∷ digits w) (commas (values_at s f end) ++ (10 ∷ [])),
+      length-append (commas (values_at s f end)) (10 ∷ []),
+    );
+  }
 
 -- the line of an edge written part by part
 module _ (out text : List ℕ) (p w : ℕ) (vs : List ℕ) (room : p + length text ≤ length out) (is : text ≡ BUY ++ ((44 ∷ digits w) ++ (commas vs ++ (10 ∷ [])))) where
@@ -380,9 +357,6 @@ module _ (out text : List ℕ) (p w : ℕ) (vs : List ℕ) (room : p + length te
 
         pub feed-room : c < length out3
         feed-room = omega (arith, remains-room room (10 ∷ []) [] left-feed)
-
-        pub feed-length : length out3 ≡ length out
-        feed-length = left-feed.len
 
         pub edge-written : Wrote out (set out3 c 10) p text (c + 1)
         edge-written = remains-none (remains-more room (10 ∷ []) [] left-feed (wrote_one out3 c 10 feed-room))

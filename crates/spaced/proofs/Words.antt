@@ -3,7 +3,7 @@ use Prim.Native.Nat.{ℕ, suc, ◌+◌, ◌≤◌, ◌<◌}
 use native.Mathlib.Nat.{zero-add}
 use native.Mathlib.Omega.{arith}
 use mathlib.Core.Path.{◌≡◌, refl, ap, sym, ◌∙◌}
-use mathlib.Core.Bool.{Bool, true, false, cond, true≢false}
+use mathlib.Core.Bool.{true, false, cond, true≢false}
 use mathlib.Core.List.{List, [], ◌∷◌}
 use lib.ListN.{length, get_or}
 use lib.Seq.{slice, slice_empty}
@@ -14,7 +14,7 @@ use Rattle.text.specs.Field.{first, FirstAt, counted}
 use Rattle.text.proofs.Walk.{slice_at, first-here, first-within, parts-some}
 use Rattle.text.proofs.Lines.{parts-on, parts_last, parts_first, counted-on, counted-end, counted-no}
 use Rattle.model.specs.Hmetis.{later, spread, words, numbers_in}
-use Rattle.spaced.specs.Row.{Skipped, WordRead}
+use Rattle.spaced.specs.Row.{Skipped, NoWord}
 
 -- ---- spaces passed over
 later-empty : (ps : Fields) → (ps ≡ [] → ⊥) → later ([] ∷ ps) ≡ later ps
@@ -110,18 +110,14 @@ word_end s i end = i + first 32 (slice i end s)
 pub word-found : (s : List ℕ) (i end : ℕ) → i ≤ end → end ≤ length s → FirstAt s i end 32 (word_end s i end)
 word-found s i end le within = record { is = refl; low = omega arith; high = first-within s i end 32 le within }
 
-module _ (s : List ℕ) (i end : ℕ) (le : i ≤ end) (within : end ≤ length s) (well : Bool) (v e : ℕ) (word : WordRead s i end well v e) where
+module _ (s : List ℕ) (i end : ℕ) (le : i ≤ end) (within : end ≤ length s) (word : NoWord s i end) where
   -- the word is no number
-  pub word-bad : well ≡ false → is_number (slice i (word_end s i end) s) ≡ false
-  word-bad q = word.none q (word_end s i end) (word-found s i end le within)
+  pub word-bad : is_number (slice i (word_end s i end) s) ≡ false
+  word-bad = word.none (word_end s i end) (word-found s i end le within)
 
-  pub word_count : well ≡ false → (k : ℕ) → counted k (words (slice i end s)) ≡ 0
-  word_count q k = count-bad s i end (word_end s i end) k le within (word-found s i end le within) (word-bad q)
+  pub word_count : (k : ℕ) → counted k (words (slice i end s)) ≡ 0
+  word_count k = count-bad s i end (word_end s i end) k le within (word-found s i end le within) word-bad
 
   -- one of a line of numbers is one
-  pub word-well : all (words (slice i end s)) is_number ≡ true → well ≡ true
-  word-well are = go well refl
-    where
-      go : (b : Bool) → well ≡ b → b ≡ true
-      go true q = refl
-      go false q = absurd (true≢false (sym (word_number s i end (word_end s i end) le within (word-found s i end le within) are) ∙ word-bad q))
+  pub word-well : all (words (slice i end s)) is_number ≡ true → ⊥
+  word-well are = true≢false (sym (word_number s i end (word_end s i end) le within (word-found s i end le within) are) ∙ word-bad)

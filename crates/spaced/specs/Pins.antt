@@ -28,29 +28,39 @@ unfoldable pub commas : List ℕ → List ℕ
 commas [] = []
 commas (x ∷ xs) = (44 ∷ digits x) ++ commas xs
 
--- the vertices of edge j in the words from `at` on: how many they are, 0 where not all are numbers; whether they can be carried over, and
--- the length of their text
+-- not all words from `at` on are numbers
+pub record NoPins (s : List ℕ) (at end : ℕ) (stamps : List ℕ) : Type 0 where
+  pub len : length stamps ≡ 1024
+  pub none : numbers_in (slice at end s) ≡ 0
+
+-- the vertices of edge j in the words from `at` on: how many they are; whether they can be carried over, and the length of their text
 pub record PinsChecked (s : List ℕ) (at end n j count : ℕ) (good : Bool) (size : ℕ) (stamps : List ℕ) : Type 0 where
   pub len : length stamps ≡ 1024
-  pub below : 1 ≤ count → (x : ℕ) → get_or stamps x 0 ≤ j
+  pub some : 1 ≤ count
+  pub below : (x : ℕ) → get_or stamps x 0 ≤ j
   pub few : at + count ≤ end + 1
   pub small : size ≤ 11 * count
   pub count-is : count ≡ numbers_in (slice at end s)
-  pub says : 1 ≤ count → good ≡ named n [] (map value (words (slice at end s)))
-  pub size_is : 1 ≤ count → size ≡ length (commas (map value (words (slice at end s))))
+  pub says : good ≡ named n [] (map value (words (slice at end s)))
+  pub size_is : size ≡ length (commas (map value (words (slice at end s))))
 
 -- the line of an edge in our catalogue
 abbrev pub edge_row : Edge → List ℕ
 edge_row e = row "BUY" (numbers (e.weight ∷ e.pins))
 
--- the same of a whole edge
+-- the line is no edge's
+pub record NoEdge (s : List ℕ) (at end : ℕ) (weighted : Bool) (stamps : List ℕ) : Type 0 where
+  pub len : length stamps ≡ 1024
+  pub form : is_edge weighted (slice at end s) ≡ false
+
+-- the same as of vertices, of a whole edge
 pub record EdgeChecked (s : List ℕ) (at end : ℕ) (weighted : Bool) (n j count : ℕ) (good : Bool) (size : ℕ) (stamps : List ℕ) : Type 0 where
   pub len : length stamps ≡ 1024
-  pub below : 1 ≤ count → (x : ℕ) → get_or stamps x 0 ≤ j
+  pub some : 1 ≤ count
+  pub below : (x : ℕ) → get_or stamps x 0 ≤ j
   pub few : at + count ≤ end + 1
   pub small : size ≤ 11 * count + 15
-  pub bad : count ≡ 0 → is_edge weighted (slice at end s) ≡ false
-  pub form : 1 ≤ count → is_edge weighted (slice at end s) ≡ true
-  pub says : 1 ≤ count → good ≡ is_carried n (edge_of weighted (slice at end s))
-  pub count-is : 1 ≤ count → count ≡ length (edge_of weighted (slice at end s)).pins
-  pub size_is : 1 ≤ count → size ≡ length (edge_row (edge_of weighted (slice at end s)))
+  pub form : is_edge weighted (slice at end s) ≡ true
+  pub says : good ≡ is_carried n (edge_of weighted (slice at end s))
+  pub count-is : count ≡ length (edge_of weighted (slice at end s)).pins
+  pub size_is : size ≡ length (edge_row (edge_of weighted (slice at end s)))

@@ -28,14 +28,17 @@ pin_words false ws = ws
 pin_words true [] = []
 pin_words true (w ∷ vs) = vs
 
--- the word of s from `at` on: whether it is a number, and then where it ends and its value
-pub record WordRead (s : List ℕ) (at end : ℕ) (well : Bool) (v e : ℕ) : Type 0 where
+-- the word of s from `at` on is no number
+pub record NoWord (s : List ℕ) (at end : ℕ) : Type 0 where
+  pub none : (d : ℕ) → FirstAt s at end 32 d → is_number (slice at d s) ≡ false
+
+-- the word of s from `at` on is a number: where it ends and its value
+pub record WordRead (s : List ℕ) (at end v e : ℕ) : Type 0 where
   pub low : at ≤ e
   pub high : e ≤ end
-  pub ends : well ≡ true → FirstAt s at end 32 e
-  pub is : well ≡ true → is_number (slice at e s) ≡ true
-  pub value-is : well ≡ true → v ≡ value (slice at e s)
-  pub none : well ≡ false → (d : ℕ) → FirstAt s at end 32 d → is_number (slice at d s) ≡ false
+  pub ends : FirstAt s at end 32 e
+  pub is : is_number (slice at e s) ≡ true
+  pub value-is : v ≡ value (slice at e s)
 
 -- the word of s from `at` on ends at e and is digits of the value v, nine at most
 pub record DigitsRead (s : List ℕ) (at end e v : ℕ) : Type 0 where
@@ -45,10 +48,9 @@ pub record DigitsRead (s : List ℕ) (at end e v : ℕ) : Type 0 where
   pub is : v ≡ value (slice at e s)
 
 -- the lead of an edge's line: its weight, and where its vertices begin; the line is an edge's if and only if numbers follow, and nothing else
-pub record LeadRead (s : List ℕ) (at end : ℕ) (weighted : Bool) (well : Bool) (weight first : ℕ) : Type 0 where
+pub record LeadRead (s : List ℕ) (at end : ℕ) (weighted : Bool) (weight first : ℕ) : Type 0 where
   pub low : at ≤ first
   pub high : first ≤ end
-  pub bad : well ≡ false → is_edge weighted (slice at end s) ≡ false
-  pub form : well ≡ true → is_edge weighted (slice at end s) ≡ leb 1 (numbers_in (slice first end s))
-  pub weight_is : well ≡ true → weight ≡ weight_in weighted (words (slice at end s))
-  pub pins-are : well ≡ true → words (slice first end s) ≡ pin_words weighted (words (slice at end s))
+  pub form : is_edge weighted (slice at end s) ≡ leb 1 (numbers_in (slice first end s))
+  pub weight_is : weight ≡ weight_in weighted (words (slice at end s))
+  pub pins-are : words (slice first end s) ≡ pin_words weighted (words (slice at end s))

@@ -2,35 +2,33 @@
 // Each function is proved against a definition of an hMETIS file.
 #![tactic(auto)]
 
-ghost use Rattle.std.specs.Prelude.{◌≡◌, true, false, ◌&&◌, map, ℕ, ◌+◌, ◌≤◌, ◌<◌, length};
+ghost use Rattle.std.specs.Prelude.{◌≡◌, true, false, map, ℕ, ◌+◌, ◌≤◌, ◌<◌, length, MatchOption};
 ghost use Rattle.std.proofs.Math.Seq.{slice};
 ghost use Rattle.laws.specs.Fold.{all};
 ghost use Rattle.model.specs.Grammar.{is_number, value, at as field_at};
 ghost use Rattle.model.specs.Report.{digits};
 ghost use Rattle.fields.specs.Wrote.{Wrote};
 ghost use Rattle.model.specs.Hmetis.{words, numbers_in, is_edge, edge_of};
-ghost use Rattle.spaced.specs.Row.{Skipped, Numbers, DigitsRead, WordRead, LeadRead};
-ghost use Rattle.spaced.specs.Pins.{Fresh, StampOne, commas, PinsChecked, EdgeChecked, edge_row};
+ghost use Rattle.spaced.specs.Row.{Skipped, Numbers, DigitsRead, NoWord, WordRead, LeadRead};
+ghost use Rattle.spaced.specs.Pins.{Fresh, StampOne, commas, NoPins, PinsChecked, NoEdge, EdgeChecked, edge_row};
 
 use text::between;
 
-// A word: whether it is a number, and then its value and where it ends.
+// A word that is a number: its value, and where it ends.
 #[derive(Clone, Copy)]
 pub struct Word {
-    pub well: bool,
     pub value: u32,
     pub end: usize,
 }
 
-// The lead of an edge's line: whether it is well written, the edge's weight, and where its first vertex stands.
+// The lead of an edge's line: the edge's weight, and where its first vertex stands.
 #[derive(Clone, Copy)]
 pub struct Lead {
-    pub well: bool,
     pub weight: u32,
     pub first: usize,
 }
 
-// The vertices of an edge: how many, or 0 where they are badly written; whether they can be carried over; how many bytes their text has.
+// The vertices of an edge: how many; whether they can be carried over; how many bytes their text has.
 #[derive(Clone, Copy)]
 pub struct Pins {
     pub count: usize,
@@ -38,26 +36,17 @@ pub struct Pins {
     pub size: usize,
 }
 
-// Whether both hold, with no branch.
-pub fn both(a: bool, b: bool) -> bool
-    ensures { result ≡ (a && b) }
-{
-    a & b
-}
-
-// The first byte at or after `at` and before `end` that is no space, or `end`.
+// The first byte at or after `at` and before `end` that is no space, or `end`. No Option: a word begins there either way.
 pub fn skip(s: &[u8], at: usize, end: usize) -> usize
     requires { (at ≤ end) × (end ≤ length s.now) }
     ensures { Skipped s.now at end result }
 {
-    let mut i = at;
-    while i < end {
+    for i in at..end {
         if s[i] != 32 {
             return i;
         }
-        i += 1;
     }
-    i
+    end
 }
 
 // Whether the bytes from `at` to `end` are a number.
@@ -79,76 +68,66 @@ pub fn read(s: &[u8], at: usize, end: usize) -> u32
     text::read_field(s, at, end).value
 }
 
-// What is answered of a word that is no number.
-fn no_number(at: usize) -> Word
-    ensures { (result.well ≡ false) × (result.end ≡ at) }
+// The number from `at` to `end`, if it is one.
+pub fn read_if_number(s: &[u8], at: usize, end: usize) -> Option<u32>
+    requires { (at ≤ end) × (end ≤ length s.now) }
+    ensures { MatchOption result (is_number (slice at end s.now) ≡ false)
+        (λ v. (is_number (slice at end s.now) ≡ true) × (v ≡ value (slice at end s.now))) }
 {
-    Word {
-        well: false,
-        value: 0,
-        end: at,
+    if !is_number(s, at, end) {
+        return None;
     }
+    Some(read(s, at, end))
 }
 
 // The word from `at` to `end`, which is digits of the value v, nine at most.
-fn digits_word(s: &[u8], at: usize, end: usize, v: u32) -> Word
+fn digits_word(s: &[u8], at: usize, end: usize, v: u32) -> Option<Word>
     requires { (at ≤ end) × (end ≤ length s.now) }
-    ensures { (to : ℕ) → DigitsRead s.now at to end v → WordRead s.now at to result.well result.value result.end }
+    ensures { (to : ℕ) → DigitsRead s.now at to end v → MatchOption result (NoWord s.now at to) (λ w. WordRead s.now at to w.value w.end) }
 {
     if at == end {
-        return no_number(at);
+        return None;
     }
-    if s[at] != 48 {
-        return Word {
-            well: true,
-            value: v,
-            end: end,
-        };
+    if s[at] == 48 && 1 < end - at {
+        return None;
     }
-    if 1 < end - at {
-        return no_number(at);
-    }
-    Word {
-        well: true,
-        value: v,
-        end: end,
-    }
+    Some(Word { value: v, end: end })
 }
 
-// The word from `at` on, each byte read once: a pass over an input has a word for each number in it.
-pub fn number(s: &[u8], at: usize, end: usize) -> Word
+// The word from `at` on, if it is a number, each byte read once: a pass over an input has a word for each number in it.
+pub fn number(s: &[u8], at: usize, end: usize) -> Option<Word>
     requires { (at ≤ end) × (end ≤ length s.now) }
-    ensures { WordRead s.now at end result.well result.value result.end }
+    ensures { MatchOption result (NoWord s.now at end) (λ w. WordRead s.now at end w.value w.end) }
 {
     let mut v: u32 = 0;
-    let mut i = at;
-    while i < end {
+    for i in at..end {
         let b = s[i];
         if b == 32 {
             return digits_word(s, at, i, v);
         }
         if b < 48 {
-            return no_number(at);
+            return None;
         }
         if 57 < b {
-            return no_number(at);
+            return None;
         }
         if 9 <= i - at {
-            return no_number(at);
+            return None;
         }
         v = v * 10 + (b - 48) as u32;
-        i += 1;
     }
-    digits_word(s, at, i, v)
+    digits_word(s, at, end, v)
 }
 
-// How many numbers the line from `at` to `end` has; 0 where it has anything else.
+// How many numbers the line from `at` to `end` has; 0 where it has anything else. No Option: a line has a word, so that 0 is no count, and
+// callers ask for 2 or 3 alone.
 pub fn count(s: &[u8], at: usize, end: usize) -> usize
     requires { (at ≤ end) × (end ≤ length s.now) }
     ensures { result ≡ numbers_in (slice at end s.now) }
 {
     let mut i = at;
     let mut k: usize = 0;
+    // No for: a word begins where the last one ended.
     loop {
         let e = text::find(s, i, end, 32);
         if !is_number(s, i, e) {
@@ -168,14 +147,9 @@ pub fn get(s: &[u8], at: usize, end: usize, n: usize) -> u32
     ensures { result ≡ field_at (words (slice at end s.now)) n }
 {
     let mut i = at;
-    let mut k = n;
-    while 0 < k {
+    for k in 0..n {
         let e = text::find(s, i, end, 32);
-        if e == end {
-            return 0;
-        }
         i = skip(s, e + 1, end);
-        k -= 1;
     }
     let e = text::find(s, i, end, 32);
     read(s, i, e)
@@ -187,6 +161,7 @@ pub fn width(x: u32) -> usize
 {
     let mut y = x;
     let mut n: usize = 1;
+    // No for: each turn divides, and no index is counted.
     while 10 <= y {
         y = y / 10;
         n += 1;
@@ -195,39 +170,26 @@ pub fn width(x: u32) -> usize
 }
 
 // The lead of an edge's line: its weight, where edges have one.
-pub fn read_lead(s: &[u8], at: usize, end: usize, weighted: bool) -> Lead
+pub fn read_lead(s: &[u8], at: usize, end: usize, weighted: bool) -> Option<Lead>
     requires { (at ≤ end) × (end ≤ length s.now) }
-    ensures { LeadRead s.now at end weighted result.well result.weight result.first }
+    ensures { MatchOption result (is_edge weighted (slice at end s.now) ≡ false) (λ x. LeadRead s.now at end weighted x.weight x.first) }
 {
     if !weighted {
-        return Lead {
-            well: true,
+        return Some(Lead {
             weight: 1,
             first: at,
-        };
+        });
     }
-    let x = number(s, at, end);
+    let x = number(s, at, end)?;
     let e = x.end;
-    if !x.well {
-        return Lead {
-            well: false,
-            weight: 0,
-            first: end,
-        };
-    }
     if e == end {
-        return Lead {
-            well: false,
-            weight: 0,
-            first: end,
-        };
+        return None;
     }
     let f = skip(s, e + 1, end);
-    Lead {
-        well: true,
+    Some(Lead {
         weight: x.value,
         first: f,
-    }
+    })
 }
 
 // One vertex more of edge j: whether it is one of the vertices, and was not named before.
@@ -249,7 +211,7 @@ pub fn stamp(v: u32, vertices: u32, j: u16, stamps: &mut [u16; 1024]) -> bool
     true
 }
 
-// The vertices of edge j, in the words from `at` on.
+// The vertices of edge j, in the words from `at` on, if all are numbers.
 pub fn check_pins(
     s: &[u8],
     at: usize,
@@ -257,40 +219,35 @@ pub fn check_pins(
     vertices: u32,
     j: u16,
     stamps: &mut [u16; 1024],
-) -> Pins
+) -> Option<Pins>
     requires { (at ≤ end) × (end ≤ length s.now) × (end ≤ 60000) × (vertices ≤ 1024) × (length stamps.old ≡ 1024) × Fresh j stamps.old }
-    ensures { PinsChecked s.now at end vertices j result.count result.carried result.size stamps.new }
+    ensures { MatchOption result (NoPins s.now at end stamps.new)
+        (λ x. PinsChecked s.now at end vertices j x.count x.carried x.size stamps.new) }
 {
     let mut i = at;
     let mut n: usize = 0;
     let mut good = true;
     let mut size: usize = 0;
+    // No for: a word begins where the last one ended.
     loop {
-        let x = number(s, i, end);
+        let x = number(s, i, end)?;
         let v = x.value;
         let e = x.end;
-        if !x.well {
-            return Pins {
-                count: 0,
-                carried: false,
-                size: 0,
-            };
-        }
-        good = both(good, stamp(v, vertices, j, stamps));
+        good &= stamp(v, vertices, j, stamps);
         n += 1;
         size += 1 + width(v);
         if e == end {
-            return Pins {
+            return Some(Pins {
                 count: n,
                 carried: good,
-                size: size,
-            };
+                size,
+            });
         }
         i = skip(s, e + 1, end);
     }
 }
 
-// Edge j, in the line from `at` to `end`: whether it is well written, whether it can be carried over, and how long its line of the catalogue is.
+// Edge j, in the line from `at` to `end`, if it is well written: whether it can be carried over, and how long its line of the catalogue is.
 pub fn check_edge(
     s: &[u8],
     at: usize,
@@ -299,29 +256,19 @@ pub fn check_edge(
     vertices: u32,
     j: u16,
     stamps: &mut [u16; 1024],
-) -> Pins
+) -> Option<Pins>
     requires { (at ≤ end) × (end ≤ length s.now) × (end ≤ 60000) × (vertices ≤ 1024) × (length stamps.old ≡ 1024) × Fresh j stamps.old }
-    ensures { EdgeChecked s.now at end weighted vertices j result.count result.carried result.size stamps.new }
+    ensures { MatchOption result (NoEdge s.now at end weighted stamps.new)
+        (λ x. EdgeChecked s.now at end weighted vertices j x.count x.carried x.size stamps.new) }
 {
-    let x = read_lead(s, at, end, weighted);
+    let x = read_lead(s, at, end, weighted)?;
     let w = x.weight;
-    let f = x.first;
-    if !x.well {
-        return Pins {
-            count: 0,
-            carried: false,
-            size: 0,
-        };
-    }
-    let r = check_pins(s, f, end, vertices, j, stamps);
-    let n = r.count;
-    let good = both(between(1, 1000, w), r.carried);
-    let size = r.size + 5 + width(w);
-    Pins {
-        count: n,
-        carried: good,
-        size: size,
-    }
+    let r = check_pins(s, x.first, end, vertices, j, stamps)?;
+    Some(Pins {
+        count: r.count,
+        carried: between(1, 1000, w) & r.carried,
+        size: r.size + 5 + width(w),
+    })
 }
 
 // Writes the numbers in the words from `at` on, each behind a comma, from p on.
@@ -332,8 +279,9 @@ pub fn put_pins(s: &[u8], at: usize, end: usize, out: &mut [u8], p: usize) -> us
 {
     let mut i = at;
     let mut q = p;
+    // No for: a word begins where the last one ended.
     loop {
-        let x = number(s, i, end);
+        let x = number(s, i, end).unwrap();
         let v = x.value;
         let e = x.end;
         q = fields::put_field(out, q, v);
@@ -350,7 +298,7 @@ pub fn put_edge(s: &[u8], at: usize, end: usize, weighted: bool, out: &mut [u8],
         × (p + length (edge_row (edge_of weighted (slice at end s.now))) ≤ length out.old) }
     ensures { Wrote out.old out.new p (edge_row (edge_of weighted (slice at end s.now))) result }
 {
-    let x = read_lead(s, at, end, weighted);
+    let x = read_lead(s, at, end, weighted).unwrap();
     let w = x.weight;
     let f = x.first;
     let a = fields::put_word(out, p, b"BUY");

@@ -60,10 +60,7 @@ fn stretch_in(table: &[u16], firsts: &[u16], sizes: &[u16], long: bool, e: u32) 
     if table.len() < first + size {
         return Stretch { first: 0, size: 0 };
     }
-    Stretch {
-        first: first,
-        size: size,
-    }
+    Stretch { first, size }
 }
 
 // The stretch of net e's present pins where `present` is true, else of its loaded pins: the empty one at the table's start for a number that

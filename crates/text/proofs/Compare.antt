@@ -1,44 +1,24 @@
--- Laws of two lists of bytes compared, one byte further. Rests on model's `same`.
-use Prim.Native.Nat.{ℕ, suc, ◌+◌, ◌≤◌, ◌<◌}
-use mathlib.Core.Path.{◌≡◌, refl, ap}
+-- Two lists of bytes compared: what `==` answers is model's `same`.
+use Prim.Native.Nat.{ℕ, ◌+◌, ◌-◌, ◌≤◌}
+use mathlib.Core.Path.{◌≡◌, refl, ap, sym, ◌∙◌}
 use mathlib.Core.List.{List, [], ◌∷◌}
-use mathlib.Core.Bool.{Bool, true, false, ◌&&◌}
+use mathlib.Core.Bool.{◌&&◌}
 use native.Mathlib.Omega.{arith}
-use native.Mathlib.Numerals.{add-one}
-use lib.ListN.{length, get_or, drop}
-use lib.Seq.{slice, slice_empty, drop-cons, drop-length}
+use lib.ListN.{take, drop}
+use lib.Seq.{slice}
 use lib.Dec.{eqb}
-use borrow.Author.Tests.{eq-eqb, ne_eqb}
+use lib.Pointwise.{pointwise}
 use Rattle.model.specs.Grammar.{same}
-use Rattle.text.proofs.Walk.{slice_at}
+use Rattle.text.proofs.Walk.{slice_is}
 
-pub same-short : (l w : List ℕ) → (length l ≡ length w → ⊥) → same l w ≡ false
+pointwise-same : (l w : List ℕ) → pointwise eqb l w ≡ same l w
 unfolding same
-same-short [] [] n = absurd (n refl)
-same-short [] (y ∷ ys) n = refl
-same-short (x ∷ xs) [] n = refl
-same-short (x ∷ xs) (y ∷ ys) n = rw (same-short xs ys (λ e. n (ap suc e))) (go (eqb x y))
-  where
-    go : (t : Bool) → (t && false) ≡ false
-    go true = refl
-    go false = refl
+pointwise-same [] [] = refl
+pointwise-same [] (y ∷ ys) = refl
+pointwise-same (x ∷ xs) [] = refl
+pointwise-same (x ∷ xs) (y ∷ ys) = ap (λ b. eqb x y && b) (pointwise-same xs ys)
 
-same-cons : (x y : ℕ) (xs ys : List ℕ) (t : Bool) → eqb x y ≡ t → same (x ∷ xs) (y ∷ ys) ≡ (t && same xs ys)
-unfolding same
-same-cons x y xs ys t e = ap (λ (b : Bool). b && same xs ys) e
-
-same-nil : same [] [] ≡ true
-unfolding same
-same-nil = refl
-
-module _ (s w : List ℕ) (at i end : ℕ) (lt : at + i < end) (within : end ≤ length s) (inside : i < length w) where
-  pub same-on : get_or s (at + i) 0 ≡ get_or w i 0 → same (slice (at + i) end s) (drop i w) ≡ same (slice (at + (i + 1)) end s) (drop (i + 1) w)
-  same-on e =
-      let k : at + (i + 1) ≡ at + i + 1 = omega arith in
-      rw (k, slice_at s (at + i) end lt within, drop-cons w i 0 inside, add-one i) (same-cons (get_or s (at + i) 0) (get_or w i 0) (slice (at + i + 1) end s) (drop (suc i) w) true (eq-eqb _ _ e))
-
-  pub same-off : (get_or s (at + i) 0 ≡ get_or w i 0 → ⊥) → same (slice (at + i) end s) (drop i w) ≡ false
-  same-off n = rw (slice_at s (at + i) end lt within, drop-cons w i 0 inside) (same-cons (get_or s (at + i) 0) (get_or w i 0) (slice (at + i + 1) end s) (drop (suc i) w) false (ne_eqb _ _ n))
-
-pub same_end : (s w : List ℕ) (at i end : ℕ) → at + i ≡ end → i ≡ length w → same (slice (at + i) end s) (drop i w) ≡ true
-same_end s w at i end e k = rw (e, slice_empty, k, drop-length) same-nil
+pub slice-same : (s w : List ℕ) (at end : ℕ) → at ≤ end → pointwise eqb (take (end - at) (drop at s)) w ≡ same (slice at end s) w
+slice-same s w at end le =
+    let e : at + (end - at) ≡ end = omega arith in
+    pointwise-same (take (end - at) (drop at s)) w ∙ ap (λ (l : List ℕ). same l w) (sym (slice_is at (end - at) s) ∙ ap (λ (n : ℕ). slice at n s) e)

@@ -10,10 +10,11 @@ use lib.ListN.{length, get_or, drop, set, length-set}
 use lib.Seq.{slice, get_or-drop, get_or-set_same, get_or-set_other}
 use lib.Dec.{eqb, ltb}
 use borrow.Author.Tests.{ltb-true, ltb-false, eq-eqb, ne_eqb}
+use Rattle.std.specs.Prelude.{None}
 use Rattle.laws.specs.Fold.{all}
 use Rattle.laws.specs.Choice.{and_left, and_right}
 use Rattle.model.specs.Grammar.{Fields, same, parts, is_number, value, fields, bytes, is_line, is_line_of}
-use Rattle.text.specs.Field.{first, FirstAt, NumberEnd, NumberRead, FieldRead, Keeps, Kept, counted, form_of, Numbered}
+use Rattle.text.specs.Field.{first, FirstAt, NumberEnd, NumberRead, NumberSeen, FieldRead, Keeps, Kept, counted, form_of, Numbered}
 use Rattle.text.proofs.Walk.{first-within, fields-on, fields-one, parts-some}
 
 -- ---- the parts from a cursor on, where `find` answered e
@@ -51,15 +52,16 @@ pub counted-end : (k : ℕ) → counted k [] ≡ k
 unfolding counted all
 counted-end k = omega arith
 
+-- where no number stands
+pub count_no : (s : List ℕ) (i end k : ℕ) → i ≤ end → end ≤ length s → NumberSeen s i end None → counted k (parts 44 (slice i end s)) ≡ 0
+count_no s i end k le within none =
+    let f = field_end s i end in
+    let found = field_found s i end le within in
+    let p = parts_first s i end 44 f le within found in
+    ap (counted k) p.1 ∙ counted-no k (slice i f s) p.0 (none f found)
+
 -- where `number_end` answered e
 module _ (s : List ℕ) (i end e k : ℕ) (le : i ≤ end) (within : end ≤ length s) (told : NumberEnd s i end e) where
-  pub count_no : e ≡ i → counted k (parts 44 (slice i end s)) ≡ 0
-  count_no z =
-      let f = field_end s i end in
-      let found = field_found s i end le within in
-      let p = parts_first s i end 44 f le within found in
-      ap (counted k) p.1 ∙ counted-no k (slice i f s) p.0 (told.none z f found)
-
   module _ (some : i < e) where
     pub count-last : e ≡ end → counted k (parts 44 (slice i end s)) ≡ k + 1
     count-last x = ap (counted k) (parts_last s i end 44 e le within (told.ends some) x) ∙ counted-on k (slice i e s) [] (told.is some) ∙ counted-end (k + 1)
@@ -100,11 +102,12 @@ numbers-start s at end values l h len = record {
   kept = kept-none (parts 44 (slice at end s)) 1 values (omega arith) len;
 }
 
+-- where `read_number` answered none
+pub numbers-bad : (s : List ℕ) (at end k i : ℕ) (values : List ℕ) → OnNumbers s at end k i values → end ≤ length s → NumberSeen s i end None → 0 ≡ counted 1 (parts 44 (slice at end s))
+numbers-bad s at end k i values on within none = sym (on.counts ∙ count_no s i end k on.high within none)
+
 -- where `read_number` answered v and e, and v is kept
 module _ (s : List ℕ) (at end k i : ℕ) (values : List ℕ) (on : OnNumbers s at end k i values) (within : end ≤ length s) (v e : ℕ) (read : NumberRead s i end v e) where
-  pub numbers-bad : e ≡ i → 0 ≡ counted 1 (parts 44 (slice at end s))
-  numbers-bad z = sym (on.counts ∙ count_no s i end e k on.high within read.ends z)
-
   module _ (some : i < e) (values' : List ℕ) (keeps : Keeps k v values values') where
     here : v ≡ value (get_or (parts 44 (slice at end s)) (k - 1) [])
     here =
@@ -176,11 +179,19 @@ unfolding fields
 get-start s at end i l n = record { high = l; num = n; says = refl }
 
 module _ (s : List ℕ) (at end i a k e : ℕ) (on : OnGet s at end i a k) (within : end ≤ length s) (found : FirstAt s a end 44 e) where
-  pub get-short : 0 < k → e ≡ end → ⊥
+  get-short : 0 < k → e ≡ end → ⊥
   get-short l x = let n = rw (parts_last s a end 44 e on.high within found x) at on.num.inside in omega arith
 
-  pub get-on : 0 < k → e < end → OnGet s at end i (e + 1) (k - 1)
-  get-on l x =
+  pub get-inside : 0 < k → e < end
+  get-inside l = go (ℕ_discrete e end)
+    where
+      go : Dec (e ≡ end) → e < end
+      go (yes z) = absurd (get-short l z)
+      go (no n) = omega (arith, found.high)
+
+  pub get-on : 0 < k → OnGet s at end i (e + 1) (k - 1)
+  get-on l =
+      let x = get-inside l in
       let p = parts-on s a end 44 e on.high within found x in
       record {
         high = omega arith;

@@ -1,6 +1,6 @@
 -- Laws of a field that is a number: what makes it a number, its digits and its value, digit by digit. Rests on Walk and Lines.
 use Prim.Native.Nat.{ℕ, suc, ◌+◌, ◌-◌, ◌*◌, ◌^◌, ◌≤◌, ◌<◌}
-use mathlib.Core.Path.{◌≡◌, refl, ap, sym, ◌∙◌}
+use mathlib.Core.Path.{◌≡◌, refl, ap, sym, subst, ◌∙◌}
 use mathlib.Core.List.{List, [], ◌∷◌, ◌++◌}
 use mathlib.Core.Bool.{Bool, true, false, not, ◌&&◌, and-false, true≢false}
 use native.Mathlib.Decide.{ℕ_discrete}
@@ -13,7 +13,9 @@ use borrow.Author.Tests.{eq-eqb, ne_eqb, le-leb, lt-leb, lt-ltb, leb-true, ltb-t
 use Rattle.laws.specs.Fold.{all}
 use Rattle.laws.specs.Choice.{and_left, and_right}
 use Rattle.model.specs.Grammar.{fields, is_digit, is_number, onward, value, leading_zero}
-use Rattle.text.specs.Field.{first, FirstAt, NineDigits, DigitsRead, NumberRead, FieldRead, Numbered}
+use Rattle.text.specs.Field.{first, FirstAt, NineDigits, DigitsRead, NumberEnd, NumberRead, NumberSeen, FieldRead, Numbered}
+use Rattle.text.specs.declared.Number.{Number}
+use Rattle.std.specs.Prelude.{Option, Some, None, IsSome}
 use Rattle.text.proofs.Walk.{slice_at, slice-head, slice-split, slice-more, first_on}
 use Rattle.text.proofs.Lines.{field_end, field_found, parts_first}
 
@@ -159,19 +161,6 @@ module _ (s : List ℕ) (at end stop v e : ℕ) (within : end ≤ length s) (nin
   high : e ≤ end
   high = omega (arith, nine.high, read.high)
 
-  -- why the field is no number
-  refused : ((f : ℕ) → FirstAt s at end 44 f → is_number (slice at f s) ≡ false) → NumberRead s at end 0 at
-  refused bad = record {
-    ends = record {
-      low = omega arith;
-      high = omega (arith, nine.low, nine.high);
-      ends = λ h. absurd (omega arith);
-      is = λ h. absurd (omega arith);
-      none = λ z. bad;
-    };
-    is = λ h. absurd (omega arith);
-  }
-
   -- the field is at least as long as its digits
   past : first 44 (slice at end s) ≡ e - at + first 44 (slice e end s)
   past =
@@ -186,13 +175,31 @@ module _ (s : List ℕ) (at end stop v e : ℕ) (within : end ≤ length s) (nin
     field-from : f ≡ e + first 44 (slice e end s)
     field-from = omega (arith, past, found.is, read.low)
 
-  pub number-zero : 1 < e - at → get_or s at 0 ≡ 48 → NumberRead s at end 0 at
-  number-zero h z = refused (λ f found.
+  pub number-zero : 1 < e - at → get_or s at 0 ≡ 48 → NumberSeen s at end None
+  number-zero h z f found =
       zero-bad (slice at f s) (omega (arith, field-length f found, field-from f found))
-      (slice-head s at f (omega (arith, field-from f found)) (omega (arith, found.high)) ∙ z))
+      (slice-head s at f (omega (arith, field-from f found)) (omega (arith, found.high)) ∙ z)
 
-  pub number-other : e < end → (get_or s e 0 ≡ 44 → ⊥) → NumberRead s at end 0 at
-  number-other h n = refused (λ f found. bad f found (ltb e stop) refl)
+  some-stop : at < end → at < stop
+  some-stop h = go (ℕ_discrete stop at)
+    where
+      go : Dec (stop ≡ at) → at < stop
+      go (yes z) = absurd (omega (arith, nine.full (omega arith)))
+      go (no n) = omega (arith, nine.low)
+
+  pub number-empty : e ≡ at → NumberSeen s at end None
+  number-empty z f found = bad (ℕ_discrete f at)
+    where
+      bad : Dec (f ≡ at) → is_number (slice at f s) ≡ false
+      bad (yes y) = empty-bad (slice at f s) (omega (arith, field-length f found))
+      bad (no n) =
+          let some : at < f = omega (arith, found.low) in
+          other-bad (slice at f s)
+          (ap (λ (l : List ℕ). all l is_digit) (slice_at s at f some (omega (arith, found.high)))
+          ∙ all_digits (get_or s at 0) (slice (at + 1) f s) false (ap (λ (k : ℕ). is_digit (get_or s k 0)) (sym z) ∙ read.stops (omega (arith, some-stop (omega (arith, found.high))))))
+
+  pub number-other : e < end → (get_or s e 0 ≡ 44 → ⊥) → NumberSeen s at end None
+  number-other h n f found = bad f found (ltb e stop) refl
     where
       bad : (f : ℕ) → FirstAt s at end 44 f → (t : Bool) → ltb e stop ≡ t → is_number (slice at f s) ≡ false
       bad f found true q =
@@ -220,15 +227,26 @@ module _ (s : List ℕ) (at end stop v e : ℕ) (within : end ≤ length s) (nin
       }
 
 -- a field that is a number is read
-pub number_read : (s : List ℕ) (at end v e : ℕ) → at ≤ end → end ≤ length s → Numbered (fields (slice at end s)) 0 → NumberRead s at end v e → FieldRead s at end v e
+pub number_there : (s : List ℕ) (at end : ℕ) (r : Option Number) → at ≤ end → end ≤ length s → Numbered (fields (slice at end s)) 0 → NumberSeen s at end r → IsSome r
 unfolding fields
-number_read s at end v e le within num read =
+number_there s at end (Some n) le within num seen = cc
+number_there s at end None le within num none =
     let f = field_end s at end in
     let found = field_found s at end le within in
     let is : is_number (slice at f s) ≡ true = rw (parts_first s at end 44 f le within found).1 at num.is in
-    let some : at < e = go (ℕ_discrete e at) (λ z. true≢false (sym is ∙ read.ends.none z f found)) read.ends.low in
-    record { ends = read.ends.ends some; is = read.is some }
-  where
-    go : Dec (e ≡ at) → (e ≡ at → ⊥) → at ≤ e → at < e
-    go (yes z) n l = absurd (n z)
-    go (no z) n l = omega arith
+    absurd (true≢false (sym is ∙ none f found))
+
+pub number_read : (s : List ℕ) (at end : ℕ) (r : Option Number) (n : Number) → NumberSeen s at end r → r ≡ Some n → FieldRead s at end n.value n.end
+number_read s at end r n seen is =
+    let read = subst (NumberSeen s at end) is seen in
+    record { ends = read.1.ends.ends read.0; is = read.1.is read.0 }
+
+-- where no number stands
+pub number_none : (s : List ℕ) (at end : ℕ) → at ≤ end → NumberSeen s at end None → NumberEnd s at end at
+number_none s at end le none = record {
+  low = omega arith;
+  high = le;
+  ends = λ h. absurd (omega arith);
+  is = λ h. absurd (omega arith);
+  none = λ z. none;
+}

@@ -1,8 +1,9 @@
 -- The first separator of a stretch of bytes, where a field that is a number ends and what its value is, and a line's form. Rests on model's grammar. Assumes nothing.
-use Rattle.std.specs.Prelude.{ℕ, zero, suc, ◌+◌, ◌-◌, ◌≤◌, ◌<◌, ◌≡◌, true, false, cond, List, [], ◌∷◌, eqb, length, get_or, drop}
+use Rattle.std.specs.Prelude.{ℕ, zero, suc, ◌+◌, ◌-◌, ◌≤◌, ◌<◌, ◌≡◌, true, false, cond, List, [], ◌∷◌, eqb, length, get_or, drop, Option, Some, None}
 use Rattle.std.proofs.Math.Seq.{slice}
 use Rattle.laws.specs.Fold.{all}
 use Rattle.model.specs.Grammar.{Fields, same, is_digit, is_number, value}
+use Rattle.text.specs.declared.Number.{Number}
 
 -- how many elements stand before the first separator: all of them, where there is none
 abbrev pub first : ℕ → List ℕ → ℕ
@@ -46,6 +47,11 @@ pub record NumberEnd (s : List ℕ) (at end r : ℕ) : Type 0 where
 pub record NumberRead (s : List ℕ) (at end v r : ℕ) : Type 0 where
   pub ends : NumberEnd s at end r
   pub is : at < r → v ≡ value (slice at r s)
+
+-- the number that stands in the field of s from `at` on, if the field is one
+abbrev pub NumberSeen : List ℕ → ℕ → ℕ → Option Number → Type 0
+NumberSeen s at end (Some n) = (at < n.end) × NumberRead s at end n.value n.end
+NumberSeen s at end None = (e : ℕ) → FirstAt s at end 44 e → is_number (slice at e s) ≡ false
 
 -- the field of s from `at` on ends at e and has the value v
 pub record FieldRead (s : List ℕ) (at end v e : ℕ) : Type 0 where

@@ -7,8 +7,8 @@ ghost use Rattle.std.specs.Prelude.{◌≡◌, false, ◌||◌, ◌+◌, ◌-◌
 ghost use Rattle.std.proofs.Math.Seq.{slice};
 ghost use Rattle.model.specs.Grammar.{same, parts, fields, within, at as field_at};
 ghost use Rattle.model.specs.Report.{digits};
-ghost use Rattle.text.specs.Field.{FirstAt, Without, NineDigits, DigitsRead, NumberEnd, NumberRead, FieldRead, Keeps, Kept, counted, form_of, Numbered};
-ghost use Rattle.text.specs.Output.{written, last_three, sign_of};
+ghost use Rattle.text.specs.Field.{FirstAt, Without, NineDigits, DigitsRead, NumberEnd, NumberSeen, FieldRead, Keeps, Kept, counted, form_of, Numbered};
+ghost use Rattle.text.specs.Output.{written, last_three};
 
 // A number, and where its field ends.
 #[derive(Clone, Copy)]
@@ -17,33 +17,17 @@ pub struct Number {
     pub end: usize,
 }
 
-// A number's size, and on which side of 0 it lies.
-#[derive(Clone, Copy)]
-pub enum Sign {
-    Plus(u32),
-    Minus(u32),
-}
-
-// The first `sep` at or after `at` and before `end`, or `end`.
+// The first `sep` at or after `at` and before `end`, or `end`: a field ends there either way, so that callers have one case and no Option.
 pub fn find(s: &[u8], at: usize, end: usize, sep: u8) -> usize
     requires { (at ≤ end) × (end ≤ length s.now) }
     ensures { FirstAt s.now at end sep result }
 {
-    let mut i = at;
-    while i < end {
+    for i in at..end {
         if s[i] == sep {
             return i;
         }
-        i += 1;
     }
-    i
-}
-
-// Whether one of two tests holds, with no branch.
-fn either(a: bool, b: bool) -> bool
-    ensures { result ≡ (a || b) }
-{
-    a | b
+    end
 }
 
 // Whether one of the 16 bytes from `at` on is `b`. All are tested, with no branch between them, so that the compiler tests them at once.
@@ -52,10 +36,8 @@ fn sixteen_have(s: &[u8], at: usize, b: u8) -> bool
     ensures { result ≡ false → Without s.now at 16 b }
 {
     let mut found = false;
-    let mut j: usize = 0;
-    while j < 16 {
-        found = either(found, s[at + j] == b);
-        j += 1;
+    for j in 0..16 {
+        found |= s[at + j] == b;
     }
     found
 }
@@ -80,10 +62,7 @@ fn nine_digits(at: usize, end: usize) -> usize
     requires { at ≤ end }
     ensures { NineDigits at end result }
 {
-    if 9 < end - at {
-        return at + 9;
-    }
-    end
+    at + (end - at).min(9)
 }
 
 // The digits from `at` on, up to `end` at most, as a number, and where they stop. Each is tested and read at once.
@@ -93,47 +72,47 @@ fn read_digits(s: &[u8], at: usize, end: usize) -> Number
 {
     let mut v: u32 = 0;
     let mut i = at;
+    // No for: the place where it stops is part of the answer.
     while i < end {
         let b = s[i];
-        if b < b'0' {
+        if !b.is_ascii_digit() {
             return Number { value: v, end: i };
         }
-        if b'9' < b {
-            return Number { value: v, end: i };
-        }
-        v = v * 10 + (b - b'0') as u32;
+        v = v * 10 + u32::from(b - b'0');
         i += 1;
     }
     Number { value: v, end: i }
 }
 
-// The number in the field from `at` on, and where the field ends; that is `at` where the field is no number, since a number has a digit.
-pub fn read_number(s: &[u8], at: usize, end: usize) -> Number
+// The number in the field from `at` on, if the field is one: a number has a digit.
+pub fn read_number(s: &[u8], at: usize, end: usize) -> Option<Number>
     requires { (at ≤ end) × (end ≤ length s.now) }
-    ensures { NumberRead s.now at end result.value result.end }
+    ensures { NumberSeen s.now at end result }
 {
     let stop = nine_digits(at, end);
     let d = read_digits(s, at, stop);
     let e = d.end;
-    if 1 < e - at {
-        if s[at] == b'0' {
-            return Number { value: 0, end: at };
-        }
+    if e == at {
+        return None;
     }
-    if e < end {
-        if s[e] != b',' {
-            return Number { value: 0, end: at };
-        }
+    if 1 < e - at && s[at] == b'0' {
+        return None;
     }
-    d
+    if e < end && s[e] != b',' {
+        return None;
+    }
+    Some(d)
 }
 
-// Where the field from `at` on ends, if it is a number; else `at`.
+// Where the field from `at` on ends, if it is a number; else `at`. No Option: its callers compare it with the field's end.
 pub fn number_end(s: &[u8], at: usize, end: usize) -> usize
     requires { (at ≤ end) × (end ≤ length s.now) }
     ensures { NumberEnd s.now at end result }
 {
-    read_number(s, at, end).end
+    match read_number(s, at, end) {
+        Some(n) => n.end,
+        None => at,
+    }
 }
 
 // The number in the field from `at` on, which is one, and where the field ends.
@@ -141,17 +120,14 @@ pub fn read_field(s: &[u8], at: usize, end: usize) -> Number
     requires { (at ≤ end) × (end ≤ length s.now) × Numbered (fields (slice at end s.now)) 0 }
     ensures { FieldRead s.now at end result.value result.end }
 {
-    read_number(s, at, end)
+    read_number(s, at, end).unwrap()
 }
 
 // x is neither below low nor above high.
 pub fn between(low: u32, high: u32, x: u32) -> bool
     ensures { result ≡ within low high x }
 {
-    if x < low {
-        return false;
-    }
-    x <= high
+    (low..=high).contains(&x)
 }
 
 // Whether the field from `at` to `end` is `w`.
@@ -159,17 +135,7 @@ pub fn word(s: &[u8], at: usize, end: usize, w: &[u8]) -> bool
     requires { (at ≤ end) × (end ≤ length s.now) }
     ensures { result ≡ same (slice at end s.now) w.now }
 {
-    if end - at != w.len() {
-        return false;
-    }
-    let mut i = 0;
-    while i < w.len() {
-        if s[at + i] != w[i] {
-            return false;
-        }
-        i += 1;
-    }
-    true
+    &s[at..end] == w
 }
 
 // Keeps the k-th number of a line, the first being 1, where it is one of the first four.
@@ -191,22 +157,21 @@ fn read_numbers(s: &[u8], at: usize, end: usize, values: &mut [u32; 4]) -> usize
 {
     let mut i = at;
     let mut k: usize = 1;
+    // No for: a field begins where the last one ended.
     loop {
-        let f = read_number(s, i, end);
-        let e = f.end;
-        if e == i {
+        let Some(f) = read_number(s, i, end) else {
             return 0;
-        }
+        };
         keep(values, k, f.value);
         k += 1;
-        if e == end {
+        if f.end == end {
             return k;
         }
-        i = e + 1;
+        i = f.end + 1;
     }
 }
 
-// One more than the number of fields from `at` to `end`, if each is a number; else 0.
+// One more than the number of fields from `at` to `end`, if each is a number; else 0, which callers compare with the number that they want.
 pub fn count(s: &[u8], at: usize, end: usize) -> usize
     requires { (1 ≤ at) × (at ≤ end) × (end ≤ length s.now) }
     ensures { result ≡ counted 1 (parts 44 (slice at end s.now)) }
@@ -215,7 +180,8 @@ pub fn count(s: &[u8], at: usize, end: usize) -> usize
     read_numbers(s, at, end, &mut values)
 }
 
-// A line's form: how many fields it has, if it begins with `w` and goes on with numbers, with the first four of them as values; else 0.
+// A line's form: how many fields it has, if it begins with `w` and goes on with numbers, with the first four of them as values; else 0,
+// since a form has a field.
 pub fn read_line(s: &[u8], at: usize, end: usize, w: &[u8], values: &mut [u32; 4]) -> usize
     requires { (at ≤ end) × (end ≤ length s.now) × (length values.old ≡ 4) }
     ensures { (result ≡ form_of w.now (fields (slice at end s.now))) × Kept (drop 1 (fields (slice at end s.now))) result values.new }
@@ -230,7 +196,8 @@ pub fn read_line(s: &[u8], at: usize, end: usize, w: &[u8], values: &mut [u32; 4
     read_numbers(s, a + 1, end, values)
 }
 
-// A line's form: how many fields it has, if it begins with `w` and goes on with numbers; else 0.
+// A line's form: how many fields it has, if it begins with `w` and goes on with numbers; else 0. Callers compare it with the number they want,
+// which an Option makes no plainer.
 pub fn form(s: &[u8], at: usize, end: usize, w: &[u8]) -> usize
     requires { (at ≤ end) × (end ≤ length s.now) }
     ensures { result ≡ form_of w.now (fields (slice at end s.now)) }
@@ -245,14 +212,8 @@ pub fn get(s: &[u8], at: usize, end: usize, i: usize) -> u32
     ensures { result ≡ field_at (fields (slice at end s.now)) i }
 {
     let mut a = at;
-    let mut k = i;
-    while 0 < k {
-        let e = find(s, a, end, b',');
-        if e == end {
-            return 0;
-        }
-        a = e + 1;
-        k -= 1;
+    for _ in 0..i {
+        a = find(s, a, end, b',') + 1;
     }
     read_field(s, a, end).value
 }
@@ -295,15 +256,4 @@ pub fn put_number(out: &mut [u8], at: usize, x: u32) -> usize
     }
     let n = put_number(out, at, x / 1000);
     put_three(out, n, x)
-}
-
-// A number's size and its side of 0.
-pub fn side(x: i32) -> Sign
-    ensures { result ≡ sign_of x }
-{
-    if x < 0 {
-        let m = (-1 - x) as u32;
-        return Sign::Minus(m + 1);
-    }
-    Sign::Plus(x as u32)
 }

@@ -1,10 +1,7 @@
 -- `fields::put_field` meets its contract.
-use Rattle.std.proofs.Common.{arith, ◌∙◌, length-set}
+use Rattle.std.proofs.Common.{arith}
 use Rattle.fields.proofs.Laws.{wrote-cons}
 use Rattle.fields.proofs.put_field.Goals as goal
-
-pub shape_of-out : goal.shape_of-out
-shape_of-out c = c.put_number.auto.out ∙ simp length-set
 
 pub returns : goal.returns
 returns c = wrote-cons (omega arith) (record { ends = c.put_number.ensures.0; is = c.put_number.ensures.1 })

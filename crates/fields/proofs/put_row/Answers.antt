@@ -5,14 +5,6 @@ use Rattle.model.specs.CatalogueText.{numbers}
 use Rattle.fields.proofs.Laws.{wrote-append}
 use Rattle.fields.proofs.put_row.Goals as goal
 
-pub put_word-p-requires : goal.put_word-p-requires
-put_word-p-requires c =
-    omega (arith, length-append c.args.w.now (tail (numbers c.args.xs.now)))
-
-pub put_tail-requires : goal.put_tail-requires
-put_tail-requires c =
-    omega (arith, length-append c.args.w.now (tail (numbers c.args.xs.now)), c.put_word-p.ensures.ends, c.put_word-p.auto.out)
-
 pub returns : goal.returns
 returns c =
     wrote-append (omega (arith, length-append c.args.w.now (tail (numbers c.args.xs.now)))) c.put_word-p.ensures c.put_tail.ensures

@@ -38,9 +38,6 @@ overflow_add-bales c =
     let on = c.loop-c.invariant in
     omega (arith, on.few, on.c-le, on.light.few, more-le _ _ _ _ _ _ _ on c.loop-c-test.true _ c.block_weight-bales.ensures)
 
-pub overflow_add-c : goal.overflow_add-c
-overflow_add-c c = omega (arith, c.loop-c.invariant.light.few, c.loop-c-test.true)
-
 pub loop-c-preserved : goal.loop-c-preserved
 loop-c-preserved c = bales-on _ _ _ _ _ _ _ c.loop-c.invariant c.loop-c-test.true _ c.block_weight-bales.ensures
 

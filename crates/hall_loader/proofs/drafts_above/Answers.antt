@@ -9,10 +9,10 @@ pub draft_bales-requires : goal.draft_bales-requires
 draft_bales-requires c = c.loop-t.invariant.light
 
 pub returns-then-most-draft_bales : goal.returns-then-most-draft_bales
-returns-then-most-draft_bales c = above-found _ _ _ _ _ _ c.loop-t.invariant c.loop-t-test.true _ c.draft_bales.ensures c.if-most-draft_bales.true
+returns-then-most-draft_bales c = above-found _ _ _ _ _ _ c.loop-t.invariant c.loop-t-test.true _ c.draft_bales.ensures (omega (arith, c.from-most.ensures, c.if-most-draft_bales.true))
 
 pub loop-t-preserved : goal.loop-t-preserved
-loop-t-preserved c = above_on _ _ _ _ _ _ c.loop-t.invariant c.loop-t-test.true _ c.draft_bales.ensures (omega (arith, c.if-most-draft_bales.false))
+loop-t-preserved c = above_on _ _ _ _ _ _ c.loop-t.invariant c.loop-t-test.true _ c.draft_bales.ensures (omega (arith, c.from-most.ensures, c.if-most-draft_bales.false))
 
 pub returns : goal.returns
 returns c = above-done _ _ _ _ _ _ c.loop-t.invariant (omega (arith, c.loop-t.invariant.t-le, c.loop-t-test.false))

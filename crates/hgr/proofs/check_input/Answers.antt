@@ -1,23 +1,22 @@
 -- `hgr::check_input` meets its contract.
-use Rattle.std.proofs.Common.{arith}
-use Rattle.hgr.proofs.Plans.{planned-bad, no_header, begun, planned}
+use Rattle.conversion.specs.Well.{well-not}
+use Rattle.hgr.proofs.Plans.{no_header, begun, planned}
 use Rattle.hgr.proofs.check_input.Goals as goal
 
-pub returns-then-a-eq0 : goal.returns-then-a-eq0
-returns-then-a-eq0 c =
-    let a = c.args in planned-bad a.s.now _ _ _ c.badly.ensures (c.read_first-f.ensures.bad c.if-a-eq0.true)
+pub returns-in_err-f : goal.returns-in_err-f
+returns-in_err-f c = rw c.from_residual.ensures (well-not c.args.s.now c.in_err-f.ensures)
 
-pub read_header-h-requires : goal.read_header-h-requires
-read_header-h-requires c = c.read_first-f.ensures.high
+pub returns-in_err-h : goal.returns-in_err-h
+returns-in_err-h c =
+    let a = c.args in let f = c.in_ok-f.f in
+    rw c.from_residual-in_err-h.ensures (no_header a.s.now f.next f.blocks f.imbalance c.in_ok-f.ensures c.in_err-h.ensures)
 
-pub returns-then-b-eq0 : goal.returns-then-b-eq0
-returns-then-b-eq0 c =
-    let a = c.args in planned-bad a.s.now _ _ _ c.badly-then-b-eq0.ensures (no_header a.s.now c.read_first-f.result.next c.read_first-f.result.blocks c.read_first-f.result.imbalance c.read_first-f.ensures (omega arith) c.read_header-h.result.next c.read_header-h.result.code c.read_header-h.result.edges c.read_header-h.result.vertices c.read_header-h.ensures c.if-b-eq0.true)
-
-pub check_rows-x-requires : goal.check_rows-x-requires
-check_rows-x-requires c =
-    let a = c.args in (c.requires.0, begun a.s.now c.read_first-f.result.next c.read_first-f.result.blocks c.read_first-f.result.imbalance c.read_first-f.ensures (omega arith) c.read_header-h.result.next c.read_header-h.result.code c.read_header-h.result.edges c.read_header-h.result.vertices c.read_header-h.ensures (omega arith), c.requires.1, c.requires.2)
+pub check_rows-requires : goal.check_rows-requires
+check_rows-requires c =
+    let a = c.args in let f = c.in_ok-f.f in let h = c.in_ok-h.h in
+    (c.requires.0, begun a.s.now f.next f.blocks f.imbalance c.in_ok-f.ensures h.next _ h.edges h.vertices c.in_ok-h.ensures, c.requires.1, c.requires.2)
 
 pub returns : goal.returns
 returns c =
-    let a = c.args in planned a.s.now _ _ _ _ _ _ (begun a.s.now c.read_first-f.result.next c.read_first-f.result.blocks c.read_first-f.result.imbalance c.read_first-f.ensures (omega arith) c.read_header-h.result.next c.read_header-h.result.code c.read_header-h.result.edges c.read_header-h.result.vertices c.read_header-h.ensures (omega arith)) _ _ _ _ _ _ c.check_rows-x.ensures
+    let a = c.args in let f = c.in_ok-f.f in let h = c.in_ok-h.h in
+    planned a.s.now _ _ _ _ _ h.code (begun a.s.now f.next f.blocks f.imbalance c.in_ok-f.ensures h.next _ h.edges h.vertices c.in_ok-h.ensures) _ _ _ _ _ c.in_ok-x.ensures

@@ -5,29 +5,20 @@ use Rattle.hgr.proofs.Whole.{judged-carried, judged-listed, judged-full, judged-
 use Rattle.hgr.proofs.judge.Goals as goal
 
 pub returns-then-not-p : goal.returns-then-not-p
-returns-then-not-p c = let a = c.args in record { judged = λ s sound seen. judged-carried s a.p sound _ _ seen (not-true _ c.if-not-p.true) }
+returns-then-not-p c = let a = c.args in λ s sound seen. judged-carried s a.p sound _ _ seen (not-true _ c.if-not-p.true)
 
 pub returns-then-not-p-2 : goal.returns-then-not-p-2
 returns-then-not-p-2 c =
-    let a = c.args in record { judged = λ s sound seen. judged-listed s a.p sound _ _ seen (not-false _ c.if-not-p.false) (not-true _ c.if-not-p-2.true) }
-
-pub overfull-requires : goal.overfull-requires
-overfull-requires c =
-    let h = c.requires.0 (not-false _ c.if-not-p.false) in
-    (h.vertices-high, h.blocks-low, h.blocks-high, h.imbalance-high, omega (arith, h.vertices-high, c.requires.2), omega (arith, h.vertices-high, c.requires.3), omega (arith, h.vertices-high, c.requires.2))
+    let a = c.args in λ s sound seen. judged-listed s a.p sound _ _ seen (not-false _ c.if-not-p.false) (not-true _ c.if-not-p-2.true)
 
 pub returns-then-overfull : goal.returns-then-overfull
 returns-then-overfull c =
-    let a = c.args in record { judged = λ s sound seen. judged-full s a.p sound _ _ seen (not-false _ c.if-not-p.false) (not-false _ c.if-not-p-2.false) c.overfull.result c.overfull.ensures c.if-overfull.true }
-
-pub length_of-requires : goal.length_of-requires
-length_of-requires c =
-    ((c.requires.0 (not-false _ c.if-not-p.false)).vertices-high, c.requires.2, c.requires.3, c.requires.1)
+    let a = c.args in λ s sound seen. judged-full s a.p sound _ _ seen (not-false _ c.if-not-p.false) (not-false _ c.if-not-p-2.false) c.overfull.result c.overfull.ensures c.if-overfull.true
 
 pub returns-then-length_of-gt60000 : goal.returns-then-length_of-gt60000
 returns-then-length_of-gt60000 c =
-    let a = c.args in record { judged = λ s sound seen. judged-long s a.p sound _ _ seen (not-false _ c.if-not-p.false) (not-false _ c.if-not-p-2.false) c.overfull.result c.overfull.ensures c.if-overfull.false c.length_of.result c.length_of.ensures c.if-length_of-gt60000.true }
+    let a = c.args in λ s sound seen. judged-long s a.p sound _ _ seen (not-false _ c.if-not-p.false) (not-false _ c.if-not-p-2.false) c.overfull.result c.overfull.ensures c.if-overfull.false c.length_of.result c.length_of.ensures c.if-length_of-gt60000.true
 
 pub returns : goal.returns
 returns c =
-    let a = c.args in record { judged = λ s sound seen. judged-good s a.p sound _ _ seen (not-false _ c.if-not-p.false) (not-false _ c.if-not-p-2.false) c.overfull.result c.overfull.ensures c.if-overfull.false c.length_of.result c.length_of.ensures (omega (arith, c.if-length_of-gt60000.false)) }
+    let a = c.args in λ s sound seen. judged-good s a.p sound _ _ seen (not-false _ c.if-not-p.false) (not-false _ c.if-not-p-2.false) c.overfull.result c.overfull.ensures c.if-overfull.false c.length_of.result c.length_of.ensures (omega (arith, c.if-length_of-gt60000.false))

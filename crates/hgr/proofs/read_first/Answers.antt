@@ -1,17 +1,7 @@
 -- `hgr::read_first` meets its contract.
 use Rattle.std.proofs.Common.{arith}
-use Rattle.hgr.proofs.Heads.{first-none, first-open, first_short, first-bad, first-number, first_good}
+use Rattle.hgr.proofs.Heads.{first_short, first-bad, first-number, first_good}
 use Rattle.hgr.proofs.read_first.Goals as goal
-
-pub returns-then-len-eq0 : goal.returns-then-len-eq0
-returns-then-len-eq0 c =
-    let a = c.args in
-    first-none a.s.now c.if-len-eq0.true
-
-pub returns-then-s-len-ne10 : goal.returns-then-s-len-ne10
-returns-then-s-len-ne10 c =
-    let a = c.args in
-    first-open a.s.now c.if-s-len-ne10.true
 
 pub returns-then-e-len : goal.returns-then-e-len
 returns-then-e-len c =

@@ -1,6 +1,5 @@
 -- `hgr::weight_code` meets its contract.
-use Rattle.std.proofs.Common.{◌∙◌, ap, arith}
-use Rattle.hgr.specs.Form.{known_code}
+use Rattle.std.proofs.Common.{arith}
 use Rattle.hgr.proofs.Codes.{code-none, code-bad, code-three, numbers-upto}
 use Rattle.hgr.proofs.weight_code.Goals as goal
 
@@ -17,4 +16,4 @@ get-requires c =
 
 pub returns : goal.returns
 returns c =
-    code-three _ c.count-n.result c.count-n.ensures c.known.result (omega arith) (c.known.ensures ∙ ap known_code c.get.ensures)
+    code-three _ c.count-n.result c.count-n.ensures c.get.result c.get.ensures (omega arith) c.known.result c.known.ensures

@@ -1,9 +1,7 @@
 -- `lines::lot_line` meets its contract.
-use Rattle.std.proofs.Common.{◌-◌, arith, ap, ap₂, ◌∙◌, get_or}
-use Rattle.std.proofs.Math.Seq.{slice}
-use Rattle.model.specs.Grammar.{at as field_at, fields}
-use Rattle.lines.specs.Line.{first_of}
-use Rattle.lines.proofs.LotLines.{numbers-low, numbers-high, lot-form, lot-value, lot-refused, lot-read, lot-block}
+use Rattle.std.proofs.Common.{arith, sym, ◌∙◌}
+use Rattle.std.proofs.lemmas.Result.{err_from_is_err_and}
+use Rattle.lines.proofs.LotLines.{numbers-low, numbers-high, lot-form, lot-refused, lot-read, lot-block, first-refused, second-refused}
 use Rattle.lines.proofs.lot_line.Goals as goal
 
 pub overflow_add-numbers : goal.overflow_add-numbers
@@ -42,28 +40,29 @@ pub bounds-values-numbers-2 : goal.bounds-values-numbers-2
 bounds-values-numbers-2 c =
     omega (arith, numbers-high c.args.estimated, c.numbers_of-numbers.ensures)
 
-pub returns-then-q-ne0 : goal.returns-then-q-ne0
-returns-then-q-ne0 c =
+pub returns-in_err-check_bales : goal.returns-in_err-check_bales
+returns-in_err-check_bales c =
     let a = c.args in
     let last = c.before_k-last in
     let m = c.numbers_of-numbers in
     let r = c.read_line in
-    let v = r.new.values in
-    let fs = fields (slice a.at last.result a.s.now) in
-    let told = lot-value a.s.now a.at a.end last.result m.result r.result a.blocks a.estimated last.ensures m.ensures r.ensures.0 c.if-read_line-numbers.false v r.ensures.1 in
-    let many = numbers-low a.estimated in
-    lot-refused a.s.now a.at a.end last.result m.result r.result a.blocks a.estimated last.ensures m.ensures r.ensures.0 c.if-read_line-numbers.false
-    (get_or v 0 0) (get_or v (m.result - 2) 0) (get_or v (m.result - 1) 0) c.first_of-q.result
-    (told 1 0 (omega arith) (omega (arith, many, m.ensures)))
-    (told (m.result - 1) (m.result - 2) (omega (arith, many, m.ensures)) (omega arith) ∙ ap (λ k. field_at fs (k - 1)) m.ensures)
-    (told m.result (m.result - 1) (omega (arith, many, m.ensures)) (omega arith))
-    (c.first_of-q.ensures ∙ ap₂ first_of c.refuses_bales-bales.ensures c.refuses_session-session.ensures) c.if-q-ne0.true
+    let p = err_from_is_err_and c.from_residual.result c.from_residual.ensures.1 in
+    rw (p.1, p.2) (lot-refused a.s.now a.at a.end last.result m.result r.result a.blocks a.estimated last.ensures m.ensures r.ensures.0 c.if-read_line-numbers.false r.new.values r.ensures.1 _
+    (first-refused _ _ _ (sym c.in_err-check_bales.ensures)))
+
+pub returns-in_err-check_session : goal.returns-in_err-check_session
+returns-in_err-check_session c =
+    let a = c.args in
+    let last = c.before_k-last in
+    let m = c.numbers_of-numbers in
+    let r = c.read_line in
+    let p = err_from_is_err_and c.from_residual-in_err-check_session.result c.from_residual-in_err-check_session.ensures.1 in
+    rw (p.1, p.2) (lot-refused a.s.now a.at a.end last.result m.result r.result a.blocks a.estimated last.ensures m.ensures r.ensures.0 c.if-read_line-numbers.false r.new.values r.ensures.1 _
+    (second-refused _ _ (sym c.in_ok-check_bales.ensures) ∙ sym c.in_err-check_session.ensures))
 
 pub overflow_cast-result : goal.overflow_cast-result
 overflow_cast-result c =
-    let v = c.read_line.new.values in
-    let m = c.numbers_of-numbers.result in
-    omega (arith, c.ranges.blocks, lot-block (get_or v 0 0) (get_or v (m - 2) 0) (get_or v (m - 1) 0) c.args.blocks c.first_of-q.result (c.first_of-q.ensures ∙ ap₂ first_of c.refuses_bales-bales.ensures c.refuses_session-session.ensures) c.if-q-ne0.false)
+    omega (arith, c.ranges.blocks, lot-block _ c.args.blocks c.in_ok-check_session.ensures)
 
 pub returns : goal.returns
 returns c =
@@ -71,13 +70,5 @@ returns c =
     let last = c.before_k-last in
     let m = c.numbers_of-numbers in
     let r = c.read_line in
-    let v = r.new.values in
-    let fs = fields (slice a.at last.result a.s.now) in
-    let told = lot-value a.s.now a.at a.end last.result m.result r.result a.blocks a.estimated last.ensures m.ensures r.ensures.0 c.if-read_line-numbers.false v r.ensures.1 in
-    let many = numbers-low a.estimated in
-    lot-read a.s.now a.at a.end last.result m.result r.result a.blocks a.estimated last.ensures m.ensures r.ensures.0 c.if-read_line-numbers.false
-    (get_or v 0 0) (get_or v (m.result - 2) 0) (get_or v (m.result - 1) 0) c.first_of-q.result
-    (told 1 0 (omega arith) (omega (arith, many, m.ensures)))
-    (told (m.result - 1) (m.result - 2) (omega (arith, many, m.ensures)) (omega arith) ∙ ap (λ k. field_at fs (k - 1)) m.ensures)
-    (told m.result (m.result - 1) (omega (arith, many, m.ensures)) (omega arith))
-    (c.first_of-q.ensures ∙ ap₂ first_of c.refuses_bales-bales.ensures c.refuses_session-session.ensures) c.if-q-ne0.false
+    lot-read a.s.now a.at a.end last.result m.result r.result a.blocks a.estimated last.ensures m.ensures r.ensures.0 c.if-read_line-numbers.false r.new.values r.ensures.1
+    (second-refused _ _ (sym c.in_ok-check_bales.ensures) ∙ sym c.in_ok-check_session.ensures)

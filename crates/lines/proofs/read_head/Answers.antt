@@ -24,22 +24,22 @@ get-imbalance-requires c =
 pub returns-then-not-between : goal.returns-then-not-between
 returns-then-not-between c =
     let a = c.args in
-    record { says = λ n. sale-1 (limits_of a.limits) n (fields (slice a.at a.end a.s.now)) c.requires.2.form c.get-vertices.result c.get-nets.result c.get-blocks.result c.get-imbalance.result c.get-vertices.ensures c.get-nets.ensures c.get-blocks.ensures c.get-imbalance.ensures (sym c.between.ensures ∙ c.if-not-between.true); ranges = λ l b k t e z. absurd (no-sale z) }
+    record { says = λ n. sale-1 (limits_of a.limits) n (fields (slice a.at a.end a.s.now)) c.requires.2.form c.get-vertices.result c.get-nets.result c.get-blocks.result c.get-imbalance.result c.get-vertices.ensures c.get-nets.ensures c.get-blocks.ensures c.get-imbalance.ensures (sym c.between.ensures ∙ c.if-not-between.true); ranges = λ h e. absurd (no-sale e) }
 
 pub returns-then-not-between-2 : goal.returns-then-not-between-2
 returns-then-not-between-2 c =
     let a = c.args in
-    record { says = λ n. sale-2 (limits_of a.limits) n (fields (slice a.at a.end a.s.now)) c.requires.2.form c.get-vertices.result c.get-nets.result c.get-blocks.result c.get-imbalance.result c.get-vertices.ensures c.get-nets.ensures c.get-blocks.ensures c.get-imbalance.ensures (sym c.between.ensures ∙ c.if-not-between.false) (sym c.between-2.ensures ∙ c.if-not-between-2.true); ranges = λ l b k t e z. absurd (no-sale z) }
+    record { says = λ n. sale-2 (limits_of a.limits) n (fields (slice a.at a.end a.s.now)) c.requires.2.form c.get-vertices.result c.get-nets.result c.get-blocks.result c.get-imbalance.result c.get-vertices.ensures c.get-nets.ensures c.get-blocks.ensures c.get-imbalance.ensures (sym c.between.ensures ∙ c.if-not-between.false) (sym c.between-2.ensures ∙ c.if-not-between-2.true); ranges = λ h e. absurd (no-sale e) }
 
 pub returns-then-not-between-3 : goal.returns-then-not-between-3
 returns-then-not-between-3 c =
     let a = c.args in
-    record { says = λ n. sale-3 (limits_of a.limits) n (fields (slice a.at a.end a.s.now)) c.requires.2.form c.get-vertices.result c.get-nets.result c.get-blocks.result c.get-imbalance.result c.get-vertices.ensures c.get-nets.ensures c.get-blocks.ensures c.get-imbalance.ensures (sym c.between.ensures ∙ c.if-not-between.false) (sym c.between-2.ensures ∙ c.if-not-between-2.false) (sym c.between-3.ensures ∙ c.if-not-between-3.true); ranges = λ l b k t e z. absurd (no-sale z) }
+    record { says = λ n. sale-3 (limits_of a.limits) n (fields (slice a.at a.end a.s.now)) c.requires.2.form c.get-vertices.result c.get-nets.result c.get-blocks.result c.get-imbalance.result c.get-vertices.ensures c.get-nets.ensures c.get-blocks.ensures c.get-imbalance.ensures (sym c.between.ensures ∙ c.if-not-between.false) (sym c.between-2.ensures ∙ c.if-not-between-2.false) (sym c.between-3.ensures ∙ c.if-not-between-3.true); ranges = λ h e. absurd (no-sale e) }
 
 pub returns-then-not-between-4 : goal.returns-then-not-between-4
 returns-then-not-between-4 c =
     let a = c.args in
-    record { says = λ n. sale-4 (limits_of a.limits) n (fields (slice a.at a.end a.s.now)) c.requires.2.form c.get-vertices.result c.get-nets.result c.get-blocks.result c.get-imbalance.result c.get-vertices.ensures c.get-nets.ensures c.get-blocks.ensures c.get-imbalance.ensures (sym c.between.ensures ∙ c.if-not-between.false) (sym c.between-2.ensures ∙ c.if-not-between-2.false) (sym c.between-3.ensures ∙ c.if-not-between-3.false) (sym c.between-4.ensures ∙ c.if-not-between-4.true); ranges = λ l b k t e z. absurd (no-sale z) }
+    record { says = λ n. sale-4 (limits_of a.limits) n (fields (slice a.at a.end a.s.now)) c.requires.2.form c.get-vertices.result c.get-nets.result c.get-blocks.result c.get-imbalance.result c.get-vertices.ensures c.get-nets.ensures c.get-blocks.ensures c.get-imbalance.ensures (sym c.between.ensures ∙ c.if-not-between.false) (sym c.between-2.ensures ∙ c.if-not-between-2.false) (sym c.between-3.ensures ∙ c.if-not-between-3.false) (sym c.between-4.ensures ∙ c.if-not-between-4.true); ranges = λ h e. absurd (no-sale e) }
 
 pub returns : goal.returns
 returns c =
@@ -48,4 +48,4 @@ returns c =
     let e2 = sym c.between-2.ensures ∙ c.if-not-between-2.false in
     let e3 = sym c.between-3.ensures ∙ c.if-not-between-3.false in
     let e4 = sym c.between-4.ensures ∙ c.if-not-between-4.false in
-    record { says = λ n. sale-read (limits_of a.limits) n (fields (slice a.at a.end a.s.now)) c.requires.2.form c.get-vertices.result c.get-nets.result c.get-blocks.result c.get-imbalance.result c.get-vertices.ensures c.get-nets.ensures c.get-blocks.ensures c.get-imbalance.ensures e1 e2 e3 a.estimated c.requires.2.kind e4; ranges = λ l b k t e z. sale-ranges (limits_of a.limits) z e1 e2 e3 e4 }
+    record { says = λ n. sale-read (limits_of a.limits) n (fields (slice a.at a.end a.s.now)) c.requires.2.form c.get-vertices.result c.get-nets.result c.get-blocks.result c.get-imbalance.result c.get-vertices.ensures c.get-nets.ensures c.get-blocks.ensures c.get-imbalance.ensures e1 e2 e3 a.estimated c.requires.2.kind e4; ranges = λ h e. sale-ranges (limits_of a.limits) _ e e1 e2 e3 e4 }

@@ -2,60 +2,59 @@ use Rattle.std.proofs.Common.{arith, ◌∙◌, length-set}
 use Rattle.lines.proofs.Operands.{operands-start, operands-bad, operands-last, operands-on}
 use Rattle.lines.proofs.read_operands.Goals as goal
 
-pub loop-i-init : goal.loop-i-init
-loop-i-init c =
+pub loop-f-init : goal.loop-f-init
+loop-f-init c =
     let a = c.args in
     let p = c.requires in
     operands-start a.s.now a.at a.end a.first a.operands.now p.0 p.1 p.3
 
-pub read_number-f-requires : goal.read_number-f-requires
-read_number-f-requires c = (c.loop-i.invariant.high, omega arith)
+pub read_number-requires : goal.read_number-requires
+read_number-requires c = (c.loop-f.invariant.high, omega arith)
 
-pub shape_of-operands-then-e-i : goal.shape_of-operands-then-e-i
-shape_of-operands-then-e-i c = c.loop-i.invariant.len
+pub shape_of-operands-in_err-f : goal.shape_of-operands-in_err-f
+shape_of-operands-in_err-f c = c.loop-f.invariant.len
 
-pub returns-then-e-i : goal.returns-then-e-i
-returns-then-e-i c =
+pub returns-in_err-f : goal.returns-in_err-f
+returns-in_err-f c =
     let a = c.args in
-    let l = c.loop-i in
-    let f = c.read_number-f in
-    operands-bad a.s.now a.at a.end a.first a.operands.now l.operands l.i l.m l.invariant (omega arith) f.result.end f.result.value f.ensures c.if-e-i.true
+    let l = c.loop-f in
+    rw c.from_residual.ensures (operands-bad a.s.now a.at a.end a.first a.operands.now l.operands l.i l.m l.invariant (omega arith) c.in_err-f.ensures)
 
 pub offset_bounds-operands-m : goal.offset_bounds-operands-m
-offset_bounds-operands-m c = omega (arith, c.loop-i.invariant.room, c.loop-i.invariant.high)
+offset_bounds-operands-m c = omega (arith, c.loop-f.invariant.room, c.loop-f.invariant.high)
 
 pub bounds-operands-m : goal.bounds-operands-m
 bounds-operands-m c =
-    let l = c.loop-i in
-    let f = c.read_number-f in
-    omega (arith, l.invariant.room, l.invariant.wide, f.ensures.ends.low, f.ensures.ends.high)
+    let l = c.loop-f in
+    let f = c.in_ok-f.ensures in
+    omega (arith, l.invariant.room, l.invariant.wide, f.0, f.1.ends.high)
 
 pub overflow_add-m : goal.overflow_add-m
-overflow_add-m c = omega (arith, c.loop-i.invariant.room, c.loop-i.invariant.high)
+overflow_add-m c = omega (arith, c.loop-f.invariant.room, c.loop-f.invariant.high)
 
-pub shape_of-operands-then-e-end : goal.shape_of-operands-then-e-end
-shape_of-operands-then-e-end c =
-    let l = c.loop-i in
+pub shape_of-operands-then-f-end : goal.shape_of-operands-then-f-end
+shape_of-operands-then-f-end c =
+    let l = c.loop-f in
     length-set l.operands l.m _ ∙ l.invariant.len
 
-pub returns-then-e-end : goal.returns-then-e-end
-returns-then-e-end c =
+pub returns-then-f-end : goal.returns-then-f-end
+returns-then-f-end c =
     let a = c.args in
-    let l = c.loop-i in
-    let f = c.read_number-f in
-    operands-last a.s.now a.at a.end a.first a.operands.now l.operands l.i l.m l.invariant (omega arith) f.result.end f.result.value f.ensures (omega (arith, f.ensures.ends.low)) c.if-e-end.true
+    let l = c.loop-f in
+    let f = c.in_ok-f.ensures in
+    operands-last a.s.now a.at a.end a.first a.operands.now l.operands l.i l.m l.invariant (omega arith) _ _ f.1 f.0 c.if-f-end.true
 
 pub overflow_add-i : goal.overflow_add-i
-overflow_add-i c = omega (arith, c.read_number-f.ensures.ends.high)
+overflow_add-i c = omega (arith, c.in_ok-f.ensures.1.ends.high)
 
-pub loop-i-smaller : goal.loop-i-smaller
-loop-i-smaller c =
-    let f = c.read_number-f in
-    omega (arith, f.ensures.ends.low, f.ensures.ends.high)
+pub loop-f-smaller : goal.loop-f-smaller
+loop-f-smaller c =
+    let f = c.in_ok-f.ensures in
+    omega (arith, f.0, f.1.ends.high)
 
-pub loop-i-preserved : goal.loop-i-preserved
-loop-i-preserved c =
+pub loop-f-preserved : goal.loop-f-preserved
+loop-f-preserved c =
     let a = c.args in
-    let l = c.loop-i in
-    let f = c.read_number-f in
-    operands-on a.s.now a.at a.end a.first a.operands.now l.operands l.i l.m l.invariant (omega arith) f.result.end f.result.value f.ensures (omega (arith, f.ensures.ends.low)) (omega (arith, f.ensures.ends.high))
+    let l = c.loop-f in
+    let f = c.in_ok-f.ensures in
+    operands-on a.s.now a.at a.end a.first a.operands.now l.operands l.i l.m l.invariant (omega arith) _ _ f.1 f.0 (omega (arith, f.1.ends.high))

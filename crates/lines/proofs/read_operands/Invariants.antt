@@ -3,8 +3,8 @@ use Rattle.std.proofs.Common.{◌-◌}
 use Rattle.lines.proofs.Operands.{OnOperands}
 use Rattle.lines.proofs.read_operands.Given as goal
 
-abbrev pub invariant-loop-i : goal.invariant-loop-i
-invariant-loop-i l = OnOperands l.s l.at l.end l.first l.initial.operands l.operands l.i l.m
+abbrev pub invariant-loop-f : goal.invariant-loop-f
+invariant-loop-f l = OnOperands l.s l.at l.end l.first l.initial.operands l.operands l.i l.m
 
-abbrev pub decreases-loop-i : goal.decreases-loop-i
-decreases-loop-i l = l.end - l.i
+abbrev pub decreases-loop-f : goal.decreases-loop-f
+decreases-loop-f l = l.end - l.i

@@ -1,82 +1,49 @@
-use Rattle.std.proofs.Common.{arith, ◌∙◌}
+use Rattle.std.proofs.Common.{arith, ap, subst, ◌∙◌}
+use Rattle.std.proofs.lemmas.Result.{err_from_is_err_and}
+use Rattle.text.specs.Field.{NumberSeen}
+use Rattle.refusal.specs.Number.{refused_as}
+use Rattle.refusal.proofs.Results.{missing}
 use Rattle.lines.proofs.Fields.{marks-start, marks-bad, marks-stop, marks-last, marks-on}
 use Rattle.lines.proofs.read_pins.Goals as goal
 
-pub loop-i-init : goal.loop-i-init
-loop-i-init c =
+pub loop-f-init : goal.loop-f-init
+loop-f-init c =
     let a = c.args in
     let p = c.requires in
     marks-start a.s.now a.at a.end a.vertices a.most a.j a.first a.loadedpins.now a.stamps.now p.0 p.1 p.3 p.4 p.5 p.6 p.7
 
-pub read_number-f-requires : goal.read_number-f-requires
-read_number-f-requires c = (c.loop-i.invariant.high, omega arith)
-
-pub shape_of-loadedpins-then-e-i : goal.shape_of-loadedpins-then-e-i
-shape_of-loadedpins-then-e-i c = c.loop-i.invariant.len
-
-pub returns-then-e-i : goal.returns-then-e-i
-returns-then-e-i c =
+pub returns-in_err-f : goal.returns-in_err-f
+returns-in_err-f c =
     let a = c.args in
-    let l = c.loop-i in
-    let f = c.read_number-f in
-    marks-bad a.s.now a.at a.end a.vertices a.most a.j a.first a.loadedpins.now l.loadedpins l.stamps l.i l.m l.invariant (omega arith)
-    f.result.end f.result.value f.ensures c.if-e-i.true
+    let l = c.loop-f in
+    let p = err_from_is_err_and c.from_residual.result c.from_residual.ensures.1 in
+    let none = missing _ _ _ c.in_err-f.ensures.value in
+    rw (p.1, p.2 ∙ none.1) (marks-bad a.s.now a.at a.end a.vertices a.most a.j a.first a.loadedpins.now l.loadedpins l.stamps l.i l.m l.invariant (omega arith)
+    (subst (NumberSeen a.s.now l.i a.end) none.0 c.read_number.ensures))
 
-pub put_pin-q-requires : goal.put_pin-q-requires
-put_pin-q-requires c =
-    let l = c.loop-i in
-    (l.invariant.lots-le, l.invariant.wide, l.invariant.slen)
-
-pub refusal-requires : goal.refusal-requires
-refusal-requires c =
-    (c.loop-i.invariant.low, c.loop-i.invariant.high, omega arith)
-
-pub shape_of-loadedpins-then-q-ne0 : goal.shape_of-loadedpins-then-q-ne0
-shape_of-loadedpins-then-q-ne0 c =
-    c.put_pin-q.ensures.len ∙ c.loop-i.invariant.len
-
-pub returns-then-q-ne0 : goal.returns-then-q-ne0
-returns-then-q-ne0 c =
+pub returns-in-Err : goal.returns-in-Err
+returns-in-Err c =
     let a = c.args in
-    let l = c.loop-i in
-    let f = c.read_number-f in
-    let q = c.put_pin-q in
+    let l = c.loop-f in
+    let f = subst (NumberSeen a.s.now l.i a.end) c.in_ok-f.ensures.ok_part c.read_number.ensures in
+    let r = c.put_pin in
     marks-stop a.s.now a.at a.end a.vertices a.most a.j a.first a.loadedpins.now l.loadedpins l.stamps l.i l.m l.invariant (omega arith)
-    f.result.end f.result.value f.ensures (omega (arith, f.ensures.ends.low)) q.result q.new.loadedpins q.new.stamps q.ensures
-    c.if-q-ne0.true c.refusal.result c.refusal.ensures
+    _ _ f.1 f.0 (refused_as r.result) r.new.loadedpins r.new.stamps r.ensures c.in-Err.q (ap refused_as c.in-Err.is) c.after_form.result c.after_form.ensures
 
-pub overflow_add-m : goal.overflow_add-m
-overflow_add-m c =
-    omega (arith, c.put_pin-q.ensures.room (omega arith))
-
-pub shape_of-loadedpins-then-e-end : goal.shape_of-loadedpins-then-e-end
-shape_of-loadedpins-then-e-end c =
-    c.put_pin-q.ensures.len ∙ c.loop-i.invariant.len
-
-pub returns-then-e-end : goal.returns-then-e-end
-returns-then-e-end c =
+pub returns-then-f-end : goal.returns-then-f-end
+returns-then-f-end c =
     let a = c.args in
-    let l = c.loop-i in
-    let f = c.read_number-f in
-    let q = c.put_pin-q in
+    let l = c.loop-f in
+    let f = subst (NumberSeen a.s.now l.i a.end) c.in_ok-f.ensures.ok_part c.read_number.ensures in
+    let r = c.put_pin in
     marks-last a.s.now a.at a.end a.vertices a.most a.j a.first a.loadedpins.now l.loadedpins l.stamps l.i l.m l.invariant (omega arith)
-    f.result.end f.result.value f.ensures (omega (arith, f.ensures.ends.low)) q.result q.new.loadedpins q.new.stamps q.ensures
-    c.if-q-ne0.false c.if-e-end.true
+    _ _ f.1 f.0 (refused_as r.result) r.new.loadedpins r.new.stamps r.ensures (ap refused_as c.in_default.is) c.if-f-end.true
 
-pub overflow_add-i : goal.overflow_add-i
-overflow_add-i c =
-    omega (arith, c.read_number-f.ensures.ends.high)
-
-pub loop-i-smaller : goal.loop-i-smaller
-loop-i-smaller c =
-    omega (arith, c.read_number-f.ensures.ends.low, c.read_number-f.ensures.ends.high)
-
-pub loop-i-preserved : goal.loop-i-preserved
-loop-i-preserved c =
+pub loop-f-preserved : goal.loop-f-preserved
+loop-f-preserved c =
     let a = c.args in
-    let l = c.loop-i in
-    let f = c.read_number-f in
-    let q = c.put_pin-q in
+    let l = c.loop-f in
+    let f = subst (NumberSeen a.s.now l.i a.end) c.in_ok-f.ensures.ok_part c.read_number.ensures in
+    let r = c.put_pin in
     marks-on a.s.now a.at a.end a.vertices a.most a.j a.first a.loadedpins.now l.loadedpins l.stamps l.i l.m l.invariant (omega arith)
-    f.result.end f.result.value f.ensures (omega (arith, f.ensures.ends.low)) q.result q.new.loadedpins q.new.stamps q.ensures
-    c.if-q-ne0.false (omega (arith, f.ensures.ends.high))
+    _ _ f.1 f.0 (refused_as r.result) r.new.loadedpins r.new.stamps r.ensures (ap refused_as c.in_default.is) (omega (arith, f.1.ends.high))

@@ -3,8 +3,8 @@ use Rattle.std.proofs.Common.{◌-◌}
 use Rattle.lines.proofs.Fields.{OnMarks}
 use Rattle.lines.proofs.read_pins.Given as goal
 
-abbrev pub invariant-loop-i : goal.invariant-loop-i
-invariant-loop-i l = OnMarks l.s l.at l.end l.vertices l.most l.j l.first l.initial.loadedpins l.loadedpins l.stamps l.i l.m
+abbrev pub invariant-loop-f : goal.invariant-loop-f
+invariant-loop-f l = OnMarks l.s l.at l.end l.vertices l.most l.j l.first l.initial.loadedpins l.loadedpins l.stamps l.i l.m
 
-abbrev pub decreases-loop-i : goal.decreases-loop-i
-decreases-loop-i l = l.end - l.i
+abbrev pub decreases-loop-f : goal.decreases-loop-f
+decreases-loop-f l = l.end - l.i

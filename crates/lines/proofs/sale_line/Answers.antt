@@ -24,5 +24,5 @@ returns c =
     let x = slice a.at a.end a.s.now in
     record {
       says = λ n. sale-form (limits_of a.limits) n (fields x) (line-no "SALE" (83 ∷ 65 ∷ 76 ∷ 69 ∷ []) 4 c.form-2.result x word-SALE c.form-2.ensures c.if-form-eq5-2.false) (line-no "EST" (69 ∷ 83 ∷ 84 ∷ []) 4 c.form.result x word-EST c.form.ensures c.if-form-eq5.false);
-      ranges = λ l b k t e z. absurd (no-sale z);
+      ranges = λ h e. absurd (no-sale e);
     }

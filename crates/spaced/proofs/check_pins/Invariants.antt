@@ -3,8 +3,8 @@ use Rattle.std.proofs.Common.{◌-◌}
 use Rattle.spaced.proofs.Edges.{OnPins}
 use Rattle.spaced.proofs.check_pins.Given as goal
 
-abbrev pub invariant-loop-at : goal.invariant-loop-at
-invariant-loop-at l = OnPins l.s l.at l.end l.vertices l.j l.stamps l.i l.n l.good l.size
+abbrev pub invariant-loop-x : goal.invariant-loop-x
+invariant-loop-x l = OnPins l.s l.at l.end l.vertices l.j l.stamps l.i l.n l.good l.size
 
-abbrev pub decreases-loop-at : goal.decreases-loop-at
-decreases-loop-at l = l.end - l.i
+abbrev pub decreases-loop-x : goal.decreases-loop-x
+decreases-loop-x l = l.end - l.i

@@ -1,5 +1,5 @@
 -- `spaced::skip` meets its contract. The invariant: what follows the words before `at` is what follows from `i` on.
-use Rattle.std.proofs.Common.{◌≤◌, ◌-◌, ◌≡◌}
+use Rattle.std.proofs.Common.{◌≤◌, ◌≡◌}
 use Rattle.std.proofs.Math.Seq.{slice}
 use Rattle.model.specs.Grammar.{parts}
 use Rattle.model.specs.Hmetis.{later}
@@ -7,6 +7,3 @@ use Rattle.spaced.proofs.skip.Given as goal
 
 abbrev pub invariant-loop-i : goal.invariant-loop-i
 invariant-loop-i l = (l.at ≤ l.i) × (l.i ≤ l.end) × (later (parts 32 (slice l.at l.end l.s)) ≡ later (parts 32 (slice l.i l.end l.s)))
-
-abbrev pub decreases-loop-i : goal.decreases-loop-i
-decreases-loop-i l = l.end - l.i

@@ -6,6 +6,3 @@ use Rattle.text.proofs.find.Given as goal
 
 abbrev pub invariant-loop-i : goal.invariant-loop-i
 invariant-loop-i l = (l.at ≤ l.i) × (l.i ≤ l.end) × (l.at + first l.sep (slice l.at l.end l.s) ≡ l.i + first l.sep (slice l.i l.end l.s))
-
-abbrev pub decreases-loop-i : goal.decreases-loop-i
-decreases-loop-i l = l.end - l.i

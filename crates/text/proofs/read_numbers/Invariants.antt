@@ -4,8 +4,8 @@ use Rattle.std.proofs.Common.{◌-◌}
 use Rattle.text.proofs.Lines.{OnNumbers}
 use Rattle.text.proofs.read_numbers.Given as goal
 
-abbrev pub invariant-loop-i : goal.invariant-loop-i
-invariant-loop-i l = OnNumbers l.s l.at l.end l.k l.i l.values
+abbrev pub invariant-loop-f : goal.invariant-loop-f
+invariant-loop-f l = OnNumbers l.s l.at l.end l.k l.i l.values
 
-abbrev pub decreases-loop-i : goal.decreases-loop-i
-decreases-loop-i l = l.end - l.i
+abbrev pub decreases-loop-f : goal.decreases-loop-f
+decreases-loop-f l = l.end - l.i

@@ -1,7 +1,7 @@
--- `lines::refuses_bales` meets its contract.
+-- `lines::check_bales` meets its contract.
 use Rattle.std.proofs.Common.{arith, sym, ◌∙◌, true, false, lt-ltb, le-ltb}
 use Rattle.lines.proofs.LotLines.{bales-low, bales-high, bales-right}
-use Rattle.lines.proofs.refuses_bales.Goals as goal
+use Rattle.lines.proofs.check_bales.Goals as goal
 
 pub returns-then-not-between : goal.returns-then-not-between
 returns-then-not-between c = let a = c.args in bales-low a.low a.high (sym c.between.ensures ∙ c.if-not-between.true)

@@ -1,0 +1,3 @@
+-- The refusals.
+-- Number  the number of each
+pub mod Number
