@@ -9,7 +9,7 @@ ghost use Rattle.block_weights.specs.Term.{block_term};
 fn share(weight: u32, block: u16, b: u32) -> u32
     ensures { result ≡ cond (eqb block b) weight 0 }
 {
-    if block as u32 == b { weight } else { 0 }
+    if u32::from(block) == b { weight } else { 0 }
 }
 
 // What the vertices of block b weigh together, among the first n.
@@ -17,11 +17,9 @@ pub fn block_weight(weights: &[u32], draft: &[u16], n: usize, b: u32) -> u64
     requires { (n ≤ 1024) × (n ≤ length weights.now) × (n ≤ length draft.now) }
     ensures { result ≡ sum n (block_term b weights.now draft.now) }
 {
-    let mut i = 0;
     let mut t: u64 = 0;
-    while i < n {
-        t += share(weights[i], draft[i], b) as u64;
-        i += 1;
+    for i in 0..n {
+        t += u64::from(share(weights[i], draft[i], b));
     }
     t
 }

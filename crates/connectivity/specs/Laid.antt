@@ -116,7 +116,7 @@ raised-given {g = g} t counts x e a w h u = record {
   outside = u.outside;
 }
 
--- what `take_share` and `put_share` say, by the sign
+-- a row with shares taken from it or put to it is raised by them, by the sign
 pub raised-taken : (f : ℕ → ℤ) {row k : ℕ} {g g' : List ℤ} (t : Bool) → t ≡ true → Raised (λ j. neg_ℤ (f j)) row k g g' → Raised (λ j. signed t (f j)) row k g g'
 unfolding signed
 raised-taken f t e u = rw e u

@@ -1,5 +1,5 @@
 -- The rules of the critical counts: two at a column of all other pins, two at the row of the one other pin of a block. Rests on Change and Laid.
-use Rattle.std.specs.Prelude.{ℕ, zero, suc, ◌+◌, ◌*◌, ◌-◌, ◌^◌, ◌<◌, ◌≤◌, ◌≡◌, Bool, List, eqb, length, get_or, set, ℤ, ◌+ℤ◌, ◌-ℤ◌, neg_ℤ}
+use Rattle.std.specs.Prelude.{Option, MatchOption, ℕ, zero, suc, ◌+◌, ◌*◌, ◌-◌, ◌^◌, ◌<◌, ◌≤◌, ◌≡◌, Bool, List, eqb, length, get_or, set, ℤ, ◌+ℤ◌, ◌-ℤ◌, neg_ℤ}
 use Rattle.std.proofs.Math.Path.{refl}
 use Rattle.std.proofs.Common.{sym, ap, ◌∙◌, subst, true≢false, ⊎_elim, below_more, length-set, get_or-set_same, get_or-set_other, to_z, of_z}
 use Rattle.std.proofs.Math.Bool.{true, false, cond}
@@ -244,6 +244,10 @@ pub record Found (pins blocks : List ℕ) (first p x s r : ℕ) : Type 0 where
   pub within : r ≤ p
   pub here : r < p → (get_or blocks (vertex_at pins first r) 0 ≡ s) × (vertex_at pins first r ≡ x → ⊥)
   pub before : (i : ℕ) → i < r → get_or blocks (vertex_at pins first i) 0 ≡ s → vertex_at pins first i ≡ x
+
+-- such a pin's first place, or that there is none
+abbrev pub FoundOther : (pins blocks : List ℕ) (first p x s : ℕ) → Option ℕ → Type 0
+FoundOther pins blocks first p x s r = MatchOption r (Found pins blocks first p x s p) (λ i. (i < p) × Found pins blocks first p x s i)
 
 pub other-same : {blocks : List ℕ} {q x s : ℕ} → q ≡ x → Other blocks q x s false
 other-same e = record { yes = λ z. absurd (true≢false (sym z)); no = λ z u. e }

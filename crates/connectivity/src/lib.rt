@@ -14,14 +14,13 @@ ghost use Rattle.laws.specs.Place.{place};
 ghost use Rattle.connectivity.specs.Row.{row};
 ghost use Rattle.connectivity.specs.Laid.{Laid, Net, given, signed};
 ghost use Rattle.connectivity.specs.Set.{Sets, Set};
-ghost use Rattle.connectivity.specs.Touch.{Room, Rest, Amount, at_row, at_column, Rows, Sole, Other, Found, Others, Delta};
+ghost use Rattle.connectivity.specs.Touch.{Room, Rest, Amount, at_row, at_column, Rows, Sole, Other, FoundOther, Others, Delta};
 ghost use Rattle.connectivity.specs.Moved.{way_back};
 ghost use Rattle.connectivity.specs.Steps.{CountAt, OwnRow};
 
 use counts::{arrive, depart};
 use halves::{Halves, when_is};
-use incidence::numbers::index;
-use shares::{add_at, share_row, sub_at, wide};
+use shares::{add_at, share_row, signed};
 
 // Adds a weight to an entry, or takes it from it.
 fn shift_at(g: &mut [i32], i: usize, w: u16, take: bool)
@@ -29,11 +28,7 @@ fn shift_at(g: &mut [i32], i: usize, w: u16, take: bool)
     requires i_bound { nat_abs (at g.old i) ≤ 2010000 }
     ensures { g.new ≡ set g.old i (at g.old i +ℤ signed take (pos w)) }
 {
-    if take {
-        sub_at(g, i, wide(w));
-    } else {
-        add_at(g, i, wide(w));
-    }
+    add_at(g, i, signed(take, i32::from(w)));
 }
 
 // The weight at each block but `a`; blocks from 0 against `a` from 1.
@@ -50,11 +45,9 @@ fn but_row(gains: &mut [i32], q: usize, a: usize, k: usize, w: u16, take: bool)
     ensures { Raised (Rest take a w) (16 * q) k gains.old gains.new }
 {
     let row = 16 * q;
-    let mut j = 0;
-    while j < k {
+    for j in 0..k {
         let d = amount(j, a, w);
         shift_at(gains, row + j, d, take);
-        j += 1;
     }
 }
 
@@ -66,11 +59,11 @@ fn other_in(blocks: &[u16], q: usize, x: usize, s: usize) -> bool
     if q == x {
         return false;
     }
-    let o = index(blocks[q]);
+    let o = usize::from(blocks[q]);
     o == s
 }
 
-// The first place of a pin but `x` in the block `s`, or `p`.
+// The first place of a pin but `x` in the block `s`.
 fn find_other(
     pins: &[u16],
     blocks: &[u16],
@@ -80,20 +73,18 @@ fn find_other(
     p: usize,
     x: usize,
     s: usize,
-) -> usize
+) -> Option<usize>
     requires net { Net pins.now blocks.now first p n k }
     requires n_in_bounds { n ≤ length blocks.now }
-    ensures { Found pins.now blocks.now first p x s result }
+    ensures { FoundOther pins.now blocks.now first p x s result }
 {
-    let mut i = 0;
-    while i < p {
-        let q = index(pins[first + i]) - 1;
+    for i in 0..p {
+        let q = usize::from(pins[first + i]) - 1;
         if other_in(blocks, q, x, s) {
-            return i;
+            return Some(i);
         }
-        i += 1;
     }
-    p
+    None
 }
 
 // The weight at each block but `a` of the one pin but `x` in the block `a`.
@@ -114,11 +105,10 @@ fn shift_last(
     requires le_a { (1 ≤ a) × Sole (place (row pins.now blocks.now first p) x 0) n a }
     ensures { Laid (at_row take a w) (place (row pins.now blocks.now first p) x 0) k gains.old gains.new }
 {
-    let i = find_other(pins, blocks, n, k, first, p, x, a);
-    if i == p {
+    let Some(i) = find_other(pins, blocks, n, k, first, p, x, a) else {
         return;
-    }
-    let q = index(pins[first + i]) - 1;
+    };
+    let q = usize::from(pins[first + i]) - 1;
     but_row(gains, q, a, k, w, take);
 }
 
@@ -167,13 +157,11 @@ fn shift_column(
     ensures { Laid (at_column take a w) (place (row pins.now blocks.now first p) x 0) k gains.old gains.new }
 {
     let s = a - 1;
-    let mut i = 0;
-    while i < p {
-        let q = index(pins[first + i]) - 1;
+    for i in 0..p {
+        let q = usize::from(pins[first + i]) - 1;
         if q != x {
             shift_at(gains, 16 * q + s, w, take);
         }
-        i += 1;
     }
 }
 
@@ -256,10 +244,8 @@ fn add_row(gains: &mut [i32], x: usize, k: usize, d: i32)
     ensures { Raised (λ _. d) (16 * x) k gains.old gains.new }
 {
     let row = 16 * x;
-    let mut j = 0;
-    while j < k {
+    for j in 0..k {
         add_at(gains, row + j, d);
-        j += 1;
     }
 }
 

@@ -1,5 +1,5 @@
 // The share of a net in the gains of a vertex, put to the vertex's row of the gain table or taken from it.
-ghost use Rattle.std.specs.Prelude.{◌+◌, ◌*◌, ◌^◌, ◌<◌, ◌≡◌, cond, length, get_or, set, ℤ, pos, ◌+ℤ◌, ◌-ℤ◌, neg_ℤ};
+ghost use Rattle.std.specs.Prelude.{◌+◌, ◌*◌, ◌^◌, ◌<◌, ◌≡◌, cond, length, get_or, set, ℤ, pos, nat_abs, ◌+ℤ◌};
 ghost use Rattle.std.specs.Int.{w32};
 ghost use Rattle.std.proofs.Common.{SFits};
 ghost use Rattle.connectivity.specs.Share.{share, when};
@@ -8,11 +8,12 @@ ghost use Rattle.connectivity.specs.Laid.{signed};
 
 use crate::halves::{net_halves, when_is};
 
-// The number as a signed one.
-pub fn wide(x: u16) -> i32
-    ensures { result ≡ pos x }
+// A number, or its opposite where it is to be taken.
+pub fn signed(take: bool, s: i32) -> i32
+    requires { nat_abs s < 2 ^ 31 }
+    ensures { result ≡ signed take s }
 {
-    x as i32
+    if take { -s } else { s }
 }
 
 // Adds to an entry.
@@ -22,15 +23,6 @@ pub fn add_at(g: &mut [i32], i: usize, s: i32)
     ensures { g.new ≡ set g.old i (get_or g.old i (pos 0) +ℤ s) }
 {
     g[i] = g[i] + s;
-}
-
-// Takes from an entry.
-pub fn sub_at(g: &mut [i32], i: usize, s: i32)
-    requires i_in_bounds { i < length g.old }
-    requires sfits { SFits w32 (get_or g.old i (pos 0) -ℤ s) }
-    ensures { g.new ≡ set g.old i (get_or g.old i (pos 0) -ℤ s) }
-{
-    g[i] = g[i] - s;
 }
 
 // Nothing at a vertex's own block, else the share. A choice between two values and no early return, so that the loops over the blocks have no
@@ -52,50 +44,6 @@ fn share_of(counts: &[u16], crow: usize, own: usize, w: u16, x: usize, freed: u1
     unless(x == own, halves.difference())
 }
 
-// Adds to the `k` gains at `row`, of a vertex of the block `own`, the shares of a net of weight `w` whose counts start at `crow`.
-fn put_share(
-    gains: &mut [i32],
-    counts: &[u16],
-    row: usize,
-    crow: usize,
-    own: usize,
-    k: usize,
-    w: u16,
-)
-    requires { Ready gains.old counts.now row crow own k w }
-    ensures { Raised (share counts.now crow own w) row k gains.old gains.new }
-{
-    let freed = when_is(counts[crow + own], 1, w);
-    let mut x = 0;
-    while x < k {
-        let s = share_of(counts, crow, own, w, x, freed);
-        add_at(gains, row + x, s);
-        x += 1;
-    }
-}
-
-// Takes from the `k` gains at `row`, of a vertex of the block `own`, the shares of a net of weight `w` whose counts start at `crow`.
-fn take_share(
-    gains: &mut [i32],
-    counts: &[u16],
-    row: usize,
-    crow: usize,
-    own: usize,
-    k: usize,
-    w: u16,
-)
-    requires { Ready gains.old counts.now row crow own k w }
-    ensures { Raised (λ x. neg_ℤ (share counts.now crow own w x)) row k gains.old gains.new }
-{
-    let freed = when_is(counts[crow + own], 1, w);
-    let mut x = 0;
-    while x < k {
-        let s = share_of(counts, crow, own, w, x, freed);
-        sub_at(gains, row + x, s);
-        x += 1;
-    }
-}
-
 // Takes a net's shares from the gains of one vertex, or puts them.
 pub fn share_row(
     gains: &mut [i32],
@@ -111,9 +59,9 @@ pub fn share_row(
     requires q_bound { (16 * q < 2 ^ 64) × (16 * e < 2 ^ 64) }
     ensures { Raised (λ j. signed take (share counts.now (16 * e) own w j)) (16 * q) k gains.old gains.new }
 {
-    if take {
-        take_share(gains, counts, 16 * q, 16 * e, own, k, w);
-    } else {
-        put_share(gains, counts, 16 * q, 16 * e, own, k, w);
+    let freed = when_is(counts[16 * e + own], 1, w);
+    for x in 0..k {
+        let share = share_of(counts, 16 * e, own, w, x, freed);
+        add_at(gains, 16 * q + x, signed(take, share));
     }
 }

@@ -7,7 +7,6 @@ ghost use Rattle.connectivity.specs.Whole.{CountsPins, CountedPins, SharesPins, 
 
 use crate::counts::set_first;
 use crate::shares::share_row;
-use incidence::numbers::index;
 
 // Counts the `p` pins from `first` in the net `e`, each in its block. The net's mask stays in hand, and is stored once.
 fn count_pins(
@@ -26,15 +25,13 @@ fn count_pins(
     ensures { CountedPins pins.now blocks.now n m k first p e counts.old counts.new visited.old visited.new }
 {
     let mut mask = visited[e];
-    let mut i = 0;
-    while i < p {
-        let x = index(pins[first + i]) - 1;
-        let s = index(blocks[x]) - 1;
+    for i in 0..p {
+        let x = usize::from(pins[first + i]) - 1;
+        let s = usize::from(blocks[x]) - 1;
         let at = 16 * e + s;
         let had = counts[at];
         counts[at] = had + 1;
         mask = set_first(mask, s, had);
-        i += 1;
     }
     visited[e] = mask;
 }
@@ -55,12 +52,10 @@ fn share_pins(
     requires { SharesPins gains.old counts.now pins.now blocks.now n k first p e w }
     ensures { Laid (given false counts.now e w) (row pins.now blocks.now first p) k gains.old gains.new }
 {
-    let mut i = 0;
-    while i < p {
-        let x = index(pins[first + i]) - 1;
-        let b = index(blocks[x]);
+    for i in 0..p {
+        let x = usize::from(pins[first + i]) - 1;
+        let b = usize::from(blocks[x]);
         share_row(gains, counts, x, e, b - 1, k, w, false);
-        i += 1;
     }
 }
 

@@ -1,51 +1,23 @@
 // Entries in use made 0, before the tables are filled.
-ghost use Rattle.std.specs.Prelude.{◌+◌, ◌*◌, ◌≤◌, length, pos};
+ghost use Rattle.std.specs.Prelude.{◌+◌, ◌*◌, ◌≤◌, length};
 ghost use Rattle.first_tables.specs.Clear.{Wiped, WipedRows};
 
-// Makes the `k` entries from `row` on 0.
-pub fn clear_row(table: &mut [u16], row: usize, k: usize)
+// Makes the `k` entries from `row` on `zero`.
+pub fn clear_row<T: Copy>(table: &mut [T], row: usize, k: usize, zero: T)
     requires { row + k ≤ length table.old }
-    ensures { Wiped 0 row k table.old table.new }
+    ensures { Wiped zero row k table.old table.new }
 {
-    let mut j = 0;
-    while j < k {
-        table[row + j] = 0;
-        j += 1;
+    for j in 0..k {
+        table[row + j] = zero;
     }
 }
 
-// Makes the first `k` entries of each of `m` rows of counts 0.
-pub fn clear_counts(counts: &mut [u16], m: usize, k: usize)
-    requires { (16 * m ≤ length counts.old) × (k ≤ 16) × (m ≤ 1024) }
-    ensures { WipedRows 0 m k counts.old counts.new }
+// Makes the first `k` entries of each of `n` rows of a table `zero`.
+pub fn clear_rows<T: Copy>(table: &mut [T], n: usize, k: usize, zero: T)
+    requires { (16 * n ≤ length table.old) × (k ≤ 16) × (n ≤ 1024) }
+    ensures { WipedRows zero n k table.old table.new }
 {
-    let mut e = 0;
-    while e < m {
-        clear_row(counts, 16 * e, k);
-        e += 1;
-    }
-}
-
-// Makes the `k` gains from `row` on 0.
-fn clear_gain_row(gains: &mut [i32], row: usize, k: usize)
-    requires { row + k ≤ length gains.old }
-    ensures { Wiped (pos 0) row k gains.old gains.new }
-{
-    let mut j = 0;
-    while j < k {
-        gains[row + j] = 0;
-        j += 1;
-    }
-}
-
-// Makes the first `k` gains of each of `n` vertices 0.
-pub fn clear_gains(gains: &mut [i32], n: usize, k: usize)
-    requires { (16 * n ≤ length gains.old) × (k ≤ 16) × (n ≤ 1024) }
-    ensures { WipedRows (pos 0) n k gains.old gains.new }
-{
-    let mut y = 0;
-    while y < n {
-        clear_gain_row(gains, 16 * y, k);
-        y += 1;
+    for y in 0..n {
+        clear_row(table, 16 * y, k, zero);
     }
 }

@@ -7,9 +7,8 @@ ghost use Rattle.std.specs.Prelude.{◌+◌, ◌<◌, ◌≡◌};
 ghost use Rattle.first_tables.specs.Fill.{FillsNet, FilledNet, MarksPins, MarkedPins, Fills, Filled};
 ghost use Rattle.first_tables.specs.Prepare.{Prepares, Prepared};
 
-use clear::{clear_counts, clear_gains, clear_row};
+use clear::{clear_row, clear_rows};
 use connectivity::whole::fill_pins;
-use incidence::numbers::index;
 use incidence::put;
 
 // Puts the `p` pins from `first` into the bitset, as pins of the net `e`.
@@ -17,11 +16,9 @@ fn mark_pins(bits: &mut [u64], presentpins: &[u16], n: usize, first: usize, p: u
     requires { MarksPins presentpins.now bits.old n first p e }
     ensures { MarkedPins presentpins.now n first p e bits.old bits.new }
 {
-    let mut i = 0;
-    while i < p {
-        let x = index(presentpins[first + i]) - 1;
+    for i in 0..p {
+        let x = usize::from(presentpins[first + i]) - 1;
         put(bits, x, e);
-        i += 1;
     }
 }
 
@@ -79,10 +76,9 @@ fn fill(
     requires { Fills netweights.now counts.old visited.old presentpins.now blocks.now firsts.now presentsizes.now bits.old gains.old n m k }
     ensures { Filled netweights.now presentpins.now blocks.now firsts.now presentsizes.now n m k bits.old bits.new counts.old counts.new visited.old visited.new gains.old gains.new }
 {
-    let mut e = 0;
-    while e < m {
-        let first = index(firsts[e]);
-        let p = index(presentsizes[e]);
+    for e in 0..m {
+        let first = usize::from(firsts[e]);
+        let p = usize::from(presentsizes[e]);
         fill_net(
             counts,
             visited,
@@ -98,7 +94,6 @@ fn fill(
             p,
             e,
         );
-        e += 1;
     }
 }
 
@@ -120,9 +115,9 @@ pub fn prepare(
     requires { Prepares netweights.now counts.old visited.old presentpins.now blocks.now firsts.now presentsizes.now bits.old gains.old n m k }
     ensures { Prepared netweights.now presentpins.now blocks.now firsts.now presentsizes.now n m k bits.old bits.new counts.old counts.new visited.old visited.new gains.old gains.new }
 {
-    clear_counts(counts, m, k);
-    clear_row(visited, 0, m);
-    clear_gains(gains, n, k);
+    clear_rows(counts, m, k, 0);
+    clear_row(visited, 0, m, 0);
+    clear_rows(gains, n, k, 0);
     fill(
         counts,
         visited,

@@ -3,7 +3,6 @@
 ghost use Rattle.std.specs.Prelude.{◌≡◌, ◌≤◌, ◌<◌, length};
 ghost use Rattle.fixed.specs.Starting.{FixedMarked, Entered, StackFits, FixedJoin, FixedIn};
 
-use incidence::numbers::index;
 use incidence::{is_pin, put, take};
 
 // Marks `x`, counted from 0, if its entry of the column says that it is fixed.
@@ -22,10 +21,8 @@ pub fn mark_fixed(fixed: &[u16], n: usize) -> [u64; 48]
     ensures { FixedMarked fixed.now n result }
 {
     let mut marks = [0u64; 48];
-    let mut x: usize = 0;
-    while x < n {
+    for x in 0..n {
         mark_entry(&mut marks, x, fixed[x]);
-        x += 1;
     }
     marks
 }
@@ -35,10 +32,10 @@ fn join_fixed(marks: &mut [u64; 48], into: u16, gone: u16)
     requires { (length marks.old ≡ 48) × (1 ≤ into) × (into ≤ 1024) × (1 ≤ gone) × (gone ≤ 1024) }
     ensures { FixedJoin marks.old into gone marks.new }
 {
-    let v = index(gone) - 1;
+    let v = usize::from(gone) - 1;
     if is_pin(marks, 1, v) {
         take(marks, 1, v);
-        put(marks, 1, index(into) - 1);
+        put(marks, 1, usize::from(into) - 1);
     }
 }
 
@@ -48,10 +45,8 @@ pub fn fixed_in(marks: [u64; 48], into: &[u16; 512], gone: &[u16; 512], len: usi
     ensures { FixedIn marks into.now gone.now len result }
 {
     let mut standing = marks;
-    let mut i: usize = 0;
-    while i < len {
+    for i in 0..len {
         join_fixed(&mut standing, into[i], gone[i]);
-        i += 1;
     }
     standing
 }

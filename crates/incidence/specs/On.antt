@@ -1,7 +1,7 @@
 -- Which vertex is a pin of which net, as the words of the bitset have it: one pin changed, the next net of a vertex, two rows joined.
 -- Rests on Word.
-use Rattle.std.specs.Prelude.{◌≡◌, refl, List, ℕ, ◌+◌, ◌-◌, ◌*◌, ◌/◌, ◌%◌, ◌^◌, ◌≤◌, ◌<◌, max, length, get_or, set, replicate}
-use Rattle.std.proofs.Common.{sym, ap, ◌∙◌, div-one, add-zero, arith, length-set, get_or-set_same, get_or-set_other}
+use Rattle.std.specs.Prelude.{Option, MatchOption, ◌≡◌, refl, List, ℕ, ◌+◌, ◌-◌, ◌*◌, ◌/◌, ◌%◌, ◌^◌, ◌≤◌, ◌<◌, max, min, length, get_or, set, replicate}
+use Rattle.std.proofs.Common.{sym, ap, ◌∙◌, div-one, add-zero, arith, shr-shr, length-set, get_or-set_same, get_or-set_other}
 use Rattle.std.proofs.Math.Decide.{dec_lt, ℕ_discrete}
 use Rattle.std.specs.Int.Bits.{bit_or}
 use Rattle.laws.specs.Bit.{bit, Made}
@@ -38,6 +38,54 @@ pub record Next (l : List ℕ) (x from m r : ℕ) : Type 0 where
   pub high : r ≤ m
   pub found : r < m → on l x r ≡ 1
   pub passed : (e : ℕ) → from ≤ e → e < r → on l x e ≡ 0
+
+-- an iterator over the nets of x below m, as it goes: it stands at one of them, or at m
+pub record Along (l : List ℕ) (x m : ℕ) (l' : List ℕ) (x' m' at : ℕ) : Type 0 where
+  pub bits : l' ≡ l
+  pub row : x' ≡ x
+  pub end : m' ≡ m
+  pub low : at ≤ m
+  pub here : at < m → on l x at ≡ 1
+
+-- it begins at the first one
+pub record Starts (l : List ℕ) (x m : ℕ) (l' : List ℕ) (x' m' at : ℕ) : Type 0 where
+  pub along : Along l x m l' x' m' at
+  pub first : Next l x 0 m at
+
+-- it gave the net where it stood, and stands at the next one
+pub record GaveOne (l : List ℕ) (x m at e : ℕ) (l' : List ℕ) (x' m' at' : ℕ) : Type 0 where
+  pub here : at ≡ e
+  pub below : e < m
+  pub next : Next l x (e + 1) m at'
+  pub bits : l' ≡ l
+  pub row : x' ≡ x
+  pub end : m' ≡ m
+
+-- or nothing at the end
+abbrev pub GaveNet : List ℕ → ℕ → ℕ → ℕ → Option ℕ → List ℕ → ℕ → ℕ → ℕ → Type 0
+GaveNet l x m at r l' x' m' at' = MatchOption r ((at ≡ m) × (l' ≡ l) × (x' ≡ x) × (m' ≡ m) × (at' ≡ at)) (λ e. GaveOne l x m at e l' x' m' at')
+
+pub along-next : {l : List ℕ} {x m : ℕ} {l' : List ℕ} {x' m' at e : ℕ} {l'' : List ℕ} {x'' m'' at' : ℕ} → Along l x m l' x' m' at → GaveOne l' x' m' at e l'' x'' m'' at' → Along l x m l'' x'' m'' at'
+along-next a g = record {
+  bits = g.bits ∙ a.bits;
+  row = g.row ∙ a.row;
+  end = g.end ∙ a.end;
+  low = omega (arith, g.next.high, a.end);
+  here = λ h. rw (a.bits, a.row) at (g.next.found (omega (arith, a.end, h)));
+}
+
+-- e is a net of x, and at' the next one
+pub record Net (l : List ℕ) (x m e at' : ℕ) : Type 0 where
+  pub below : e < m
+  pub here : on l x e ≡ 1
+  pub next : Next l x (e + 1) m at'
+
+pub gave : {l : List ℕ} {x m : ℕ} {l' : List ℕ} {x' m' at e : ℕ} {l'' : List ℕ} {x'' m'' at' : ℕ} → Along l x m l' x' m' at → GaveOne l' x' m' at e l'' x'' m'' at' → Net l x m e at'
+gave {at = at} {e = e} a g = record {
+  below = omega (arith, g.below, a.end);
+  here = let q : at ≡ e = g.here in rw q at (a.here (omega (arith, g.here, g.below, a.end)));
+  next = rw (a.bits, a.row, a.end) at g.next;
+}
 
 -- ---- one bit changed
 
@@ -86,6 +134,9 @@ pub record Cut (a m r : ℕ) : Type 0 where
   pub left : r ≤ a
   pub right : r ≤ m
   pub same : r < m → r ≡ a
+
+pub cut_min : (a m r : ℕ) → r ≡ min a m → Cut a m r
+cut_min a m r e = record { left = omega (arith, e); right = omega (arith, e); same = λ h. omega (arith, e, h) }
 
 -- found at bit j + t of the word w, of which the bits from j on were looked at
 pub next-at : (l : List ℕ) (x from w j t m r : ℕ) → from ≤ m → j < 64 → from ≤ w * 64 + j → Clear l x from (w * 64 + j) → get_or l (16 * x + w) 0 < 2 ^ 64
@@ -202,3 +253,61 @@ joined l l' u v j = record {
         go : Dec (y ≡ u) → 16 * y + e / 64 < 16 * u
         go (yes z) = absurd (ne z)
         go (no z) = omega arith
+
+-- ---- stops: a net of x, or m, and the bits of its word above it
+
+-- rest has the bits of the word of `at` above it
+abbrev pub RestOf : List ℕ → ℕ → ℕ → ℕ → Type 0
+RestOf l x at rest = (get_or l (16 * x + at / 64) 0 < 2 ^ 64) × (rest ≡ get_or l (16 * x + at / 64) 0 / 2 ^ (at % 64 + 1))
+
+-- the lowest bit of a part of a word, whose bit 0 stands for the net `from`; t is its number
+pub record Stopped (part from m at rest : ℕ) : Type 0 where
+  pub t : ℕ
+  pub lowest : Lowest part t
+  pub cut : Cut (from + t) m at
+  pub above : rest ≡ part / 2 ^ (t + 1)
+
+-- `at` is the first net of x from `from` on, or m
+pub record StopsAt (l : List ℕ) (x from m at rest : ℕ) : Type 0 where
+  pub next : Next l x from m at
+  pub above : at < m → RestOf l x at rest
+
+-- the nets of x from `at` on are below m, and its row is in the table
+pub record InRow (l : List ℕ) (x m at rest : ℕ) : Type 0 where
+  pub row : 16 * x + 16 ≤ length l
+  pub low : at ≤ m
+  pub high : m ≤ 1024
+  pub above : at < m → RestOf l x at rest
+
+-- a stop in what the word w has from its bit j on, which stands for the net `base`
+pub stop-in : (l : List ℕ) (x from w j base part m at rest : ℕ) → base ≡ w * 64 + j → from ≤ m → from ≤ base → Clear l x from base → get_or l (16 * x + w) 0 < 2 ^ 64
+    → part ≡ get_or l (16 * x + w) 0 / 2 ^ j → 0 < part → Stopped part base m at rest → StopsAt l x from m at rest
+stop-in l x from w j base part m at rest e le start clear fits is some s = record {
+  next = next-at l x from w j s.t m at le inside (omega (arith, e)) (rw e at clear) fits (rw is at s.lowest) (rw e at s.cut);
+  above = λ h.
+      let q : at ≡ base + s.t = s.cut.same h in
+      let b : j + s.t < 64 = within in
+      let d : at / 64 ≡ w = omega (arith, q, e, b) in
+      let r : at % 64 + 1 ≡ j + (s.t + 1) = omega (arith, q, e, b) in
+      (rw d fits, s.above ∙ rw (is, d, r) (shr-shr (get_or l (16 * x + w) 0) j (s.t + 1)));
+}
+  where
+    one : bit (get_or l (16 * x + w) 0) (j + s.t) ≡ 1
+    one = sym (bit-shr (get_or l (16 * x + w) 0) j s.t) ∙ (rw is at s.lowest.set)
+
+    within : j + s.t < 64
+    within = go (dec_lt (j + s.t) 64)
+      where
+        go : Dec (j + s.t < 64) → j + s.t < 64
+        go (yes h) = h
+        go (no h) = absurd (omega (arith, one, bit_high (get_or l (16 * x + w) 0) (j + s.t) fits (omega arith)))
+
+    inside : j < 64
+    inside = omega (arith, within)
+
+-- where a word has nothing above the net `at`, the nets after `at` in it are none of x's
+pub clear-above : (l : List ℕ) (x at rest : ℕ) → RestOf l x at rest → rest ≡ 0 → Clear l x (at + 1) (64 * (at / 64 + 1))
+clear-above l x at rest is z e low high =
+    same_word l x e (at / 64) (at % 64 + 1 + (e - (at + 1))) (omega arith) (omega arith)
+    ∙ sym (bit-shr (get_or l (16 * x + at / 64) 0) (at % 64 + 1) (e - (at + 1)))
+    ∙ bit-of-zero (get_or l (16 * x + at / 64) 0 / 2 ^ (at % 64 + 1)) (e - (at + 1)) (sym is.1 ∙ z)

@@ -1,13 +1,6 @@
-// Numbers of the tables as code works with them.
-ghost use Rattle.std.specs.Prelude.{◌≡◌, ◌+◌, ◌*◌, ◌≤◌, ◌<◌, length};
+// A block of a row of the index as code works with it.
+ghost use Rattle.std.specs.Prelude.{◌+◌, ◌*◌, ◌≤◌, ◌<◌, length};
 ghost use Rattle.index.specs.Row.{row_at, Block};
-
-// A table's number as an index.
-pub fn wide(x: u16) -> usize
-    ensures { result ≡ x }
-{
-    x as usize
-}
 
 // The block at place `j` of a row of the index.
 pub fn block_at(index: &[u16], x: usize, j: usize) -> usize
@@ -15,5 +8,5 @@ pub fn block_at(index: &[u16], x: usize, j: usize) -> usize
     requires bound { (1 ≤ row_at index.now x j) × (row_at index.now x j ≤ 16) }
     ensures { Block (row_at index.now x j) result }
 {
-    index[16 * x + j] as usize
+    usize::from(index[16 * x + j])
 }

@@ -5,7 +5,6 @@ ghost use Rattle.guarantees.specs.Ranked.{ranked_by, Other};
 ghost use Rattle.index.specs.Row.{gain_at, Holds, RowsOk};
 
 use crate::keys::key_of;
-use crate::numbers::wide;
 
 // Above the number of every block.
 const ABOVE_ALL: u64 = 137438953472;
@@ -14,13 +13,7 @@ const ABOVE_ALL: u64 = 137438953472;
 pub fn is_other(own: usize, k: usize, b: usize) -> bool
     ensures { result ≡ true → Other own k b }
 {
-    if b == 0 {
-        return false;
-    }
-    if k < b {
-        return false;
-    }
-    b != own
+    1 <= b && b <= k && b != own
 }
 
 // Whether the row of vertex `x`, of block `own`, is ranked.
@@ -30,9 +23,8 @@ pub fn in_order(index: &[u16], gains: &[i32], x: usize, own: usize, k: usize) ->
 {
     let row = 16 * x;
     let mut last = ABOVE_ALL;
-    let mut j: usize = 0;
-    while j + 1 < k {
-        let b = wide(index[row + j]);
+    for j in 0..k - 1 {
+        let b = usize::from(index[row + j]);
         if !is_other(own, k, b) {
             return false;
         }
@@ -41,7 +33,6 @@ pub fn in_order(index: &[u16], gains: &[i32], x: usize, own: usize, k: usize) ->
             return false;
         }
         last = key;
-        j += 1;
     }
-    wide(index[row + j]) == 0
+    index[row + (k - 1)] == 0
 }

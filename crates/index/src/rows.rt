@@ -3,7 +3,6 @@ ghost use Rattle.std.specs.Prelude.{◌≡◌, true, ◌+◌, ◌≤◌, ◌<◌
 ghost use Rattle.index.specs.Row.{Holds, Written, RowsOk};
 ghost use Rattle.index.specs.Indexed.{row_for, TablesOk, RightBetween, Indexed};
 
-use crate::numbers::wide;
 use crate::order::in_order;
 use crate::rank::{clear_row, rank_row};
 use crate::sort::settle;
@@ -13,7 +12,7 @@ fn is_right(index: &[u16], gains: &[i32], blocks: &[u16], x: usize, k: usize) ->
     requires { RowsOk (length index.now) (length gains.now) x k × (x < length blocks.now) × (get_or blocks.now x 0 ≤ k) }
     ensures { result ≡ true → Holds k index.now x (row_for gains.now blocks.now k x) }
 {
-    let own = wide(blocks[x]);
+    let own = usize::from(blocks[x]);
     if own == 0 {
         return false;
     }
@@ -25,7 +24,7 @@ fn set_row(index: &mut [u16], gains: &[i32], blocks: &[u16], x: usize, k: usize)
     requires { RowsOk (length index.old) (length gains.now) x k × (x < length blocks.now) × (get_or blocks.now x 0 ≤ k) }
     ensures { Written k index.old index.new x (row_for gains.now blocks.now k x) }
 {
-    let own = wide(blocks[x]);
+    let own = usize::from(blocks[x]);
     if own == 0 {
         clear_row(index, x, k);
         return;
@@ -47,37 +46,12 @@ pub fn put_right(index: &mut [u16], gains: &[i32], blocks: &[u16], x: usize, k: 
     set_row(index, gains, blocks, x, k);
 }
 
-// The first vertex from `from` on whose row is not known to be right; `n` or more where there is none. Most rows are right: so they are read in one
-// loop that writes nothing.
-fn next_wrong(
-    index: &[u16],
-    gains: &[i32],
-    blocks: &[u16],
-    from: usize,
-    n: usize,
-    k: usize,
-) -> usize
-    requires { TablesOk (length index.now) (length gains.now) blocks.now n k }
-    ensures { RightBetween gains.now blocks.now k index.now from result }
-{
-    let mut x = from;
-    while x < n {
-        if !is_right(index, gains, blocks, x, k) {
-            return x;
-        }
-        x += 1;
-    }
-    x
-}
-
 // Makes the rows of the `n` vertices right.
 pub fn put_all_right(index: &mut [u16], gains: &[i32], blocks: &[u16], n: usize, k: usize)
     requires { TablesOk (length index.old) (length gains.now) blocks.now n k }
     ensures { Indexed gains.now blocks.now n k index.old index.new }
 {
-    let mut x = next_wrong(index, gains, blocks, 0, n, k);
-    while x < n {
-        set_row(index, gains, blocks, x, k);
-        x = next_wrong(index, gains, blocks, x + 1, n, k);
+    for x in 0..n {
+        put_right(index, gains, blocks, x, k);
     }
 }

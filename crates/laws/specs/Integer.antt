@@ -176,7 +176,7 @@ pub +ℤ-cancel-l : (a b : ℤ) → a +ℤ (neg_ℤ a +ℤ b) ≡ b
 pub +ℤ-cancel-l' : (a b : ℤ) → neg_ℤ a +ℤ (a +ℤ b) ≡ b
 +ℤ-cancel-l' a b = eq-by _ _ (omega (arith, neg_is a, add_is a b, add_is (neg_ℤ a) (a +ℤ b)))
 
--- ---- a call of `plus` or `less`: the arguments and the result are read back from their bits. `g` and `s` are what is
+-- ---- a sum or a difference of two given numbers: the arguments and the result are read back from their bits. `g` and `s` are what is
 -- passed, `a` and `b` what is known of them, `v` the result
 
 pub plus-fits : (g s a b : ℤ) → mag g < 2 ^ 31 → mag s < 2 ^ 31 → g ≡ a → s ≡ b → nat_abs a + nat_abs b < 2 ^ 31 → SFits w32 (to_z w32 (of_z w32 g) +ℤ to_z w32 (of_z w32 s))
@@ -221,9 +221,23 @@ nat_abs-diff a b B ha hb = ⊎_elim
 pub grow : (a b c s t : ℤ) → b ≡ a +ℤ s → c ≡ b +ℤ t → c ≡ a +ℤ (s +ℤ t)
 grow a b c s t e d = d ∙ ap (λ (z : ℤ). z +ℤ t) e ∙ +ℤ_assoc a s t
 
--- ---- a call of `add_at` or `sub_at`: only the number that is passed is read back
+-- ---- a sum or a difference at a place of a table: only the number that is passed is read back
 pub add-at-fits : (z s a b : ℤ) → mag s < 2 ^ 31 → z ≡ a → s ≡ b → nat_abs a + nat_abs b < 2 ^ 31 → SFits w32 (z +ℤ to_z w32 (of_z w32 s))
 add-at-fits z s a b fs ez es l = rw (read32 s fs, ez, es) (fits32 (a +ℤ b) (omega (arith, nat_abs-add a b)))
 
 pub sub-at-fits : (z s a b : ℤ) → mag s < 2 ^ 31 → z ≡ a → s ≡ b → nat_abs a + nat_abs b < 2 ^ 31 → SFits w32 (z -ℤ to_z w32 (of_z w32 s))
 sub-at-fits z s a b fs ez es l = rw (read32 s fs, ez, es) (fits32 (a -ℤ b) (omega (arith, nat_abs-sub a b)))
+
+-- ---- a number negated: each number is read back from its bits
+module _ (z : ℤ) (f : SFits w32 z) (l : nat_abs z < 2 ^ 31) where
+  difference : pos 0 -ℤ to_z w32 (of_z w32 z) ≡ neg_ℤ z
+  difference = ap (λ (y : ℤ). pos 0 -ℤ y) (read32 z f.sfits) ∙ eq-by _ _ (omega (arith, sub_is (pos 0) z, neg_is z, pos-is 0))
+
+  less-small : nat_abs (neg_ℤ z) < 2 ^ 31
+  less-small = omega (arith, abs_is (neg_ℤ z), abs_is z, neg_is z, l)
+
+  pub negated_fits : SFits w32 (pos 0 -ℤ to_z w32 (of_z w32 z))
+  negated_fits = rw difference (fits32 (neg_ℤ z) less-small)
+
+  pub negated-is : to_z w32 (of_z w32 (pos 0 -ℤ to_z w32 (of_z w32 z))) ≡ neg_ℤ z
+  negated-is = ap (λ (y : ℤ). to_z w32 (of_z w32 y)) difference ∙ read32 (neg_ℤ z) (omega (arith, abs_is (neg_ℤ z), less-small))

@@ -2,8 +2,7 @@
 ghost use Rattle.levels.specs.Halves.{HalvesNeeds, HalvesFound};
 
 use connectivity::halves::{Halves, net_halves, when_is};
-use incidence::next_net;
-use incidence::numbers::index;
+use incidence::nets_of;
 
 // The halves of the vertex `u`, which is on the board, to the block `t`.
 pub fn halves(
@@ -18,21 +17,16 @@ pub fn halves(
     requires { HalvesNeeds counts.now bits.now blocks.now netweights.now m u t }
     ensures { HalvesFound counts.now bits.now blocks.now netweights.now m u t result.freed result.drawn }
 {
-    let from = index(blocks[u]) - 1;
+    let from = usize::from(blocks[u]) - 1;
     let to = t - 1;
     let mut freed: u32 = 0;
     let mut drawn: u32 = 0;
-    let mut e = next_net(bits, u, 0, m);
-    while e < m {
+    for e in nets_of(bits, u, m) {
         let w = netweights[e];
         let own = when_is(counts[16 * e + from], 1, w);
         let net = net_halves(counts, 16 * e + to, w, own);
         freed += net.freed;
         drawn += net.drawn;
-        e = next_net(bits, u, e + 1, m);
     }
-    Halves {
-        freed: freed,
-        drawn: drawn,
-    }
+    Halves { freed, drawn }
 }

@@ -4,70 +4,15 @@
 pub mod halves;
 mod nets;
 
-ghost use Rattle.std.specs.Prelude.{◌+◌, ◌*◌, ◌<◌};
 ghost use Rattle.levels.specs.Running.{running};
-ghost use Rattle.levels.specs.Move.{Moves, Moving};
 ghost use Rattle.levels.specs.Contract.{ContractsAll, ContractedAll};
 ghost use Rattle.levels.specs.Uncontract.{UncontractsAll, UncontractedAll};
 ghost use Rattle.levels.specs.Operations.{MoveNeeds, MoveDoes, ContractNeeds, ContractDoes, UncontractNeeds, UncontractDoes};
 
 use connectivity::move_pin;
-use incidence::numbers::{index, narrow};
-use incidence::{copy_or, least, next_bit, next_net};
+use incidence::numbers::narrow;
+use incidence::{copy_or, nets_of, next_net};
 use nets::{contract_net, split_net};
-
-// Moves the vertex `u` from the block `s` to `b` in those of its nets that the word `c` of its row has. The word stays in hand, and is not read
-// from memory for each net.
-fn move_word(
-    counts: &mut [u16],
-    visited: &mut [u16],
-    gains: &mut [i32],
-    blocks: &[u16],
-    netweights: &[u16],
-    presentpins: &[u16],
-    firsts: &[u16],
-    presentsizes: &[u16],
-    bits: &[u64],
-    n: usize,
-    m: usize,
-    k: usize,
-    u: usize,
-    s: usize,
-    b: usize,
-    c: usize,
-)
-    requires moves { Moves netweights.now counts.old visited.old presentpins.now blocks.now firsts.now presentsizes.now bits.now gains.old n m k u s b (64 * c) }
-    requires c_bound { 64 * c < m }
-    ensures { Moving netweights.now presentpins.now blocks.now firsts.now presentsizes.now n m k u b (64 * (c + 1)) counts.old counts.new visited.old visited.new gains.old gains.new }
-{
-    let base = 64 * c;
-    let word = bits[16 * u + c];
-    let to = least(m - base, 64);
-    let mut j = next_bit(word, 0);
-    while j < to {
-        let e = base + j;
-        let first = index(firsts[e]);
-        let p = index(presentsizes[e]);
-        move_pin(
-            counts,
-            visited,
-            gains,
-            netweights,
-            presentpins,
-            blocks,
-            n,
-            m,
-            k,
-            first,
-            p,
-            e,
-            u,
-            s,
-            b,
-        );
-        j = next_bit(word, j + 1);
-    }
-}
 
 // Moves the vertex `u`, which is on the board, to the block `t`.
 pub fn move_vertex(
@@ -92,32 +37,31 @@ pub fn move_vertex(
         (running counts.new visited.new gains.new presentpins.now presentsizes.now bits.now blocks.new netweights.now firsts.now)
         n m k u t }
 {
-    let s = index(blocks[u]);
-    let b = index(t);
+    let s = usize::from(blocks[u]);
+    let b = usize::from(t);
     if s == b {
         return;
     }
-    let mut c = 0;
-    while 64 * c < m {
-        move_word(
+    for e in nets_of(bits, u, m) {
+        let first = usize::from(firsts[e]);
+        let p = usize::from(presentsizes[e]);
+        move_pin(
             counts,
             visited,
             gains,
-            blocks,
             netweights,
             presentpins,
-            firsts,
-            presentsizes,
-            bits,
+            blocks,
             n,
             m,
             k,
+            first,
+            p,
+            e,
             u,
             s,
             b,
-            c,
         );
-        c += 1;
     }
     blocks[u] = t;
 }
@@ -142,10 +86,9 @@ fn contract_nets(
     requires { ContractsAll netweights.now counts.old visited.old presentpins.old blocks.now firsts.now presentsizes.old bits.old gains.old n m k u v }
     ensures { ContractedAll netweights.now blocks.now firsts.now n m k u v presentpins.old presentpins.new presentsizes.old presentsizes.new bits.old bits.new counts.old counts.new visited.old visited.new gains.old gains.new }
 {
-    let mut e = next_net(bits, v, 0, m);
-    while e < m {
-        let first = index(firsts[e]);
-        let p = index(presentsizes[e]);
+    for e in nets_of(bits, v, m) {
+        let first = usize::from(firsts[e]);
+        let p = usize::from(presentsizes[e]);
         let r = contract_net(
             counts,
             visited,
@@ -164,7 +107,6 @@ fn contract_nets(
             v,
         );
         presentsizes[e] = narrow(r);
-        e = next_net(bits, v, e + 1, m);
     }
     copy_or(bits, u, v);
 }
@@ -234,11 +176,12 @@ fn uncontract_nets(
     requires { UncontractsAll netweights.now counts.old visited.old presentpins.old blocks.now firsts.now presentsizes.old loadedsizes.now bits.old gains.old n m k u v }
     ensures { UncontractedAll netweights.now blocks.now firsts.now loadedsizes.now n m k u v presentpins.old presentpins.new presentsizes.old presentsizes.new bits.old bits.new counts.old counts.new visited.old visited.new gains.old gains.new }
 {
+    // Each turn changes the bitset, so that no iterator over it can stand.
     let mut e = next_net(bits, v, 0, m);
     while e < m {
-        let first = index(firsts[e]);
-        let p = index(presentsizes[e]);
-        let full = index(loadedsizes[e]);
+        let first = usize::from(firsts[e]);
+        let p = usize::from(presentsizes[e]);
+        let full = usize::from(loadedsizes[e]);
         let r = split_net(
             counts,
             visited,

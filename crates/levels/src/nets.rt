@@ -5,7 +5,7 @@ ghost use Rattle.levels.specs.SplitNet.{SplitNetNeeds, SplitNetDoes};
 
 use connectivity::set_pin;
 use incidence::is_pin;
-use incidence::numbers::{index, number};
+use incidence::numbers::number;
 use pins::{relink, uncontract_net};
 
 // Contracts `v`, a pin of the net `e`, into `u`, of the same block. The answer is the new number of pins.
@@ -29,7 +29,7 @@ pub fn contract_net(
     requires { ContractNetNeeds netweights.now counts.old visited.old presentpins.old blocks.now bits.now gains.old n m k first p e u v }
     ensures { ContractNetDoes netweights.now blocks.now n m k first p e u v result presentpins.old presentpins.new counts.old counts.new visited.old visited.new gains.old gains.new }
 {
-    let s = index(blocks[v]);
+    let s = usize::from(blocks[v]);
     set_pin(
         counts,
         visited,
@@ -94,7 +94,7 @@ pub fn split_net(
     requires { SplitNetNeeds netweights.now counts.old visited.old presentpins.old blocks.now bits.old gains.old n m k first p loadedsizes e u v }
     ensures { SplitNetDoes netweights.now blocks.now n m k first p loadedsizes e u v result presentpins.old presentpins.new bits.old bits.new counts.old counts.new visited.old visited.new gains.old gains.new }
 {
-    let s = index(blocks[v]);
+    let s = usize::from(blocks[v]);
     set_pin(
         counts,
         visited,

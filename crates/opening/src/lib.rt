@@ -11,11 +11,11 @@ fn cost(weight: u16, mask: u16) -> u32
     requires { weight ≤ 1000 }
     ensures { (result ≡ weight * (sum 16 (bit mask) - 1)) × (result ≤ 16000) }
 {
-    let spread = report::closing::set_bits(mask);
+    let spread = mask.count_ones();
     if spread < 1 {
         return 0;
     }
-    (weight as u32) * (spread - 1)
+    u32::from(weight) * (spread - 1)
 }
 
 // The metric by the nets' connectivity sets.
@@ -24,10 +24,8 @@ fn metric_of(visited: &[u16], netweights: &[u16], m: usize) -> u32
     ensures { result ≡ metric_by visited.now netweights.now m }
 {
     let mut t: u32 = 0;
-    let mut e = 0;
-    while e < m {
+    for e in 0..m {
         t += cost(netweights[e], visited[e]);
-        e += 1;
     }
     t
 }
@@ -37,10 +35,8 @@ fn weigh_blocks(loads: &mut [u64; 16], weights: &[u32], blocks: &[u16], n: usize
     requires { (n ≤ 1024) × (k ≤ 16) × (n ≤ length weights.now) × (n ≤ length blocks.now) × (length loads.old ≡ 16) }
     ensures { Weighed weights.now blocks.now n k loads.new }
 {
-    let mut b = 0;
-    while b < k {
+    for b in 0..k {
         loads[b] = block_weights::block_weight(weights, blocks, n, b as u32 + 1);
-        b += 1;
     }
 }
 

@@ -1,7 +1,9 @@
 -- A place in a rising stretch found by halves. Rests on laws' Rising.
-use Rattle.std.specs.Prelude.{◌≡◌, List, ℕ, ◌+◌, ◌-◌, ◌≤◌, ◌<◌}
+use Rattle.std.specs.Prelude.{◌≡◌, true, false, List, ℕ, ◌+◌, ◌-◌, ◌≤◌, ◌<◌, ltb, length, take, drop, get_or}
+use Rattle.std.specs.List.Sorted.{IsPartitionedBy, IsPartitionPoint}
 use Rattle.std.proofs.Math.Decide.{ℕ_discrete}
-use Rattle.std.proofs.Common.{arith}
+use Rattle.std.proofs.Common.{arith, ap, ◌∙◌, ltb-true, ltb-false, lt-ltb}
+use Rattle.std.proofs.lemmas.List.{length-take, length-drop, get_or-take, get_or-drop, get_or_default}
 use Rattle.laws.specs.Occurrence.{at}
 use Rattle.laws.specs.Rising.{Rising}
 
@@ -43,3 +45,46 @@ lower-half l f x lo hi mid a b h = record { less = omega arith; between = λ fro
 
 pub placed : {l : List ℕ} {f from n x lo hi : ℕ} → Between l f from n x lo hi → hi ≤ lo → Placed l f from n x lo
 placed w h = record { low = w.low; high = omega (arith, w.order, w.high); below = w.below; above = λ r k p q. w.above r k (omega arith) q }
+
+-- ---- the stretch from place `from` on, as a list by itself
+
+abbrev pub from_on : List ℕ → ℕ → ℕ → ℕ → List ℕ
+from_on l f from n = take (f + n - (f + from)) (drop (f + from) l)
+
+from_on-length : (l : List ℕ) (f from n : ℕ) → f + n ≤ length l → from ≤ n → length (from_on l f from n) ≡ n - from
+from_on-length l f from n fit le = omega (arith, length-take (f + n - (f + from)) (drop (f + from) l), length-drop (f + from) l)
+
+from_on-at : (l : List ℕ) (f from n k d : ℕ) → f + n ≤ length l → from + k < n → get_or (from_on l f from n) k d ≡ at l f (from + k)
+from_on-at l f from n k d fit h =
+    let e : f + from + k ≡ f + (from + k) = omega arith in
+    get_or-take (f + n - (f + from)) (drop (f + from) l) k d (omega arith)
+    ∙ get_or-drop (f + from) l k d
+    ∙ get_or_default l (f + from + k) d 0 (omega arith)
+    ∙ ap (λ (i : ℕ). get_or l i 0) e
+
+-- its pins below x come first
+pub rising-split : (l : List ℕ) (f from n x : ℕ) → f + n ≤ length l → from ≤ n → Rising l f n → IsPartitionedBy (λ y. ltb y x) (from_on l f from n)
+rising-split l f from n x fit le r i j d ij jn e = go (ℕ_discrete i j)
+  where
+    inside : from + j < n
+    inside = omega (arith, jn, from_on-length l f from n fit le)
+
+    below : at l f (from + j) < x
+    below = ltb-true _ _ (rw (from_on-at l f from n j d fit inside) at e)
+
+    go : Dec (i ≡ j) → ltb (get_or (from_on l f from n) i d) x ≡ true
+    go (yes q) = rw q e
+    go (no q) = rw (from_on-at l f from n i d fit (omega (arith, inside))) (lt-ltb _ _ (omega (arith, below, r (from + i) (from + j) (omega arith) inside)))
+
+pub placed-split : {l : List ℕ} {f from n x r : ℕ} → f + n ≤ length l → from ≤ n → r ≤ length (from_on l f from n)
+    → (Rising l f n → IsPartitionPoint (λ y. ltb y x ≡ true) (λ y. ltb y x ≡ false) (from_on l f from n) r) → Placed l f from n x (from + r)
+placed-split {l} {f} {from} {n} {x} {r} fit le b s = record {
+  low = omega arith;
+  high = omega (arith, from_on-length l f from n fit le);
+  below = λ u k a h.
+      let e : from + (k - from) ≡ k = omega arith in
+      ltb-true _ _ (rw (from_on-at l f from n (k - from) 0 fit (omega (arith, from_on-length l f from n fit le)), e) at ((s u).0 (k - from) 0 (omega arith) (omega arith)));
+  above = λ u k a h.
+      let e : from + (k - from) ≡ k = omega arith in
+      ltb-false _ _ (rw (from_on-at l f from n (k - from) 0 fit (omega arith), e) at ((s u).1 (k - from) 0 (omega arith) (omega (arith, from_on-length l f from n fit le))));
+}

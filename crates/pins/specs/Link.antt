@@ -1,11 +1,16 @@
 -- One net's stretch of pins: a vertex found in it, replaced or removed by a contraction, put back by the undo. Rests on laws of occurrences.
-use Rattle.std.specs.Prelude.{◌≡◌, refl, ◌⊎◌, ◌↔◌, List, ℕ, ◌+◌, ◌-◌, ◌≤◌, ◌<◌, max, length, set}
+use Rattle.std.specs.Prelude.{Option, Some, None, IsSome, ◌≡◌, refl, ◌⊎◌, ◌↔◌, List, ℕ, ◌+◌, ◌-◌, ◌≤◌, ◌<◌, max, length, set}
 use Rattle.std.proofs.Common.{sym, ap, ◌∙◌, inl, inr, arith, length-set, get_or-set_same, get_or-set_other}
 use Rattle.std.proofs.Math.Decide.{ℕ_discrete, dec_lt}
 use Rattle.laws.specs.Occurrence.{at, same, occ, In, Distinct, same-yes, same-no, same-le, occ-step, occ-at, occ-in, occ-more, occ-set, occ-ext, distinct-occ, occ-distinct}
 use Rattle.laws.specs.Rising.{Rising, rising-distinct}
 use Rattle.pins.specs.Rising.{RisingBut, Outside, Shuffled, Carried, Lowered, wider, stood, apart}
 use Rattle.pins.specs.Lift.{Lifted}
+
+-- a place that was found, or n
+abbrev pub place_or : ℕ → Option ℕ → ℕ
+place_or n None = n
+place_or n (Some i) = i
 
 -- r is a place of the stretch that holds x, or n where x is in none
 pub record Found (l : List ℕ) (f n x r : ℕ) : Type 0 where
@@ -19,6 +24,11 @@ found_in l f n x r h i = go (dec_lt r n)
     go : Dec (r < n) → r < n
     go (yes k) = k
     go (no k) = absurd (omega (arith, h.missing (omega (arith, h.within)), occ-at l f n i.0 x i.1 i.2))
+
+-- what stands there is found
+pub found-some : (l : List ℕ) (f n x : ℕ) (r : Option ℕ) → Found l f n x (place_or n r) → In l f n x → IsSome r
+found-some l f n x None h i = absurd (omega (arith, found_in l f n x n h i))
+found-some l f n x (Some k) h i = refl
 
 -- v is contracted into u: the stretch of n places of l, with v among them, is now the stretch of r places of l'
 pub record Relinked (l l' : List ℕ) (f n r u v : ℕ) : Type 0 where

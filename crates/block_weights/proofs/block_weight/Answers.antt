@@ -1,5 +1,5 @@
-use Rattle.std.proofs.Common.{arith, ◌≡◌, sym, ◌∙◌, ap, rules, ◌-◌, ◌*◌, ◌≤◌}
-use Rattle.laws.specs.Sum.{sum, sum-zero, sum_step}
+use Rattle.std.proofs.Common.{arith, sym}
+use Rattle.laws.specs.Sum.{sum-zero, sum_step}
 use Rattle.block_weights.specs.Term.{block_term}
 use Rattle.block_weights.proofs.block_weight.Goals as goal
 
@@ -9,7 +9,3 @@ loop-i-init c = let a = c.args in (omega arith, sym (sum-zero (block_term a.b a.
 pub loop-i-preserved : goal.loop-i-preserved
 loop-i-preserved c =
     let l = c.loop-i in let a = c.args in (omega arith, omega (arith, l.invariant.1, c.share.ensures, sum_step l.i (block_term a.b a.weights.now a.draft.now)), omega (arith, l.invariant.2))
-
-pub returns : goal.returns
-returns c =
-    let l = c.loop-i in let a = c.args in l.invariant.1 ∙ ap (λ n. sum n (block_term a.b a.weights.now a.draft.now)) (omega arith)

@@ -7,6 +7,3 @@ use Rattle.connectivity.proofs.add_row.Given as goal
 
 abbrev pub invariant-loop-j : goal.invariant-loop-j
 invariant-loop-j l = (l.j ≤ l.k) × Raised (λ _. l.d) (16 * l.x) l.j l.initial.gains l.gains
-
-abbrev pub decreases-loop-j : goal.decreases-loop-j
-decreases-loop-j l = l.k - l.j

@@ -7,6 +7,3 @@ use Rattle.connectivity.proofs.but_row.Given as goal
 
 abbrev pub invariant-loop-j : goal.invariant-loop-j
 invariant-loop-j l = (l.j ≤ l.k) × Raised (Rest l.take l.a l.w) (16 * l.q) l.j l.initial.gains l.gains
-
-abbrev pub decreases-loop-j : goal.decreases-loop-j
-decreases-loop-j l = l.k - l.j

@@ -16,21 +16,21 @@ bounds-pins-first c =
 
 pub overflow_sub-q : goal.overflow_sub-q
 overflow_sub-q c =
-    omega (arith, pin-range c.requires.net c.loop-i-test.true c.index-q.ensures)
+    omega (arith, pin-range c.requires.net c.loop-i-test.true c.from-q.ensures)
 
 pub other_in-requires : goal.other_in-requires
 other_in-requires c =
-    omega (arith, c.requires.n_in_bounds, pin-range c.requires.net c.loop-i-test.true c.index-q.ensures)
+    omega (arith, c.requires.n_in_bounds, pin-range c.requires.net c.loop-i-test.true c.from-q.ensures)
 
 pub returns-then-other_in : goal.returns-then-other_in
 returns-then-other_in c =
     let a = c.args in
-    found_here a.pins.now a.blocks.now a.first a.p a.x a.s c.loop-i-test.true c.loop-i.invariant.1 c.index-q.ensures (rw (← c.if-other_in.true) c.other_in.ensures)
+    (c.loop-i-test.true, found_here a.pins.now a.blocks.now a.first a.p a.x a.s c.loop-i-test.true c.loop-i.invariant.1 c.from-q.ensures (rw (← c.if-other_in.true) c.other_in.ensures))
 
 pub loop-i-preserved : goal.loop-i-preserved
 loop-i-preserved c =
     let a = c.args in
-    (omega arith, passed-more a.pins.now a.blocks.now a.first a.p a.x a.s c.loop-i.invariant.1 c.index-q.ensures (rw (← c.if-other_in.false) c.other_in.ensures))
+    (omega arith, passed-more a.pins.now a.blocks.now a.first a.p a.x a.s c.loop-i.invariant.1 c.from-q.ensures (rw (← c.if-other_in.false) c.other_in.ensures))
 
 pub returns : goal.returns
 returns c =

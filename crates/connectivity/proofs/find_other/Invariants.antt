@@ -6,6 +6,3 @@ use Rattle.connectivity.proofs.find_other.Given as goal
 
 abbrev pub invariant-loop-i : goal.invariant-loop-i
 invariant-loop-i l = (l.i ≤ l.p) × Passed l.pins l.blocks l.first l.x l.s l.i
-
-abbrev pub decreases-loop-i : goal.decreases-loop-i
-decreases-loop-i l = l.p - l.i

@@ -7,4 +7,4 @@ pub returns-then-q-x : goal.returns-then-q-x
 returns-then-q-x c = other-same c.if-q-x.true
 
 pub returns : goal.returns
-returns c = other_test c.if-q-x.false c.index-o.ensures
+returns c = other_test c.if-q-x.false c.from-o.ensures

@@ -8,6 +8,3 @@ use Rattle.connectivity.proofs.shift_column.Given as goal
 
 abbrev pub invariant-loop-i : goal.invariant-loop-i
 invariant-loop-i l = (l.i ≤ l.p) × Laid (at_column l.take l.a l.w) (place (row l.pins l.blocks l.first l.i) l.x 0) l.k l.initial.gains l.gains
-
-abbrev pub decreases-loop-i : goal.decreases-loop-i
-decreases-loop-i l = l.p - l.i

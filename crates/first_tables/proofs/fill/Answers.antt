@@ -16,19 +16,11 @@ bounds-presentsizes-e c =
 
 pub fill_net-requires : goal.fill_net-requires
 fill_net-requires c =
-    filling-net c.requires c.loop-e-test.true c.loop-e.invariant.1 c.index-first.ensures c.index-p.ensures
-
-pub overflow_add-e : goal.overflow_add-e
-overflow_add-e c =
-    omega (arith, c.loop-e-test.true)
-
-pub loop-e-smaller : goal.loop-e-smaller
-loop-e-smaller c =
-    omega (arith, c.loop-e-test.true)
+    filling-net c.requires c.loop-e-test.true c.loop-e.invariant.1 c.from-first.ensures c.from-p.ensures
 
 pub loop-e-preserved : goal.loop-e-preserved
 loop-e-preserved c =
-    (omega (arith, c.loop-e-test.true), filling-more c.requires c.loop-e-test.true c.loop-e.invariant.1 c.index-first.ensures c.index-p.ensures c.fill_net.ensures)
+    (omega (arith, c.loop-e-test.true), filling-more c.requires c.loop-e-test.true c.loop-e.invariant.1 c.from-first.ensures c.from-p.ensures c.fill_net.ensures)
 
 pub shape_of-counts : goal.shape_of-counts
 shape_of-counts c = c.loop-e.invariant.1.kept.of-tally.counts-len

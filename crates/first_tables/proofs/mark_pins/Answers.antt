@@ -7,15 +7,15 @@ loop-i-init c = (omega arith, marked-none c.requires)
 
 pub overflow_sub-x : goal.overflow_sub-x
 overflow_sub-x c =
-    omega (arith, pin-room c.requires c.loop-i-test.true c.loop-i.invariant.1 c.index-x.ensures)
+    omega (arith, pin-room c.requires c.loop-i-test.true c.loop-i.invariant.1 c.from-x.ensures)
 
 pub put-requires : goal.put-requires
 put-requires c =
-    omega (arith, pin-room c.requires c.loop-i-test.true c.loop-i.invariant.1 c.index-x.ensures, c.requires.e-in)
+    omega (arith, pin-room c.requires c.loop-i-test.true c.loop-i.invariant.1 c.from-x.ensures, c.requires.e-in)
 
 pub loop-i-preserved : goal.loop-i-preserved
 loop-i-preserved c =
-    (omega arith, marked_more c.requires c.loop-i-test.true c.loop-i.invariant.1 c.index-x.ensures c.put.ensures)
+    (omega arith, marked_more c.requires c.loop-i-test.true c.loop-i.invariant.1 c.from-x.ensures c.put.ensures)
 
 pub shape_of-bits : goal.shape_of-bits
 shape_of-bits c = c.loop-i.invariant.1.bits-len

@@ -5,6 +5,3 @@ use Rattle.first_tables.proofs.mark_pins.Given as goal
 
 abbrev pub invariant-loop-i : goal.invariant-loop-i
 invariant-loop-i l = (l.i ≤ l.p) × MarkedPins l.presentpins l.n l.first l.i l.e l.initial.bits l.bits
-
-abbrev pub decreases-loop-i : goal.decreases-loop-i
-decreases-loop-i l = l.p - l.i

@@ -1,5 +1,5 @@
-use Rattle.std.proofs.Common.{◌-◌, ◌≤◌, arith, ◌≡◌}
-use Rattle.incidence.specs.On.{JoinedTo, joined-none, joined-more, joined}
+use Rattle.std.proofs.Common.{arith, ◌≡◌}
+use Rattle.incidence.specs.On.{joined-none, joined-more, joined}
 use Rattle.incidence.proofs.copy_or.Goals as goal
 
 pub loop-k-init : goal.loop-k-init

@@ -1,5 +1,5 @@
 -- `next_bit`: the rest of the word is 0, or its lowest set bit is the next one.
-use Rattle.std.proofs.Common.{arith, rules}
+use Rattle.std.proofs.Common.{arith}
 use Rattle.incidence.specs.Word.{next-bit-none, next-bit-zero, next-bit-small, next-bit-some}
 use Rattle.incidence.proofs.next_bit.Goals as goal
 

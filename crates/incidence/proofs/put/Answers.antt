@@ -1,5 +1,5 @@
 -- `put` sets one bit: Word's `set-law`, carried to the whole bitset by `changed`.
-use Rattle.std.proofs.Common.{◌%◌, arith, rules}
+use Rattle.std.proofs.Common.{◌%◌, arith}
 use Rattle.incidence.specs.Word.{set-law}
 use Rattle.incidence.specs.On.{changed}
 use Rattle.incidence.proofs.put.Goals as goal

@@ -1,5 +1,5 @@
 -- `take` clears one bit: Word's `clear-law`, carried to the whole bitset by `changed`.
-use Rattle.std.proofs.Common.{◌%◌, arith, rules}
+use Rattle.std.proofs.Common.{◌%◌, arith}
 use Rattle.incidence.specs.Word.{clear-law}
 use Rattle.incidence.specs.On.{changed}
 use Rattle.incidence.proofs.take.Goals as goal

@@ -1,13 +1,9 @@
--- `contract_nets`: the nets below e are contracted, and the incidence follows at the end.
-use Rattle.std.proofs.Common.{◌≤◌, ◌<◌, ◌-◌, arith, ◌≡◌, rules}
-use Rattle.incidence.specs.On.{on}
-use Rattle.levels.specs.Contract.{Contracting, contracting-none, contracting-contracts, contracting-more, contracting-done}
+-- `contract_nets`: the nets before the iterator's place are contracted, and the incidence follows at the end.
+use Rattle.incidence.specs.On.{Along}
+use Rattle.levels.specs.Contract.{Contracting}
 use Rattle.levels.proofs.contract_nets.Given as goal
 
 abbrev pub invariant-loop-e : goal.invariant-loop-e
 invariant-loop-e l =
-    (l.e ≤ l.m) × (l.e < l.m → on l.bits l.v l.e ≡ 1) × Contracting l.netweights l.blocks l.firsts l.bits l.n l.m l.k l.u l.v l.e l.initial.presentpins l.presentpins l.initial.presentsizes l.presentsizes l.initial.counts l.counts l.initial.visited l.visited l.initial.gains l.gains
-
-abbrev pub decreases-loop-e : goal.decreases-loop-e
-decreases-loop-e l =
-    l.m - l.e
+    let i = l.e-iterator in
+    Along l.fn.bits l.v l.m i.bits.now i.x i.m i.at × Contracting l.netweights l.blocks l.firsts l.fn.bits l.n l.m l.k l.u l.v i.at l.initial.presentpins l.presentpins l.initial.presentsizes l.presentsizes l.initial.counts l.counts l.initial.visited l.visited l.initial.gains l.gains

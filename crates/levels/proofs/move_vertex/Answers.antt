@@ -1,5 +1,6 @@
-use Rattle.std.proofs.Common.{◌≤◌, ◌*◌, ◌-◌, arith, sym, ◌∙◌, rules}
-use Rattle.levels.specs.Move.{Moving, moving-none, moving-moves, moving-join, moving-done}
+use Rattle.std.proofs.Common.{arith, sym, ◌∙◌}
+use Rattle.incidence.specs.On.{along-next, gave}
+use Rattle.levels.specs.Move.{moving-first, moving-sets, moving-both, moving-more, moving-done}
 use Rattle.levels.specs.Operations.{move_needs, move-does, move-stays}
 use Rattle.levels.proofs.move_vertex.Goals as goal
 
@@ -9,37 +10,53 @@ bounds-blocks-u c =
 
 pub returns-then-s-b : goal.returns-then-s-b
 returns-then-s-b c =
-    move-stays (sym c.index-s.ensures ∙ c.if-s-b.true ∙ c.index-b.ensures)
+    move-stays (sym c.from-s.ensures ∙ c.if-s-b.true ∙ c.from-b.ensures)
 
-pub loop-c-init : goal.loop-c-init
-loop-c-init c =
-    (omega arith, moving-none (move_needs c.requires c.index-s.ensures c.index-b.ensures c.if-s-b.false))
+pub nets_of-e-items-requires : goal.nets_of-e-items-requires
+nets_of-e-items-requires c =
+    omega (arith, c.requires.u-in, c.requires.follows.room.bits_fit, c.requires.follows.room.few-nets)
 
-pub move_word-requires : goal.move_word-requires
-move_word-requires c =
-    record { moves = moving-moves (move_needs c.requires c.index-s.ensures c.index-b.ensures c.if-s-b.false) c.loop-c.invariant.1; c_bound = c.loop-c-test.true }
+pub loop-e-init : goal.loop-e-init
+loop-e-init c =
+    let s = c.nets_of-e-items.ensures in
+    rw c.into_iter-e-iterator.ensures.into_iter_gives (s.along, moving-first (move_needs c.requires c.from-s.ensures c.from-b.ensures c.if-s-b.false) s.first)
 
-pub loop-c-smaller : goal.loop-c-smaller
-loop-c-smaller c =
-    omega (arith, c.loop-c-test.true, c.requires.follows.room.few-nets)
+pub bounds-firsts-e : goal.bounds-firsts-e
+bounds-firsts-e c =
+    let e = gave c.loop-e.invariant.0 c.in-Some.ensures.steps in omega (arith, e.below, c.requires.follows.world.lists.firsts-fit)
 
-pub loop-c-preserved : goal.loop-c-preserved
-loop-c-preserved c =
-    (omega (arith, c.loop-c-test.true, c.requires.follows.room.few-nets), moving-join (move_needs c.requires c.index-s.ensures c.index-b.ensures c.if-s-b.false) c.loop-c.invariant.1 c.move_word.ensures)
+pub bounds-presentsizes-e : goal.bounds-presentsizes-e
+bounds-presentsizes-e c =
+    let e = gave c.loop-e.invariant.0 c.in-Some.ensures.steps in omega (arith, e.below, c.requires.follows.world.lists.sizes-fit)
+
+pub move_pin-requires : goal.move_pin-requires
+move_pin-requires c =
+    let I = c.loop-e.invariant in
+    let g = c.in-Some.ensures.steps in
+    let e = gave I.0 g in
+    let needs = move_needs c.requires c.from-s.ensures c.from-b.ensures c.if-s-b.false in
+    record { sets = moving-sets needs e.below e.here (rw g.here at I.1) c.from-first.ensures c.from-p.ensures; le_a = moving-both needs e.below e.here (rw g.here at I.1) c.from-first.ensures c.from-p.ensures }
+
+pub loop-e-preserved : goal.loop-e-preserved
+loop-e-preserved c =
+    let I = c.loop-e.invariant in
+    let g = c.in-Some.ensures.steps in
+    let e = gave I.0 g in
+    (along-next I.0 g, moving-more (move_needs c.requires c.from-s.ensures c.from-b.ensures c.if-s-b.false) e.below e.here (rw g.here at I.1) c.from-first.ensures c.from-p.ensures c.move_pin.ensures e.next)
 
 pub bounds-blocks-u-2 : goal.bounds-blocks-u-2
 bounds-blocks-u-2 c =
     omega (arith, c.requires.u-in, c.requires.follows.world.lists.blocks-fit)
 
 pub shape_of-counts : goal.shape_of-counts
-shape_of-counts c = c.loop-c.invariant.1.kept.of-tally.counts-len
+shape_of-counts c = c.loop-e.invariant.1.kept.of-tally.counts-len
 
 pub shape_of-visited : goal.shape_of-visited
-shape_of-visited c = c.loop-c.invariant.1.kept.of-tally.masks-len
+shape_of-visited c = c.loop-e.invariant.1.kept.of-tally.masks-len
 
 pub shape_of-gains : goal.shape_of-gains
-shape_of-gains c = c.loop-c.invariant.1.kept.of-gains.gains-len
+shape_of-gains c = c.loop-e.invariant.1.kept.of-gains.gains-len
 
 pub returns : goal.returns
 returns c =
-    move-does c.requires c.index-b.ensures (moving-done (move_needs c.requires c.index-s.ensures c.index-b.ensures c.if-s-b.false) (omega arith) c.loop-c.invariant.1)
+    move-does c.requires c.from-b.ensures (moving-done (move_needs c.requires c.from-s.ensures c.from-b.ensures c.if-s-b.false) (omega (arith, c.loop-e.invariant.0.end, c.in-None.ensures.steps.0)) c.loop-e.invariant.1)

@@ -25,11 +25,11 @@ bounds-loadedsizes-e c =
 
 pub split_net-r-requires : goal.split_net-r-requires
 split_net-r-requires c =
-    uncontracting-splits c.requires c.loop-e-test.true (c.loop-e.invariant.1 c.loop-e-test.true) c.loop-e.invariant.2 c.index-first.ensures c.index-p.ensures c.index-full.ensures
+    uncontracting-splits c.requires c.loop-e-test.true (c.loop-e.invariant.1 c.loop-e-test.true) c.loop-e.invariant.2 c.from-first.ensures c.from-p.ensures c.from-full.ensures
 
 pub narrow-requires : goal.narrow-requires
 narrow-requires c =
-    omega (arith, c.split_net-r.ensures.split.small, c.index-full.ensures, c.shared_slice_known-in-loop-e-2-1.given c.loop-e.e)
+    omega (arith, c.split_net-r.ensures.split.small, c.from-full.ensures, c.shared_slice_known-in-loop-e-2-1.given c.loop-e.e)
 
 pub bounds-presentsizes-e-in-loop-e : goal.bounds-presentsizes-e-in-loop-e
 bounds-presentsizes-e-in-loop-e c = omega (arith, c.loop-e.invariant.2.world.lists.sizes-fit)
@@ -42,7 +42,7 @@ loop-e-smaller c = omega (arith, c.next_net-e-in-loop-e.ensures.low, c.next_net-
 
 pub loop-e-preserved : goal.loop-e-preserved
 loop-e-preserved c =
-    (c.next_net-e-in-loop-e.ensures.high, c.next_net-e-in-loop-e.ensures.found, rw c.narrow.ensures (uncontracting-more c.requires c.loop-e-test.true (c.loop-e.invariant.1 c.loop-e-test.true) c.loop-e.invariant.2 c.index-first.ensures c.index-p.ensures c.index-full.ensures c.split_net-r.ensures c.next_net-e-in-loop-e.ensures))
+    (c.next_net-e-in-loop-e.ensures.high, c.next_net-e-in-loop-e.ensures.found, rw c.narrow.ensures (uncontracting-more c.requires c.loop-e-test.true (c.loop-e.invariant.1 c.loop-e-test.true) c.loop-e.invariant.2 c.from-first.ensures c.from-p.ensures c.from-full.ensures c.split_net-r.ensures c.next_net-e-in-loop-e.ensures))
 
 pub shape_of-counts : goal.shape_of-counts
 shape_of-counts c = c.loop-e.invariant.2.kept.of-tally.counts-len

@@ -6,6 +6,3 @@ use Rattle.opening.proofs.metric_of.Given as goal
 
 abbrev pub invariant-loop-e : goal.invariant-loop-e
 invariant-loop-e l = (l.e ≤ l.m) × (l.t ≡ metric_by l.visited l.netweights l.e)
-
-abbrev pub decreases-loop-e : goal.decreases-loop-e
-decreases-loop-e l = l.m - l.e

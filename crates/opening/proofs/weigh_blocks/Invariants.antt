@@ -5,6 +5,3 @@ use Rattle.opening.proofs.weigh_blocks.Given as goal
 
 abbrev pub invariant-loop-b : goal.invariant-loop-b
 invariant-loop-b l = (l.b ≤ l.k) × WeighedTo l.weights l.blocks l.n l.b l.loads
-
-abbrev pub decreases-loop-b : goal.decreases-loop-b
-decreases-loop-b l = l.k - l.b

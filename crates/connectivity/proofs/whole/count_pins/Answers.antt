@@ -21,55 +21,55 @@ bounds-pins-first c =
 
 pub overflow_sub-x : goal.overflow_sub-x
 overflow_sub-x c =
-    omega (arith, pin-range c.requires.net c.loop-i-test.true c.index-x.ensures)
+    omega (arith, pin-range c.requires.net c.loop-i-test.true c.from-x.ensures)
 
 pub offset_bounds-blocks-x : goal.offset_bounds-blocks-x
 offset_bounds-blocks-x c =
-    omega (arith, pin-range c.requires.net c.loop-i-test.true c.index-x.ensures, c.requires.few-vertices)
+    omega (arith, pin-range c.requires.net c.loop-i-test.true c.from-x.ensures, c.requires.few-vertices)
 
 pub bounds-blocks-x : goal.bounds-blocks-x
 bounds-blocks-x c =
-    omega (arith, pin-range c.requires.net c.loop-i-test.true c.index-x.ensures, c.requires.blocks-fit)
+    omega (arith, pin-range c.requires.net c.loop-i-test.true c.from-x.ensures, c.requires.blocks-fit)
 
 pub overflow_sub-s : goal.overflow_sub-s
 overflow_sub-s c =
-    omega (arith, pin-block c.requires.net c.loop-i-test.true c.index-x.ensures c.index-s.ensures, c.requires.few, c.requires.counts-fit, c.requires.e-in, c.loop-i.invariant.1.kept.counts-len)
+    omega (arith, pin-block c.requires.net c.loop-i-test.true c.from-x.ensures c.from-s.ensures, c.requires.few, c.requires.counts-fit, c.requires.e-in, c.loop-i.invariant.1.kept.counts-len)
 
 pub overflow_mul-at : goal.overflow_mul-at
 overflow_mul-at c =
-    omega (arith, pin-block c.requires.net c.loop-i-test.true c.index-x.ensures c.index-s.ensures, c.requires.few, c.requires.counts-fit, c.requires.e-in, c.loop-i.invariant.1.kept.counts-len)
+    omega (arith, pin-block c.requires.net c.loop-i-test.true c.from-x.ensures c.from-s.ensures, c.requires.few, c.requires.counts-fit, c.requires.e-in, c.loop-i.invariant.1.kept.counts-len)
 
 pub overflow_add-at : goal.overflow_add-at
 overflow_add-at c =
-    omega (arith, pin-block c.requires.net c.loop-i-test.true c.index-x.ensures c.index-s.ensures, c.requires.few, c.requires.counts-fit, c.requires.e-in, c.loop-i.invariant.1.kept.counts-len)
+    omega (arith, pin-block c.requires.net c.loop-i-test.true c.from-x.ensures c.from-s.ensures, c.requires.few, c.requires.counts-fit, c.requires.e-in, c.loop-i.invariant.1.kept.counts-len)
 
 pub offset_bounds-counts-at : goal.offset_bounds-counts-at
 offset_bounds-counts-at c =
-    omega (arith, pin-block c.requires.net c.loop-i-test.true c.index-x.ensures c.index-s.ensures, c.requires.few, c.requires.counts-fit, c.requires.e-in, c.loop-i.invariant.1.kept.counts-len)
+    omega (arith, pin-block c.requires.net c.loop-i-test.true c.from-x.ensures c.from-s.ensures, c.requires.few, c.requires.counts-fit, c.requires.e-in, c.loop-i.invariant.1.kept.counts-len)
 
 pub bounds-counts-at : goal.bounds-counts-at
 bounds-counts-at c =
-    omega (arith, pin-block c.requires.net c.loop-i-test.true c.index-x.ensures c.index-s.ensures, c.requires.few, c.requires.counts-fit, c.requires.e-in, c.loop-i.invariant.1.kept.counts-len)
+    omega (arith, pin-block c.requires.net c.loop-i-test.true c.from-x.ensures c.from-s.ensures, c.requires.few, c.requires.counts-fit, c.requires.e-in, c.loop-i.invariant.1.kept.counts-len)
 
 pub offset_bounds-counts-at-in-loop-i : goal.offset_bounds-counts-at-in-loop-i
 offset_bounds-counts-at-in-loop-i c =
-    omega (arith, pin-block c.requires.net c.loop-i-test.true c.index-x.ensures c.index-s.ensures, c.requires.few, c.requires.counts-fit, c.requires.e-in, c.loop-i.invariant.1.kept.counts-len)
+    omega (arith, pin-block c.requires.net c.loop-i-test.true c.from-x.ensures c.from-s.ensures, c.requires.few, c.requires.counts-fit, c.requires.e-in, c.loop-i.invariant.1.kept.counts-len)
 
 pub bounds-counts-at-in-loop-i : goal.bounds-counts-at-in-loop-i
 bounds-counts-at-in-loop-i c =
-    omega (arith, pin-block c.requires.net c.loop-i-test.true c.index-x.ensures c.index-s.ensures, c.requires.few, c.requires.counts-fit, c.requires.e-in, c.loop-i.invariant.1.kept.counts-len)
+    omega (arith, pin-block c.requires.net c.loop-i-test.true c.from-x.ensures c.from-s.ensures, c.requires.few, c.requires.counts-fit, c.requires.e-in, c.loop-i.invariant.1.kept.counts-len)
 
 pub overflow_add-counts : goal.overflow_add-counts
 overflow_add-counts c =
-    omega (arith, count_room c.requires c.loop-i-test.true c.loop-i.invariant.1 c.index-x.ensures c.index-s.ensures (pin-block c.requires.net c.loop-i-test.true c.index-x.ensures c.index-s.ensures).0)
+    omega (arith, count_room c.requires c.loop-i-test.true c.loop-i.invariant.1 c.from-x.ensures c.from-s.ensures (pin-block c.requires.net c.loop-i-test.true c.from-x.ensures c.from-s.ensures).0)
 
 pub set_first-mask-requires : goal.set_first-mask-requires
 set_first-mask-requires c =
-    record { s_bound = omega (arith, pin-block c.requires.net c.loop-i-test.true c.index-x.ensures c.index-s.ensures, c.requires.few); s_value = held-shows c.requires c.loop-i.mask c.loop-i-test.true c.loop-i.invariant.1 c.index-x.ensures c.index-s.ensures }
+    record { s_bound = omega (arith, pin-block c.requires.net c.loop-i-test.true c.from-x.ensures c.from-s.ensures, c.requires.few); s_value = held-shows c.requires c.loop-i.mask c.loop-i-test.true c.loop-i.invariant.1 c.from-x.ensures c.from-s.ensures }
 
 pub loop-i-preserved : goal.loop-i-preserved
 loop-i-preserved c =
-    (omega arith, held_more c.requires c.loop-i.mask c.loop-i-test.true c.loop-i.invariant.1 c.index-x.ensures c.index-s.ensures c.set_first-mask.ensures)
+    (omega arith, held_more c.requires c.loop-i.mask c.loop-i-test.true c.loop-i.invariant.1 c.from-x.ensures c.from-s.ensures c.set_first-mask.ensures)
 
 pub bounds-visited-e-2 : goal.bounds-visited-e-2
 bounds-visited-e-2 c =

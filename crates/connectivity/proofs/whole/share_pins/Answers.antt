@@ -18,27 +18,27 @@ bounds-pins-first c =
 
 pub overflow_sub-x : goal.overflow_sub-x
 overflow_sub-x c =
-    omega (arith, pin-range c.requires.net c.loop-i-test.true c.index-x.ensures)
+    omega (arith, pin-range c.requires.net c.loop-i-test.true c.from-x.ensures)
 
 pub offset_bounds-blocks-x : goal.offset_bounds-blocks-x
 offset_bounds-blocks-x c =
-    omega (arith, pin-range c.requires.net c.loop-i-test.true c.index-x.ensures, c.requires.blocks-fit)
+    omega (arith, pin-range c.requires.net c.loop-i-test.true c.from-x.ensures, c.requires.blocks-fit)
 
 pub bounds-blocks-x : goal.bounds-blocks-x
 bounds-blocks-x c =
-    omega (arith, pin-range c.requires.net c.loop-i-test.true c.index-x.ensures, c.requires.blocks-fit)
+    omega (arith, pin-range c.requires.net c.loop-i-test.true c.from-x.ensures, c.requires.blocks-fit)
 
 pub overflow_sub-b : goal.overflow_sub-b
 overflow_sub-b c =
-    omega (arith, pin-block c.requires.net c.loop-i-test.true c.index-x.ensures c.index-b.ensures)
+    omega (arith, pin-block c.requires.net c.loop-i-test.true c.from-x.ensures c.from-b.ensures)
 
 pub share_row-requires : goal.share_row-requires
 share_row-requires c =
-    record { ready = share-ready c.requires c.loop-i-test.true c.loop-i.invariant.1 c.index-x.ensures c.index-b.ensures; q_bound = omega (arith, pin-range c.requires.net c.loop-i-test.true c.index-x.ensures, c.requires.gains-fit, c.requires.counts-fit) }
+    record { ready = share-ready c.requires c.loop-i-test.true c.loop-i.invariant.1 c.from-x.ensures c.from-b.ensures; q_bound = omega (arith, pin-range c.requires.net c.loop-i-test.true c.from-x.ensures, c.requires.gains-fit, c.requires.counts-fit) }
 
 pub loop-i-preserved : goal.loop-i-preserved
 loop-i-preserved c =
-    (omega arith, share-more c.requires c.loop-i-test.true c.loop-i.invariant.1 c.index-x.ensures c.index-b.ensures c.share_row.ensures)
+    (omega arith, share-more c.requires c.loop-i-test.true c.loop-i.invariant.1 c.from-x.ensures c.from-b.ensures c.share_row.ensures)
 
 pub shape_of-gains : goal.shape_of-gains
 shape_of-gains c = c.loop-i.invariant.1.len

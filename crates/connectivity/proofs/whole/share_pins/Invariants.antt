@@ -7,6 +7,3 @@ use Rattle.connectivity.proofs.whole.share_pins.Given as goal
 
 abbrev pub invariant-loop-i : goal.invariant-loop-i
 invariant-loop-i l = (l.i ≤ l.p) × Laid (given false l.counts l.e l.w) (row l.pins l.blocks l.first l.i) l.k l.initial.gains l.gains
-
-abbrev pub decreases-loop-i : goal.decreases-loop-i
-decreases-loop-i l = l.p - l.i

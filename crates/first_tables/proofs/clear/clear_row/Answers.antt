@@ -1,18 +1,15 @@
-use Rattle.std.proofs.Common.{◌≤◌, ◌-◌, arith, ◌≡◌, refl}
-use Rattle.first_tables.specs.Clear.{Wiped, written_none, written-more}
+use Rattle.std.proofs.Common.{arith, ◌≡◌, refl}
+use Rattle.first_tables.specs.Clear.{written_none, written-more}
 use Rattle.first_tables.proofs.clear.clear_row.Goals as goal
 
 pub loop-j-init : goal.loop-j-init
-loop-j-init c = (omega arith, written_none _ _ _ _)
+loop-j-init g c = (omega arith, written_none _ _ _ _)
 
 pub bounds-table-row : goal.bounds-table-row
-bounds-table-row c = omega (arith, c.loop-j.invariant.1.len)
+bounds-table-row g c = omega (arith, c.loop-j.invariant.1.len)
 
 pub loop-j-preserved : goal.loop-j-preserved
-loop-j-preserved c = (omega arith, written-more 0 _ c.args.row c.loop-j.j c.loop-j.invariant.1 (omega arith) refl)
-
-pub shape_of-table : goal.shape_of-table
-shape_of-table c = c.loop-j.invariant.1.len
+loop-j-preserved g c = (omega arith, written-more c.args.zero _ c.args.row c.loop-j.j c.loop-j.invariant.1 (omega arith) refl)
 
 pub returns : goal.returns
-returns c = let q : c.loop-j.j ≡ c.args.k = omega arith in rw q at c.loop-j.invariant.1
+returns g c = let q : c.loop-j.j ≡ c.args.k = omega arith in rw q at c.loop-j.invariant.1

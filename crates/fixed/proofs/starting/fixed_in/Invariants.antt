@@ -5,6 +5,3 @@ use Rattle.fixed.proofs.starting.fixed_in.Given as goal
 
 abbrev pub invariant-loop-i : goal.invariant-loop-i
 invariant-loop-i l = (l.i ≤ l.len) × (length l.standing ≡ 48) × FixedIn l.initial.standing l.into l.gone l.i l.standing
-
-abbrev pub decreases-loop-i : goal.decreases-loop-i
-decreases-loop-i l = l.len - l.i

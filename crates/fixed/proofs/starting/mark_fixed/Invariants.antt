@@ -4,6 +4,3 @@ use Rattle.fixed.proofs.starting.mark_fixed.Given as goal
 
 abbrev pub invariant-loop-x : goal.invariant-loop-x
 invariant-loop-x l = (l.x ≤ l.n) × MarkedTo l.fixed l.x l.marks
-
-abbrev pub decreases-loop-x : goal.decreases-loop-x
-decreases-loop-x l = l.n - l.x

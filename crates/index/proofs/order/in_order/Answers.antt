@@ -8,7 +8,7 @@ pub loop-j-init : goal.loop-j-init
 loop-j-init c =
     let a = c.args in
     let gain = gain_at a.gains.now a.x in
-    (omega (arith, c.requires.1, c.requires.2), ordered-none gain a.own a.k a.index.now a.x, last_none gain a.own a.k a.index.now a.x _)
+    (ordered-none gain a.own a.k a.index.now a.x, last_none gain a.own a.k a.index.now a.x _)
 
 pub returns-then-not-is_other : goal.returns-then-not-is_other
 returns-then-not-is_other c = λ e. absurd (true≢false (sym e))
@@ -24,11 +24,10 @@ loop-j-preserved c =
     let a = c.args in
     let i = c.loop-j in
     let gain = gain_at a.gains.now a.x in
-    let e = c.wide-b.ensures in
+    let e = c.from-b.ensures in
     let other = c.is_other.ensures c.if-not-is_other.false in
     let key = c.key_of-key.ensures in (
-      omega arith,
-      ordered-more gain a.own a.k a.index.now a.x _ i.j e other (last-ahead gain a.own a.k a.index.now a.x _ i.j _ e key i.last c.requires.0.k-to other i.invariant.1 i.invariant.2 (omega arith)) i.invariant.1,
+      ordered-more gain a.own a.k a.index.now a.x _ i.j e other (last-ahead gain a.own a.k a.index.now a.x _ i.j _ e key i.last c.requires.0.k-to other i.invariant.0 i.invariant.1 (omega arith)) i.invariant.0,
       last_more gain a.own a.k a.index.now a.x _ i.j _ e key,
     )
 
@@ -38,5 +37,5 @@ returns c =
     let i = c.loop-j in
     let gain = gain_at a.gains.now a.x in
     let last : i.j ≡ a.k - 1 = omega arith in
-    λ e. row-right gain a.own a.k a.index.now a.x (subst (OrderedTo gain a.own a.k a.index.now a.x) last i.invariant.1) c.requires.1 c.requires.2
-    (ap (row_at a.index.now a.x) (sym last) ∙ sym c.wide.ensures ∙ eqb-true c.wide.result 0 e)
+    λ e. row-right gain a.own a.k a.index.now a.x (subst (OrderedTo gain a.own a.k a.index.now a.x) last i.invariant.0) c.requires.1 c.requires.2
+    (eqb-true (row_at a.index.now a.x (a.k - 1)) 0 e)

@@ -6,7 +6,4 @@ use Rattle.index.specs.Checked.{OrderedTo, Last, ordered-none, ordered-more, las
 use Rattle.index.proofs.order.in_order.Given as goal
 
 abbrev pub invariant-loop-j : goal.invariant-loop-j
-invariant-loop-j l = (l.j < l.k) × OrderedTo (gain_at l.gains l.x) l.own l.k l.index l.x l.j × Last (gain_at l.gains l.x) l.own l.k l.index l.x l.j l.last
-
-abbrev pub decreases-loop-j : goal.decreases-loop-j
-decreases-loop-j l = l.k - l.j
+invariant-loop-j l = OrderedTo (gain_at l.gains l.x) l.own l.k l.index l.x l.j × Last (gain_at l.gains l.x) l.own l.k l.index l.x l.j l.last

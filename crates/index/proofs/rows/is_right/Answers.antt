@@ -7,9 +7,9 @@ pub returns-then-own-eq0 : goal.returns-then-own-eq0
 returns-then-own-eq0 c = λ e. absurd (true≢false (sym e))
 
 pub in_order-requires : goal.in_order-requires
-in_order-requires c = (search rules, omega (arith, c.if-own-eq0.false), omega (arith, c.wide-own.ensures, c.requires.2))
+in_order-requires c = (search rules, omega (arith, c.if-own-eq0.false), omega (arith, c.from-own.ensures, c.requires.2))
 
 pub returns : goal.returns
 returns c =
     let a = c.args in
-    λ e j l. c.in_order.ensures e j l ∙ ap (λ m. get_or m j 0) (sym (row_on a.gains.now a.blocks.now a.k a.x _ c.wide-own.ensures c.if-own-eq0.false))
+    λ e j l. c.in_order.ensures e j l ∙ ap (λ m. get_or m j 0) (sym (row_on a.gains.now a.blocks.now a.k a.x _ c.from-own.ensures c.if-own-eq0.false))

@@ -5,6 +5,3 @@ use Rattle.index.proofs.rows.put_all_right.Given as goal
 
 abbrev pub invariant-loop-x : goal.invariant-loop-x
 invariant-loop-x l = RightTo l.gains l.blocks l.n l.k l.initial.index l.index l.x
-
-abbrev pub decreases-loop-x : goal.decreases-loop-x
-decreases-loop-x l = l.n - l.x

@@ -1,12 +1,10 @@
--- `halves`: the nets of u below e have given their weights.
-use Rattle.std.proofs.Common.{ℕ, ◌≤◌, ◌<◌, ◌-◌, arith, ◌≡◌, ◌∙◌, ap, rules}
-use Rattle.incidence.specs.On.{on}
-use Rattle.levels.specs.Halves.{gathered, gathered_none, gathered-more, gathered-fits, halves-done}
+-- `halves`: the nets of u before the iterator's place have given their weights.
+use Rattle.std.proofs.Common.{◌≡◌}
+use Rattle.incidence.specs.On.{Along}
+use Rattle.levels.specs.Halves.{gathered}
 use Rattle.levels.proofs.halves.halves.Given as goal
 
 abbrev pub invariant-loop-e : goal.invariant-loop-e
 invariant-loop-e l =
-    (l.e ≤ l.m) × (l.e < l.m → on l.bits l.u l.e ≡ 1) × (l.freed ≡ gathered l.counts l.netweights l.bits l.u l.from 1 l.e) × (l.drawn ≡ gathered l.counts l.netweights l.bits l.u l.to 0 l.e)
-
-abbrev pub decreases-loop-e : goal.decreases-loop-e
-decreases-loop-e l = l.m - l.e
+    let i = l.e-iterator in
+    Along l.bits l.u l.m i.bits.now i.x i.m i.at × (l.freed ≡ gathered l.counts l.netweights l.bits l.u l.from 1 i.at) × (l.drawn ≡ gathered l.counts l.netweights l.bits l.u l.to 0 i.at)

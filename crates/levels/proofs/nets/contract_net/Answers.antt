@@ -6,7 +6,7 @@ use Rattle.levels.proofs.nets.contract_net.Goals as goal
 
 pub set_pin-requires : goal.set_pin-requires
 set_pin-requires c =
-    contract-sets c.requires c.index-s.ensures
+    contract-sets c.requires c.from-s.ensures
 
 pub relink-r-requires : goal.relink-r-requires
 relink-r-requires c =
@@ -15,14 +15,14 @@ relink-r-requires c =
 pub returns-then-r-p : goal.returns-then-r-p
 returns-then-r-p c =
     let link = linked_of c.args.u c.args.v c.number.ensures c.number-2.ensures c.relink-r.ensures in
-    contract-both c.requires c.index-s.ensures c.set_pin.ensures link (omega arith) (linked-le c.relink-r.ensures) (was-pin c.args.u link c.if-r-p.true)
+    contract-both c.requires c.from-s.ensures c.set_pin.ensures link (omega arith) (linked-le c.relink-r.ensures) (was-pin c.args.u link c.if-r-p.true)
 
 pub set_pin-requires-2 : goal.set_pin-requires-2
 set_pin-requires-2 c =
     let link = linked_of c.args.u c.args.v c.number.ensures c.number-2.ensures c.relink-r.ensures in
-    contract-sets-2 c.requires c.index-s.ensures c.set_pin.ensures link (omega arith) (linked-le c.relink-r.ensures) (was-none c.args.u link c.if-r-p.false)
+    contract-sets-2 c.requires c.from-s.ensures c.set_pin.ensures link (omega arith) (linked-le c.relink-r.ensures) (was-none c.args.u link c.if-r-p.false)
 
 pub returns : goal.returns
 returns c =
     let link = linked_of c.args.u c.args.v c.number.ensures c.number-2.ensures c.relink-r.ensures in
-    contract-new c.requires c.index-s.ensures c.set_pin.ensures link (omega arith) (linked-le c.relink-r.ensures) (was-none c.args.u link c.if-r-p.false) c.set_pin-2.ensures
+    contract-new c.requires c.from-s.ensures c.set_pin.ensures link (omega arith) (linked-le c.relink-r.ensures) (was-none c.args.u link c.if-r-p.false) c.set_pin-2.ensures

@@ -5,7 +5,7 @@ use Rattle.levels.proofs.nets.split_net.Goals as goal
 
 pub set_pin-requires : goal.set_pin-requires
 set_pin-requires c =
-    split-sets c.requires c.index-s.ensures
+    split-sets c.requires c.from-s.ensures
 
 pub uncontract_net-r-requires : goal.uncontract_net-r-requires
 uncontract_net-r-requires c =
@@ -13,12 +13,12 @@ uncontract_net-r-requires c =
 
 pub returns-then-p-r : goal.returns-then-p-r
 returns-then-p-r c =
-    split-both c.requires c.index-s.ensures c.set_pin.ensures c.uncontract_net-r.ensures (omega arith)
+    split-both c.requires c.from-s.ensures c.set_pin.ensures c.uncontract_net-r.ensures (omega arith)
 
 pub set_pin-requires-2 : goal.set_pin-requires-2
 set_pin-requires-2 c =
-    split-sets-2 c.requires c.index-s.ensures c.set_pin.ensures c.uncontract_net-r.ensures (omega arith)
+    split-sets-2 c.requires c.from-s.ensures c.set_pin.ensures c.uncontract_net-r.ensures (omega arith)
 
 pub returns : goal.returns
 returns c =
-    split-new c.requires c.index-s.ensures c.set_pin.ensures c.uncontract_net-r.ensures (omega arith) c.set_pin-2.ensures
+    split-new c.requires c.from-s.ensures c.set_pin.ensures c.uncontract_net-r.ensures (omega arith) c.set_pin-2.ensures
