@@ -1,14 +1,16 @@
 -- What the functions of the calls J, S, M and B need and promise: each refines the machine's step. Rests on Steps. Assumes nothing.
 use Rattle.std.specs.Prelude.{ℕ, zero, suc, ◌+◌, ◌*◌, ◌-◌, ◌<◌, ◌≤◌, ◌≡◌, refl, List, length, set}
 use Rattle.std.proofs.Common.{arith, sym, ap, ◌∙◌, subst}
+use Rattle.refusal.specs.Number.{number_of, number-some}
+use Rattle.refusal.specs.declared.Refusal.{Refusal}
 use Rattle.model.specs.Catalogue.{Hypergraph}
-use Rattle.model.specs.Machine.{Call, Answer, State, Step, settle}
+use Rattle.model.specs.Machine.{Call, Answer, says_no, State, Step, settle}
 use Rattle.model.specs.Search.{call_under}
 use Rattle.model.specs.Report.{refusal}
 use Rattle.model.specs.Lent.{Two}
 use Rattle.operations.specs.Pairs.{Pushed}
 use Rattle.operations.specs.Tables.{Tables, Keeps}
-use Rattle.edit_calls.specs.Steps.{Whole, Runs, Ready, told, Stepped, Moves, runs_call}
+use Rattle.edit_calls.specs.Steps.{Whole, Runs, Ready, told, told_no, Stepped, Moves, runs_call}
 
 -- J has no use for the blocks' weights and the loaded sizes, S none for the former, M and B none for the vertices above, the loaded
 -- sizes and the stack: whatever these are
@@ -57,6 +59,10 @@ stepped {h} {ceiling} {s} {T' = T'} {S' = S'} {J' = J'} c to e r m q l = record 
 -- ---- a refused call
 pub refused : {h : Hypergraph} {ceiling : ℕ → ℕ} {s : State} {T : Tables} {S J : Two} {a : Answer} (c : Call) → call_under h ceiling s c ≡ record { state = s; answer = a } → Runs h s T S J → Stepped h ceiling s c T S J J a
 refused c e r = stepped c _ e r (record { sound = r.sound; stack_is = r.stack_is; journal-is = r.journal-is; stack-whole = r.stack-whole; journal-whole = r.journal-whole }) refl (omega arith)
+
+-- by a refusal the answer is its number
+pub told_refused : {h : Hypergraph} {ceiling : ℕ → ℕ} {T T' : Tables} {S S' J J' : Two} {c : Call} (e : Refusal) (a : Answer) → Called h ceiling T T' S S' J J' c (told (number_of e) a) → Called h ceiling T T' S S' J J' c (says_no (number_of e))
+told_refused {h} {ceiling} {T} {T'} {S} {S'} {J} {J'} {c} e a = subst (λ (x : Answer). Called h ceiling T T' S S' J J' c x) (told_no (number_of e) a (number-some e))
 
 pub settle-no : (q : ℕ) (s : State) (done : Step) (a : Answer) → (q ≡ 0 → ⊥) → settle q s done ≡ record { state = s; answer = told q a }
 unfolding settle

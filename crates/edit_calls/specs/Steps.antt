@@ -1,6 +1,6 @@
 -- A running sale stands for a state of the machine, and what it means that a call steps it: the tables, the stack and the journal go
 -- over to the machine's next state, the answer is the machine's, and what is not in use is untouched. Rests on Tables and Pairs. Assumes nothing.
-use Rattle.std.specs.Prelude.{ℕ, zero, suc, ◌+◌, ◌<◌, ◌≤◌, ◌≡◌, length}
+use Rattle.std.specs.Prelude.{ℕ, zero, suc, ◌+◌, ◌<◌, ◌≤◌, ◌≡◌, refl, length}
 use Rattle.model.specs.Catalogue.{Hypergraph}
 use Rattle.model.specs.Machine.{Call, Answer, says_no, State}
 use Rattle.model.specs.Search.{call_under}
@@ -39,6 +39,10 @@ pub record Ready (T : Tables) (S J : Two) : Type 0 where
 abbrev pub told : ℕ → Answer → Answer
 told zero a = a
 told (suc q) a = says_no (suc q)
+
+pub told_no : (q : ℕ) (a : Answer) → (q ≡ 0 → ⊥) → told q a ≡ says_no q
+told_no zero a z = absurd (z refl)
+told_no (suc q) a z = refl
 
 -- what a call under a ceiling does, for whatever state the sale ran in
 pub record Stepped (h : Hypergraph) (ceiling : ℕ → ℕ) (s : State) (c : Call) (T' : Tables) (S' J J' : Two) (a : Answer) : Type 0 where

@@ -1,34 +1,34 @@
-// The calls J and S: refused with the number of the refusal, or done, with the numbers of the answer.
-ghost use Rattle.std.specs.Prelude.{ℕ, ◌*◌, ◌≤◌, ◌<◌, List, length};
+// The calls J and S: refused, or done, with the numbers of the answer.
+ghost use Rattle.std.specs.Prelude.{ℕ, ◌*◌, ◌≤◌, ◌<◌, List, length, MatchResult};
+ghost use Rattle.refusal.specs.Number.{number_of};
 ghost use Rattle.model.specs.Catalogue.{Hypergraph};
-ghost use Rattle.model.specs.Machine.{call_j, call_s, says_j, says_s};
+ghost use Rattle.model.specs.Machine.{call_j, call_s, says_j, says_s, says_no};
 ghost use Rattle.model.specs.Lent.{two};
 ghost use Rattle.index.specs.Indexed.{TablesOk, KeepsRight};
 ghost use Rattle.operations.specs.Tables.{tables};
-ghost use Rattle.edit_calls.specs.Steps.{told};
 ghost use Rattle.edit_calls.specs.Called.{ReadyJ, ReadyS, Called};
 ghost use Rattle.edit_calls.specs.Rows.{TwoRight};
 
 use crate::refusals::refuses_join;
-use incidence::numbers::{narrow, wide};
+use incidence::numbers::narrow;
 use index::rows::put_right;
 use operations::joins::{join, split};
 use operations::pairs::{Journal, Stack};
+use refusal::Refusal;
 
-// What a call leaves of the stack and the journal, its refusal or 0, and the numbers of its answer, 0 where it is refused.
+// What J leaves of the stack and the journal, and the number of its answer.
 #[derive(Clone, Copy)]
 pub struct JoinTurn {
     pub stack: Stack,
     pub journal: Journal,
-    pub no: u32,
     pub weight: u32,
 }
 
+// The same of S.
 #[derive(Clone, Copy)]
 pub struct SplitTurn {
     pub stack: Stack,
     pub journal: Journal,
-    pub no: u32,
     pub into: u32,
     pub gone: u32,
 }
@@ -73,26 +73,22 @@ pub fn call_join(
     journal: Journal,
     u: usize,
     v: usize,
-) -> JoinTurn
+) -> Result<JoinTurn, Refusal>
     requires ready_j { ReadyJ
         (λ loads loadedsizes. tables counts.old visited.old gains.old presentpins.old presentsizes.old bits.old blocks.old weights.old aboves.old loads netweights.now firsts.now loadedsizes n m k total)
         (two stack.into stack.gone stack.len) (two journal.vertices journal.blocks journal.len) }
     requires n_in_bounds { 16 * n ≤ length index.old }
-    ensures by_index { (loads loadedsizes : List ℕ) (h : Hypergraph) (ceiling : ℕ → ℕ) → Called h ceiling
-        (tables counts.old visited.old gains.old presentpins.old presentsizes.old bits.old blocks.old weights.old aboves.old loads netweights.now firsts.now loadedsizes n m k total)
-        (tables counts.new visited.new gains.new presentpins.new presentsizes.new bits.new blocks.new weights.new aboves.new loads netweights.now firsts.now loadedsizes n m k total)
-        (two stack.into stack.gone stack.len) (two result.stack.into result.stack.gone result.stack.len) (two journal.vertices journal.blocks journal.len) (two result.journal.vertices result.journal.blocks result.journal.len) (call_j u v) (told result.no (says_j result.weight)) }
+    ensures by_index { (loads loadedsizes : List ℕ) (h : Hypergraph) (ceiling : ℕ → ℕ) →
+        let before = tables counts.old visited.old gains.old presentpins.old presentsizes.old bits.old blocks.old weights.old aboves.old loads netweights.now firsts.now loadedsizes n m k total in
+        let after = tables counts.new visited.new gains.new presentpins.new presentsizes.new bits.new blocks.new weights.new aboves.new loads netweights.now firsts.now loadedsizes n m k total in
+        let joins = two stack.into stack.gone stack.len in
+        let moves = two journal.vertices journal.blocks journal.len in
+        MatchResult result
+        (λ t. Called h ceiling before after joins (two t.stack.into t.stack.gone t.stack.len) moves (two t.journal.vertices t.journal.blocks t.journal.len) (call_j u v) (says_j t.weight))
+        (λ e. Called h ceiling before after joins joins moves moves (call_j u v) (says_no (number_of e))) }
     ensures keeps_right { KeepsRight gains.old blocks.old gains.new blocks.new n k index.old index.new }
 {
-    let no = refuses_join(blocks, n, u, v);
-    if no != 0 {
-        return JoinTurn {
-            stack: stack,
-            journal: journal,
-            no: no,
-            weight: 0,
-        };
-    }
+    refuses_join(blocks, n, u, v)?;
     let next = stack.push(narrow(u), narrow(v));
     let cleared = journal.clear();
     join(
@@ -116,12 +112,11 @@ pub fn call_join(
     );
     put_two_right(index, gains, blocks, n, k, u - 1, v - 1);
     let after = weights[u - 1];
-    JoinTurn {
+    Ok(JoinTurn {
         stack: next,
         journal: cleared,
-        no: 0,
         weight: after,
-    }
+    })
 }
 
 // S.
@@ -145,31 +140,29 @@ pub fn call_split(
     total: u32,
     stack: Stack,
     journal: Journal,
-) -> SplitTurn
+) -> Result<SplitTurn, Refusal>
     requires ready_s { ReadyS
         (λ loads. tables counts.old visited.old gains.old presentpins.old presentsizes.old bits.old blocks.old weights.old aboves.old loads netweights.now firsts.now loadedsizes.now n m k total)
         (two stack.into stack.gone stack.len) (two journal.vertices journal.blocks journal.len) }
     requires n_in_bounds { 16 * n ≤ length index.old }
-    ensures by_index { (loads : List ℕ) (h : Hypergraph) (ceiling : ℕ → ℕ) → Called h ceiling
-        (tables counts.old visited.old gains.old presentpins.old presentsizes.old bits.old blocks.old weights.old aboves.old loads netweights.now firsts.now loadedsizes.now n m k total)
-        (tables counts.new visited.new gains.new presentpins.new presentsizes.new bits.new blocks.new weights.new aboves.new loads netweights.now firsts.now loadedsizes.now n m k total)
-        (two stack.into stack.gone stack.len) (two result.stack.into result.stack.gone result.stack.len) (two journal.vertices journal.blocks journal.len) (two result.journal.vertices result.journal.blocks result.journal.len) call_s (told result.no (says_s result.into result.gone)) }
+    ensures by_index { (loads : List ℕ) (h : Hypergraph) (ceiling : ℕ → ℕ) →
+        let before = tables counts.old visited.old gains.old presentpins.old presentsizes.old bits.old blocks.old weights.old aboves.old loads netweights.now firsts.now loadedsizes.now n m k total in
+        let after = tables counts.new visited.new gains.new presentpins.new presentsizes.new bits.new blocks.new weights.new aboves.new loads netweights.now firsts.now loadedsizes.now n m k total in
+        let joins = two stack.into stack.gone stack.len in
+        let moves = two journal.vertices journal.blocks journal.len in
+        MatchResult result
+        (λ t. Called h ceiling before after joins (two t.stack.into t.stack.gone t.stack.len) moves (two t.journal.vertices t.journal.blocks t.journal.len) call_s (says_s t.into t.gone))
+        (λ e. Called h ceiling before after joins joins moves moves call_s (says_no (number_of e))) }
     ensures keeps_right { KeepsRight gains.old blocks.old gains.new blocks.new n k index.old index.new }
 {
     let at = stack.len;
     if at == 0 {
-        return SplitTurn {
-            stack: stack,
-            journal: journal,
-            no: 15,
-            into: 0,
-            gone: 0,
-        };
+        return Err(Refusal::NothingToUndo);
     }
     let into = stack.into[at - 1];
     let gone = stack.gone[at - 1];
-    let u = incidence::numbers::index(into) - 1;
-    let v = incidence::numbers::index(gone) - 1;
+    let u = usize::from(into) - 1;
+    let v = usize::from(gone) - 1;
     let next = stack.pop();
     let cleared = journal.clear();
     split(
@@ -193,11 +186,10 @@ pub fn call_split(
         v,
     );
     put_two_right(index, gains, blocks, n, k, u, v);
-    SplitTurn {
+    Ok(SplitTurn {
         stack: next,
         journal: cleared,
-        no: 0,
-        into: wide(into),
-        gone: wide(gone),
-    }
+        into: u32::from(into),
+        gone: u32::from(gone),
+    })
 }

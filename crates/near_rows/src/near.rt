@@ -6,8 +6,7 @@ ghost use Rattle.index.specs.Indexed.{TablesOk};
 ghost use Rattle.search_moves.specs.Lifting.{NetIn};
 ghost use Rattle.near_rows.specs.Near.{PinsTo, NearOk, Mended, PinsRight, NetRight, NearRight};
 
-use incidence::next_net;
-use index::numbers::wide;
+use incidence::nets_of;
 use index::rows::put_right;
 
 // Makes the rows of a net's pins right.
@@ -25,10 +24,14 @@ fn put_pins_right(
     ensures { Mended gains.now blocks.now n k index.old index.new
         × PinsRight gains.now blocks.now k index.new presentpins.now first size }
 {
-    let mut j: usize = 0;
-    while j < size {
-        put_right(index, gains, blocks, wide(presentpins[first + j]) - 1, k);
-        j += 1;
+    for j in 0..size {
+        put_right(
+            index,
+            gains,
+            blocks,
+            usize::from(presentpins[first + j]) - 1,
+            k,
+        );
     }
 }
 
@@ -37,10 +40,10 @@ fn is_critical(counts: &[u16], e: usize, s: u16, t: u16) -> bool
     requires { NetIn (length counts.now) e s × NetIn (length counts.now) e t }
     ensures { result ≡ false → (1 < get_or counts.now (16 * e + (s - 1)) 0) × (2 < get_or counts.now (16 * e + (t - 1)) 0) }
 {
-    if counts[16 * e + (wide(s) - 1)] <= 1 {
+    if counts[16 * e + (usize::from(s) - 1)] <= 1 {
         return true;
     }
-    counts[16 * e + (wide(t) - 1)] <= 2
+    counts[16 * e + (usize::from(t) - 1)] <= 2
 }
 
 // Makes the rows of the pins of net `e` right, if their gains may have changed.
@@ -90,22 +93,20 @@ pub fn put_near_right(
     ensures { NearRight gains.now counts.now blocks.now presentpins.now firsts.now presentsizes.now bits.now n m k u s t index.old index.new }
 {
     put_right(index, gains, blocks, u, k);
-    let mut e = next_net(bits, u, 0, m);
-    while e < m {
+    for e in nets_of(bits, u, m) {
         put_net_right(
             index,
             gains,
             counts,
             blocks,
             presentpins,
-            wide(firsts[e]),
-            wide(presentsizes[e]),
+            usize::from(firsts[e]),
+            usize::from(presentsizes[e]),
             e,
             n,
             k,
             s,
             t,
         );
-        e = next_net(bits, u, e + 1, m);
     }
 }

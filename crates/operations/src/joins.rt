@@ -5,21 +5,13 @@ ghost use Rattle.operations.specs.Join.{heavier, lighter, SetsAbove, ClearsAbove
 
 use levels::{contract, uncontract};
 
-// The number from 1 of the vertex at place `u`.
-fn number(u: usize) -> u16
-    requires { u < 65535 }
-    ensures { result ≡ u + 1 }
-{
-    (u + 1) as u16
-}
-
 // The records of `u` and `v` once `v` hangs below `u`, which bears its weight.
 fn set_above(weights: &mut [u32], aboves: &mut [u16], u: usize, v: usize)
     requires { SetsAbove weights.old aboves.old u v }
     ensures { (weights.new ≡ heavier weights.old u v) × (aboves.new ≡ set aboves.old v (u + 1)) }
 {
-    weights[u] = weights[u] + weights[v];
-    aboves[v] = number(u);
+    weights[u] += weights[v];
+    aboves[v] = (u + 1) as u16;
 }
 
 // The same with `v` on the board again.
@@ -27,7 +19,7 @@ fn clear_above(weights: &mut [u32], aboves: &mut [u16], u: usize, v: usize)
     requires { ClearsAbove weights.old aboves.old u v }
     ensures { (weights.new ≡ lighter weights.old u v) × (aboves.new ≡ set aboves.old v 0) }
 {
-    weights[u] = weights[u] - weights[v];
+    weights[u] -= weights[v];
     aboves[v] = 0;
 }
 

@@ -1,42 +1,19 @@
 // A vertex moved to another block in all tables, with the blocks' weights and the metric; and a move taken back.
-ghost use Rattle.std.specs.Prelude.{ℕ, ◌+◌, ◌-◌, ◌*◌, ◌^◌, ◌<◌, ◌≡◌, List, get_or, pos, nat_abs, neg_ℤ, ◌+ℤ◌, ◌-ℤ◌};
+ghost use Rattle.std.specs.Prelude.{ℕ, ◌≡◌, List, get_or, pos, ◌-ℤ◌};
 ghost use Rattle.levels.specs.Running.{running};
 ghost use Rattle.levels.specs.Operations.{MoveDoes};
 ghost use Rattle.operations.specs.Tables.{tables};
-ghost use Rattle.operations.specs.Total.{Lowers, Raises};
+ghost use Rattle.operations.specs.Total.{Lowers};
 ghost use Rattle.operations.specs.Move.{shifted, Shifts, Carries, CanGo, Went};
 
-use incidence::numbers::{index, long};
 use levels::move_vertex;
 
-// The metric after a move of that gain.
+// The metric after a move of that gain, which may be negative. The way back has the negated gain, so that the metric rises by what it fell.
 fn lower_total(total: u32, gain: i32) -> u32
     requires { Lowers total gain }
     ensures { pos result ≡ pos total -ℤ gain }
 {
-    match text::side(gain) {
-        text::Sign::Plus(g) => total - g,
-        text::Sign::Minus(g) => total + g,
-    }
-}
-
-// The metric before a move of that gain.
-fn raise_total(total: u32, gain: i32) -> u32
-    requires { Raises total gain }
-    ensures { pos result ≡ pos total +ℤ gain }
-{
-    match text::side(gain) {
-        text::Sign::Plus(g) => total + g,
-        text::Sign::Minus(g) => total - g,
-    }
-}
-
-// The negated gain.
-fn negated(gain: i32) -> i32
-    requires { nat_abs gain < 2 ^ 31 }
-    ensures { result ≡ neg_ℤ gain }
-{
-    -gain
+    total.checked_sub_signed(gain).unwrap()
 }
 
 // Moves the weight `w` from the block `s` to the block `t`.
@@ -44,8 +21,8 @@ fn shift_load(loads: &mut [u64; 16], s: usize, t: usize, w: u64)
     requires { Shifts loads.old s t w }
     ensures { loads.new ≡ shifted loads.old s t w }
 {
-    loads[s - 1] = loads[s - 1] - w;
-    loads[t - 1] = loads[t - 1] + w;
+    loads[s - 1] -= w;
+    loads[t - 1] += w;
 }
 
 // Moves the vertex `u` to the block `t` in all tables, with the blocks' weights.
@@ -76,7 +53,12 @@ fn carry(
         n m k u t }
     ensures loads_after { loads.new ≡ shifted loads.old (get_or blocks.old u 0) t (get_or weights.now u 0) }
 {
-    shift_load(loads, index(blocks[u]), index(t), long(weights[u]));
+    shift_load(
+        loads,
+        usize::from(blocks[u]),
+        usize::from(t),
+        u64::from(weights[u]),
+    );
     move_vertex(
         counts,
         visited,
@@ -123,7 +105,7 @@ pub fn go(
         (tables counts.new visited.new gains.new presentpins.now presentsizes.now bits.now blocks.new weights.now aboves loads.new netweights.now firsts.now loadedsizes n m k result)
         u t }
 {
-    let after = lower_total(total, gains[16 * u + (index(t) - 1)]);
+    let after = lower_total(total, gains[16 * u + (usize::from(t) - 1)]);
     carry(
         counts,
         visited,
@@ -145,8 +127,8 @@ pub fn go(
     after
 }
 
-// Takes a move of the vertex `u` back, to the block `t` that it left, and returns the metric. The way back has the negated gain, so the move
-// had that of the way back, negated; the metric rises by it.
+// Takes a move of the vertex `u` back, to the block `t` that it left, and returns the metric: a move like any other, since the gain table has
+// the negated gain for the way back.
 pub fn back(
     counts: &mut [u16],
     visited: &mut [u16],
@@ -174,8 +156,7 @@ pub fn back(
         (tables counts.new visited.new gains.new presentpins.now presentsizes.now bits.now blocks.new weights.now aboves loads.new netweights.now firsts.now loadedsizes n m k result)
         u t }
 {
-    let after = raise_total(total, negated(gains[16 * u + (index(t) - 1)]));
-    carry(
+    go(
         counts,
         visited,
         gains,
@@ -190,8 +171,8 @@ pub fn back(
         n,
         m,
         k,
+        total,
         u,
         t,
-    );
-    after
+    )
 }

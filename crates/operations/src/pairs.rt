@@ -1,17 +1,21 @@
-// The contraction stack and the move journal: structs by value, whose methods return the new state. A list has at most 512 calls, so a call's have
-// 512 entries; the long ones, of 1,024, are A's own contractions and what the list's entry returns.
+// The contraction stack, of either size, and the move journal: structs by value, whose methods return the new state. A list has at most 512 calls, so a call's have
+// 512 entries; A's own contractions have 1,024, and so has what the list's entry returns.
 ghost use Rattle.std.specs.Prelude.{◌+◌, ◌-◌, ◌<◌, ◌≤◌, ◌≡◌, length, replicate};
 ghost use Rattle.operations.specs.Pairs.{Pushed, Lengthened};
 
 // The joins that stand, the latest last: `gone[i]` was contracted into `into[i]`.
 #[derive(Clone, Copy)]
-pub struct Stack {
-    pub into: [u16; 512],
-    pub gone: [u16; 512],
+pub struct Joins<const N: usize> {
+    pub into: [u16; N],
+    pub gone: [u16; N],
     pub len: usize,
 }
 
-// The moves on the record, the latest last: `vertices[i]` left `blocks[i]`.
+// Those of the calls of a list.
+pub type Stack = Joins<512>;
+
+// The moves on the record, the latest last: `vertices[i]` left `blocks[i]`. It is no twin of `Joins`, though its methods are as short: a stack has to
+// be no journal, and the contracts of the calls speak of its entries by these names.
 #[derive(Clone, Copy)]
 pub struct Journal {
     pub vertices: [u16; 512],
@@ -19,6 +23,7 @@ pub struct Journal {
     pub len: usize,
 }
 
+// A stack and a journal as the list's entry returns them to C, where an exported function takes no struct with a const parameter.
 #[repr(C)]
 #[derive(Clone, Copy)]
 pub struct LongStack {
@@ -37,68 +42,58 @@ pub struct LongJournal {
 
 // The first n entries, and zeros past them.
 fn lengthened(xs: [u16; 512], n: usize) -> [u16; 1024]
-    requires { (length xs ≡ 512) × (n ≤ 512) }
+    requires { n ≤ 512 }
     ensures { Lengthened n xs result }
 {
     let mut ys = [0u16; 1024];
-    let mut i: usize = 0;
-    while i < n {
-        ys[i] = xs[i];
-        i += 1;
-    }
+    ys[..n].copy_from_slice(&xs[..n]);
     ys
 }
 
-impl Stack {
-    pub fn new() -> Stack
-        ensures { (length result.into ≡ 512) × (length result.gone ≡ 512) × (result.len ≡ 0) }
+impl<const N: usize> Joins<N> {
+    pub fn new() -> Joins<N>
+        ensures { (length result.into ≡ N) × (length result.gone ≡ N) × (result.len ≡ 0) }
     {
-        let into = [0u16; 512];
-        let gone = [0u16; 512];
-        Stack {
-            into: into,
-            gone: gone,
+        Joins {
+            into: [0; N],
+            gone: [0; N],
             len: 0,
         }
     }
 
     // With the contraction of `v` into `u` on top.
-    pub fn push(self, u: u16, v: u16) -> Stack
-        requires { (self.len < 512) × (length self.into ≡ 512) × (length self.gone ≡ 512) }
-        ensures { Pushed self.into self.gone self.len u v result.into result.gone result.len }
+    pub fn push(self, u: u16, v: u16) -> Joins<N>
+        requires { self.len < N }
+        ensures { Pushed self.entry.into self.entry.gone self.entry.len u v result.into result.gone result.len }
     {
         let mut s = self;
-        let at = s.len;
-        s.into[at] = u;
-        s.gone[at] = v;
-        s.len = at + 1;
+        s.into[s.len] = u;
+        s.gone[s.len] = v;
+        s.len += 1;
         s
     }
 
     // Without its top.
-    pub fn pop(self) -> Stack
+    pub fn pop(self) -> Joins<N>
         requires { 1 ≤ self.len }
-        ensures { (result.into ≡ self.into) × (result.gone ≡ self.gone) × (result.len ≡ self.len - 1) }
+        ensures { (result.into ≡ self.entry.into) × (result.gone ≡ self.entry.gone) × (result.len ≡ self.entry.len - 1) }
     {
         let mut s = self;
-        s.len = s.len - 1;
+        s.len -= 1;
         s
     }
+}
 
+impl Stack {
     // As the list's entry returns it, with zeros past its length.
     pub fn long(self) -> LongStack
-        requires { (length self.into ≡ 512) × (length self.gone ≡ 512) × (self.len ≤ 512) }
+        requires { self.len ≤ 512 }
         ensures { Lengthened self.len self.into result.into × Lengthened self.len self.gone result.gone × (result.len ≡ self.len) }
     {
-        let len = self.len;
-        let u = self.into;
-        let v = self.gone;
-        let into = lengthened(u, len);
-        let gone = lengthened(v, len);
         LongStack {
-            into: into,
-            gone: gone,
-            len: len,
+            into: lengthened(self.into, self.len),
+            gone: lengthened(self.gone, self.len),
+            len: self.len,
         }
     }
 }
@@ -107,25 +102,22 @@ impl Journal {
     pub fn new() -> Journal
         ensures { (length result.vertices ≡ 512) × (length result.blocks ≡ 512) × (result.len ≡ 0) }
     {
-        let vertices = [0u16; 512];
-        let blocks = [0u16; 512];
         Journal {
-            vertices: vertices,
-            blocks: blocks,
+            vertices: [0; 512],
+            blocks: [0; 512],
             len: 0,
         }
     }
 
     // With the move of `v` out of block `b` on top.
     pub fn push(self, v: u16, b: u16) -> Journal
-        requires { (self.len < 512) × (length self.vertices ≡ 512) × (length self.blocks ≡ 512) }
+        requires { self.len < 512 }
         ensures { Pushed self.vertices self.blocks self.len v b result.vertices result.blocks result.len }
     {
         let mut j = self;
-        let at = j.len;
-        j.vertices[at] = v;
-        j.blocks[at] = b;
-        j.len = at + 1;
+        j.vertices[j.len] = v;
+        j.blocks[j.len] = b;
+        j.len += 1;
         j
     }
 
@@ -135,24 +127,19 @@ impl Journal {
         ensures { (result.vertices ≡ self.vertices) × (result.blocks ≡ self.blocks) × (result.len ≡ self.len - 1) }
     {
         let mut j = self;
-        j.len = j.len - 1;
+        j.len -= 1;
         j
     }
 
     // As the list's entry returns it, with zeros past its length.
     pub fn long(self) -> LongJournal
-        requires { (length self.vertices ≡ 512) × (length self.blocks ≡ 512) × (self.len ≤ 512) }
+        requires { self.len ≤ 512 }
         ensures { Lengthened self.len self.vertices result.vertices × Lengthened self.len self.blocks result.blocks × (result.len ≡ self.len) }
     {
-        let len = self.len;
-        let v = self.vertices;
-        let b = self.blocks;
-        let vertices = lengthened(v, len);
-        let blocks = lengthened(b, len);
         LongJournal {
-            vertices: vertices,
-            blocks: blocks,
-            len: len,
+            vertices: lengthened(self.vertices, self.len),
+            blocks: lengthened(self.blocks, self.len),
+            len: self.len,
         }
     }
 
@@ -170,26 +157,11 @@ impl LongStack {
     pub fn new() -> LongStack
         ensures { (length result.into ≡ 1024) × (length result.gone ≡ 1024) × (result.len ≡ 0) × (result.into ≡ replicate 1024 0) × (result.gone ≡ replicate 1024 0) }
     {
-        let into = [0u16; 1024];
-        let gone = [0u16; 1024];
         LongStack {
-            into: into,
-            gone: gone,
+            into: [0; 1024],
+            gone: [0; 1024],
             len: 0,
         }
-    }
-
-    // With the contraction of `v` into `u` on top.
-    pub fn push(self, u: u16, v: u16) -> LongStack
-        requires { (self.len < 1024) × (length self.into ≡ 1024) × (length self.gone ≡ 1024) }
-        ensures { Pushed self.into self.gone self.len u v result.into result.gone result.len }
-    {
-        let mut s = self;
-        let at = s.len;
-        s.into[at] = u;
-        s.gone[at] = v;
-        s.len = at + 1;
-        s
     }
 }
 
@@ -197,11 +169,9 @@ impl LongJournal {
     pub fn new() -> LongJournal
         ensures { (length result.vertices ≡ 1024) × (length result.blocks ≡ 1024) × (result.len ≡ 0) × (result.vertices ≡ replicate 1024 0) × (result.blocks ≡ replicate 1024 0) }
     {
-        let vertices = [0u16; 1024];
-        let blocks = [0u16; 1024];
         LongJournal {
-            vertices: vertices,
-            blocks: blocks,
+            vertices: [0; 1024],
+            blocks: [0; 1024],
             len: 0,
         }
     }

@@ -34,17 +34,17 @@ bounds-journal-at-2 c =
 
 pub overflow_sub-left : goal.overflow_sub-left
 overflow_sub-left c =
-    omega (arith, (back-open c.requires.ready_m.ready.runs (above-none _ c.if-at-eq0.false)).0, c.index-x.ensures)
+    omega (arith, (back-open c.requires.ready_m.ready.runs (above-none _ c.if-at-eq0.false)).0, c.from-x.ensures)
 
 pub offset_bounds-blocks-x : goal.offset_bounds-blocks-x
 offset_bounds-blocks-x c =
     let ok = back-open c.requires.ready_m.ready.runs (above-none _ c.if-at-eq0.false) in
-    omega (arith, ok.0, ok.1.u-in, c.index-x.ensures, (roomy c.requires.ready_m.ready).few-vertices)
+    omega (arith, ok.0, ok.1.u-in, c.from-x.ensures, (roomy c.requires.ready_m.ready).few-vertices)
 
 pub bounds-blocks-x : goal.bounds-blocks-x
 bounds-blocks-x c =
     let ok = back-open c.requires.ready_m.ready.runs (above-none _ c.if-at-eq0.false) in
-    omega (arith, ok.0, ok.1.u-in, c.index-x.ensures, (roomy c.requires.ready_m.ready).blocks-fit)
+    omega (arith, ok.0, ok.1.u-in, c.from-x.ensures, (roomy c.requires.ready_m.ready).blocks-fit)
 
 pub pop-next-requires : goal.pop-next-requires
 pop-next-requires c =
@@ -52,24 +52,24 @@ pop-next-requires c =
 
 pub overflow_sub-x : goal.overflow_sub-x
 overflow_sub-x c =
-    omega (arith, (back-open c.requires.ready_m.ready.runs (above-none _ c.if-at-eq0.false)).0, c.index-x.ensures)
+    omega (arith, (back-open c.requires.ready_m.ready.runs (above-none _ c.if-at-eq0.false)).0, c.from-x.ensures)
 
 pub back-after-requires : goal.back-after-requires
 back-after-requires c =
-    record { aboves = c.requires.ready_m.aboves; loaded = c.requires.ready_m.loaded; goes = goes-ok c.requires.ready_m.ready (above-none _ c.if-at-eq0.false) c.index-x.result c.index-x.ensures }
+    record { aboves = c.requires.ready_m.aboves; loaded = c.requires.ready_m.loaded; goes = goes-ok c.requires.ready_m.ready (above-none _ c.if-at-eq0.false) c.from-x.result c.from-x.ensures }
 
 pub overflow_sub-x-2 : goal.overflow_sub-x-2
 overflow_sub-x-2 c =
-    omega (arith, (back-open c.requires.ready_m.ready.runs (above-none _ c.if-at-eq0.false)).0, c.index-x.ensures)
+    omega (arith, (back-open c.requires.ready_m.ready.runs (above-none _ c.if-at-eq0.false)).0, c.from-x.ensures)
 
 pub put_near_right-requires : goal.put_near_right-requires
 put_near_right-requires c =
     let ready = c.requires.ready_m in
-    let goes = goes-ok ready.ready (above-none _ c.if-at-eq0.false) c.index-x.result c.index-x.ensures in
+    let goes = goes-ok ready.ready (above-none _ c.if-at-eq0.false) c.from-x.result c.from-x.ensures in
     near-asks goes.sound goes.open-pair ((c.back-after.ensures ready.aboves ready.loaded).sound goes.h goes.cs goes.block goes.sound) c.requires.n_in_bounds
 
 pub returns : goal.returns
 returns c =
     let ready = c.requires.ready_m in
-    let goes = goes-ok ready.ready (above-none _ c.if-at-eq0.false) c.index-x.result c.index-x.ensures in
-    let sound = (c.back-after.ensures ready.aboves ready.loaded).sound goes.h goes.cs goes.block goes.sound in record { by_index = λ aboves loaded S h ceiling. accepted-B h _ _ _ _ _ (above-none _ c.if-at-eq0.false) c.index-x.result c.index-x.ensures (c.back-after.ensures aboves loaded) (record { xs-same = c.pop-next.ensures.0; ys-same = c.pop-next.ensures.1; len_is = c.pop-next.ensures.2 }) c.wide.result c.wide-2.result c.wide.ensures c.wide-2.ensures; keeps_right = near-keeps goes.sound goes.open-pair sound c.put_near_right.ensures }
+    let goes = goes-ok ready.ready (above-none _ c.if-at-eq0.false) c.from-x.result c.from-x.ensures in
+    let sound = (c.back-after.ensures ready.aboves ready.loaded).sound goes.h goes.cs goes.block goes.sound in record { by_index = λ aboves loaded S h ceiling. accepted-B h _ _ _ _ _ (above-none _ c.if-at-eq0.false) c.from-x.result c.from-x.ensures (c.back-after.ensures aboves loaded) (record { xs-same = c.pop-next.ensures.0; ys-same = c.pop-next.ensures.1; len_is = c.pop-next.ensures.2 }) c.from.result c.from-2.result c.from.ensures c.from-2.ensures; keeps_right = near-keeps goes.sound goes.open-pair sound c.put_near_right.ensures }

@@ -6,6 +6,6 @@ pub returns : goal.returns
 returns c =
     let a = c.args in
     λ q. (
-      omega (arith, ap (λ (z : ℕ). get_or a.counts.now (16 * a.e + (z - 1)) 0) c.wide.ensures),
-      omega (arith, ap (λ (z : ℕ). get_or a.counts.now (16 * a.e + (z - 1)) 0) c.wide-2.ensures, leb-false (get_or a.counts.now (16 * a.e + (c.wide-2.result - 1)) 0) _ q),
+      omega (arith, ap (λ (z : ℕ). get_or a.counts.now (16 * a.e + (z - 1)) 0) c.from.ensures),
+      omega (arith, ap (λ (z : ℕ). get_or a.counts.now (16 * a.e + (z - 1)) 0) c.from-2.ensures, leb-false (get_or a.counts.now (16 * a.e + (c.from-2.result - 1)) 0) _ q),
     )

@@ -4,7 +4,4 @@ use Rattle.near_rows.specs.Near.{Mended, PinsRight, row-asks, mended-none, mende
 use Rattle.near_rows.proofs.near.put_pins_right.Given as goal
 
 abbrev pub invariant-loop-j : goal.invariant-loop-j
-invariant-loop-j l = (l.j ≤ l.size) × Mended l.gains l.blocks l.n l.k l.initial.index l.index × PinsRight l.gains l.blocks l.k l.index l.presentpins l.first l.j
-
-abbrev pub decreases-loop-j : goal.decreases-loop-j
-decreases-loop-j l = l.size - l.j
+invariant-loop-j l = Mended l.gains l.blocks l.n l.k l.initial.index l.index × PinsRight l.gains l.blocks l.k l.index l.presentpins l.first l.j

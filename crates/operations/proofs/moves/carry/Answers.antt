@@ -5,12 +5,8 @@ use Rattle.operations.proofs.moves.carry.Goals as goal
 
 pub shift_load-requires : goal.shift_load-requires
 shift_load-requires c =
-    shifts-as c.args.loads.now c.index.ensures c.index-2.ensures c.long.ensures c.requires.shifts
-
-pub move_vertex-requires : goal.move_vertex-requires
-move_vertex-requires c =
-    c.requires.moves
+    shifts-as c.args.loads.now c.from.ensures c.from-2.ensures c.from-3.ensures c.requires.shifts
 
 pub returns : goal.returns
 returns c =
-    record { move_does = c.move_vertex.ensures; loads_after = shifted_as c.args.loads.now c.index.ensures c.index-2.ensures c.long.ensures c.shift_load.ensures }
+    record { move_does = c.move_vertex.ensures; loads_after = shifted_as c.args.loads.now c.from.ensures c.from-2.ensures c.from-3.ensures c.shift_load.ensures }

@@ -6,7 +6,7 @@ use Rattle.operations.proofs.moves.go.Goals as goal
 pub lower_total-after-requires : goal.lower_total-after-requires
 lower_total-after-requires c =
     let g = c.requires.goes in
-    lower-needs g.sound g.open-pair c.index.result c.index.ensures
+    lower-needs g.sound g.open-pair c.from.result c.from.ensures
 
 pub carry-requires : goal.carry-requires
 carry-requires c =
@@ -17,4 +17,4 @@ pub returns : goal.returns
 returns c =
     λ aboves loaded.
     let g = c.requires.goes in
-    went _ g.open-pair c.carry.ensures.move_does c.carry.ensures.loads_after (lowered g.sound g.open-pair c.index.ensures c.lower_total-after.ensures)
+    went _ g.open-pair c.carry.ensures.move_does c.carry.ensures.loads_after (lowered g.sound g.open-pair c.from.ensures c.lower_total-after.ensures)
