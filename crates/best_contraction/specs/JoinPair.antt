@@ -1,6 +1,6 @@
 -- The best pair by scores, row by row, is model's best pair of those whose score is not 0. Rests on JoinLaw and on guarantees' Tops.
 -- Assumes nothing.
-use Rattle.std.specs.Prelude.{◌≡◌, Bool, ℤ, pos}
+use Rattle.std.specs.Prelude.{◌≡◌, Option, Some, None, MatchOption, Bool, ℤ, pos}
 use Rattle.std.proofs.Math.Path.{refl, sym, ap}
 use Rattle.std.proofs.Common.{◌∙◌, subst, arith}
 use Rattle.std.proofs.Math.Bool.{true, false, cond}
@@ -44,6 +44,18 @@ scored score u v = pos (score u v)
 pub record BestJoin (score : ℕ → ℕ → ℕ) (n : ℕ) (r : Join) : Type 0 where
   pub same : join_of r ≡ best_pair n n (joinable score) (scored score)
   pub within : 1 ≤ r.rating → (1 ≤ r.into) × (r.into ≤ n) × (1 ≤ r.gone) × (r.gone ≤ n)
+
+-- a pair that was found, or none: rating 0
+abbrev pub join_or : Option Join → Join
+join_or None = record { rating = 0; into = 0; gone = 0 }
+join_or (Some j) = j
+
+-- a pair that was found has a rating
+abbrev pub IsRated : Option Join → Type 0
+IsRated r = MatchOption r Unit (λ j. 1 ≤ j.rating)
+
+pub best_join-none : (score : ℕ → ℕ → ℕ) (n : ℕ) (r : Join) → BestJoin score n r → r.rating ≡ 0 → BestJoin score n (join_or None)
+best_join-none score n r b e = record { same = sym (join_of-none r e) ∙ b.same; within = λ l. absurd (omega arith) }
 
 -- one more pair
 abbrev take : ℕ → Join → ℕ → ℕ → Join

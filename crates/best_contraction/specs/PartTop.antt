@@ -1,6 +1,6 @@
 -- Tops: for each part of 64 vertices the highest of their bounds; how they are set, and how they lead to the vertex of the highest bound.
 -- Vertices and parts count from 1. Rests on Bound. Assumes nothing.
-use Rattle.std.specs.Prelude.{◌≡◌, ◌⊎◌, List, ℕ, ◌+◌, ◌-◌, ◌*◌, ◌/◌, ◌≤◌, ◌<◌, length, get_or, set}
+use Rattle.std.specs.Prelude.{◌≡◌, ◌⊎◌, List, ℕ, ◌+◌, ◌-◌, ◌*◌, ◌/◌, ◌≤◌, ◌<◌, max, length, get_or, set}
 use Rattle.std.proofs.Common.{sym, ap, ◌∙◌, subst, inl, inr, arith, length-set, get_or-set_same, get_or-set_other}
 use Rattle.std.proofs.Math.Decide.{ℕ_discrete, dec_lt}
 use Rattle.incidence.specs.On.{Cut}
@@ -11,6 +11,10 @@ use Rattle.best_contraction.specs.Bound.{Highest}
 pub record TopOf (l : List ℕ) (from to r : ℕ) : Type 0 where
   pub above : (x : ℕ) → from < x → x ≤ to → get_or l x 0 ≤ r
   pub least : (s : ℕ) → ((x : ℕ) → from < x → x ≤ to → get_or l x 0 ≤ s) → r ≤ s
+
+-- the larger of two numbers
+pub larger-max : (a b r : ℕ) → r ≡ max a b → r ≡ a + (b - a)
+larger-max a b r e = omega (arith, e)
 
 -- the last vertex of part c, where there are n
 abbrev pub part_end : ℕ → ℕ → ℕ

@@ -172,6 +172,9 @@ module _ (bits pins firsts sizes net_weights : List ℕ) (u m : ℕ) (ok : RowOk
   row-skip : (l : List ℕ) (i end e : ℕ) → Holds l (row i) → Next bits (u - 1) i end e → Holds l (row e)
   row-skip l i end e h k = record { here = λ z. h.here z ∙ sym (over_skip bits (u - 1) _ i end e k); len = h.len }
 
+  pub row-first : (l : List ℕ) (e : ℕ) → Blank l → Next bits (u - 1) 0 m e → Holds l (row e)
+  row-first l e h k = row-skip l 0 m e (row-none l h) k
+
   pub row-stretch : (l : List ℕ) (e f s : ℕ) → e < m → Holds l (row e) → f ≡ get_or firsts e 0 → s ≡ get_or sizes e 0 → StretchOk l pins f s 1152921504606846976
   row-stretch l e f s h r ef es = subst (λ (k : ℕ). StretchOk l pins k s 1152921504606846976) (sym ef) (subst (λ (k : ℕ). StretchOk l pins (get_or firsts e 0) k 1152921504606846976) (sym es) (record {
     len = r.len;
@@ -187,7 +190,7 @@ module _ (bits pins firsts sizes net_weights : List ℕ) (u m : ℕ) (ok : RowOk
       bound : (z : ℕ) → row e z ≤ e * 35184372088832
       bound z = over-le bits (u - 1) e _ (λ g q. inner z g (omega arith))
 
-  row_more : (l l' : List ℕ) (e end e' f s t : ℕ) → Holds l (row e) → on bits (u - 1) e ≡ 1 → f ≡ get_or firsts e 0 → s ≡ get_or sizes e 0 → t ≡ term_of (get_or net_weights e 0) (get_or sizes e 0)
+  pub row_more : (l l' : List ℕ) (e end e' f s t : ℕ) → Holds l (row e) → on bits (u - 1) e ≡ 1 → f ≡ get_or firsts e 0 → s ≡ get_or sizes e 0 → t ≡ term_of (get_or net_weights e 0) (get_or sizes e 0)
       → Raised l l' (λ z. t * occ pins f s z) → Next bits (u - 1) (e + 1) end e' → Holds l' (row e')
   row_more l l' e end e' f s t h here ef es et r k = record {
     here = λ z. r.here z ∙ ap₂ (λ (a b : ℕ). a + b) (h.here z) (sym (same-net z)) ∙ sym (over-next bits (u - 1) _ end e e' here k);

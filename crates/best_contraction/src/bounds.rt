@@ -7,8 +7,7 @@ ghost use Rattle.best_contraction.specs.Bound.{ceiling, near_rise, far_rise, ris
 ghost use Rattle.best_contraction.specs.BoundLaw.{OwnSums};
 
 use crate::rating::{own_sum, term};
-use incidence::numbers::index;
-use incidence::{is_pin, next_net};
+use incidence::{is_pin, nets_of};
 
 // A bound above every rating: of a vertex whose ratings are not known.
 const ABOVE_ALL: u64 = 36028797018963968;
@@ -36,31 +35,9 @@ pub fn begin(
     requires bounds_len { length bounds.old ≡ 1025 }
     ensures { OwnSums bits.now presentsizes.now net_weights.now m n bounds.new }
 {
-    let mut i = 0;
-    while i < n {
+    for i in 0..n {
         bounds[i + 1] = own_sum(bits, presentsizes, net_weights, i + 1, m);
-        i += 1;
     }
-}
-
-// How many pins a net of `n` has when it has lost one.
-fn fewer(n: u16) -> u16
-    ensures { result ≡ n - 1 }
-{
-    if n == 0 {
-        return 0;
-    }
-    n - 1
-}
-
-// By how much the first number is above the second.
-fn excess(a: u64, b: u64) -> u64
-    ensures { result ≡ a - b }
-{
-    if a < b {
-        return 0;
-    }
-    a - b
 }
 
 // What a net of weight `w` with `n` pins adds, by whether both vertices of the contraction are pins.
@@ -70,7 +47,7 @@ fn rise(both: bool, w: u16, n: u16) -> Shares
 {
     let t = term(w, n);
     if both {
-        let more = excess(term(w, fewer(n)), t);
+        let more = term(w, n.saturating_sub(1)).saturating_sub(t);
         return Shares {
             near: more,
             far: more,
@@ -123,11 +100,9 @@ fn lift_net(
     if near + far == 0 {
         return;
     }
-    let mut i = 0;
-    while i < n {
-        let y = index(presentpins[first + i]);
+    for i in 0..n {
+        let y = usize::from(presentpins[first + i]);
         bounds[y] = raised(bounds[y], share(blocks, u, own, y, near, far));
-        i += 1;
     }
 }
 
@@ -150,8 +125,7 @@ pub fn lift(
     ensures { Lifted bounds.old bounds.new (rise_of bits.now presentpins.now firsts.now presentsizes.now net_weights.now blocks.now m u v) u v }
 {
     let own = blocks[u - 1];
-    let mut e = next_net(bits, v - 1, 0, m);
-    while e < m {
+    for e in nets_of(bits, v - 1, m) {
         let r = rise(is_pin(bits, u - 1, e), net_weights[e], presentsizes[e]);
         lift_net(
             bounds,
@@ -159,12 +133,11 @@ pub fn lift(
             blocks,
             u,
             own,
-            index(firsts[e]),
-            index(presentsizes[e]),
+            usize::from(firsts[e]),
+            usize::from(presentsizes[e]),
             r.near,
             r.far,
         );
-        e = next_net(bits, v - 1, e + 1, m);
     }
     bounds[v] = 0;
     bounds[u] = ABOVE_ALL;

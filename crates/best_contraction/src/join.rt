@@ -4,7 +4,7 @@ ghost use Rattle.std.specs.Prelude.{◌≡◌, cond, ◌+◌, ◌-◌, ◌≤◌
 ghost use Rattle.best_contraction.specs.Rating.{fits, score_in, score_of, TablesOk, Blank, Cleared};
 ghost use Rattle.best_contraction.specs.PartnerLaw.{topped, top_to};
 ghost use Rattle.best_contraction.specs.JoinLaw.{PartnerOf};
-ghost use Rattle.best_contraction.specs.JoinPair.{BestJoin};
+ghost use Rattle.best_contraction.specs.JoinPair.{BestJoin, IsRated, join_or};
 ghost use Rattle.best_contraction.specs.Bound.{Bounded, Planned, rise_of};
 ghost use Rattle.best_contraction.specs.PartTop.{Topped};
 ghost use Rattle.best_contraction.specs.Settling.{Rates};
@@ -12,16 +12,16 @@ ghost use Rattle.best_contraction.specs.Settling.{Rates};
 use crate::bounds::lift;
 use crate::rating::accumulate;
 use crate::tops::{four_top, highest, set_bound, set_tops};
-use incidence::numbers::long;
 
-// The best partner of a vertex; vertex 0 and rating 0 where there is none.
+// The best partner of a vertex; vertex 0 and rating 0 where there is none, so that one comparison of ratings is enough in the loop.
 #[derive(Clone, Copy)]
 pub struct Partner {
     pub rating: u64,
     pub vertex: usize,
 }
 
-// A pair and its rating, which is 0 where there is none.
+// A pair and its rating. In this file the rating is 0 where there is none, so that one comparison of ratings is enough in the loop; plan_join answers
+// an Option.
 #[derive(Clone, Copy)]
 pub struct Join {
     pub rating: u64,
@@ -60,7 +60,7 @@ fn may_join(
     if limit < a {
         return false;
     }
-    long(weights[y - 1]) <= limit - a
+    u64::from(weights[y - 1]) <= limit - a
 }
 
 // The better of `y`, of rating `s`, and the best before it. Few rate higher than the best before them, so that this is tested first.
@@ -109,10 +109,8 @@ fn weigh_to(
     ensures { result ≡ top_to (score_in (fits blocks.now weights.now u own a limit) (λ z. get_or acc.now z 0)) to }
 {
     let mut best = before;
-    let mut y = from;
-    while y < to {
+    for y in from..to {
         best = weigh_partner(blocks, weights, u, own, a, limit, y + 1, acc[y + 1], best);
-        y += 1;
     }
     best
 }
@@ -155,17 +153,27 @@ fn select(
     ensures { result ≡ top_to (score_in (fits blocks.now weights.now u (get_or blocks.now (u - 1) 0) (get_or weights.now (u - 1) 0) limit) (λ z. get_or acc.now z 0)) n }
 {
     let own = blocks[u - 1];
-    let a = long(weights[u - 1]);
+    let a = u64::from(weights[u - 1]);
     let mut best = Partner {
         rating: 0,
         vertex: 0,
     };
-    let mut y = u;
-    while y + 4 <= n {
-        best = weigh_four(acc, blocks, weights, u, own, a, limit, y, best);
-        y += 4;
+    let fours = (n - u) / 4;
+    for i in 0..fours {
+        best = weigh_four(acc, blocks, weights, u, own, a, limit, u + 4 * i, best);
     }
-    weigh_to(acc, blocks, weights, u, own, a, limit, y, n, best)
+    weigh_to(
+        acc,
+        blocks,
+        weights,
+        u,
+        own,
+        a,
+        limit,
+        u + 4 * fours,
+        n,
+        best,
+    )
 }
 
 // Clears the places of the `n` vertices.
@@ -173,10 +181,8 @@ fn clear(acc: &mut [u64; 1025], n: usize)
     requires { (length acc.old ≡ 1025) × (n ≤ 1024) }
     ensures { Cleared acc.old acc.new n }
 {
-    let mut i = 0;
-    while i < n {
+    for i in 0..n {
         acc[i + 1] = 0;
-        i += 1;
     }
 }
 
@@ -259,7 +265,7 @@ fn rate(
     let rating = p.rating;
     set_bound(bounds, tops, u, rating, n);
     Rated {
-        rating: rating,
+        rating,
         into: u,
         gone: p.vertex,
         top: highest(tops, bounds, n),
@@ -312,6 +318,7 @@ fn best_join(
         m,
         n,
     );
+    // No for: it ends where the vertex just rated has the highest bound, and counts nothing.
     while s.top != s.into {
         s = rate(
             acc,
@@ -351,16 +358,17 @@ pub fn plan_join(
     limit: u64,
     m: usize,
     n: usize,
-) -> Join
+) -> Option<Join>
     requires tables_ok { TablesOk bits.now presentpins.now firsts.now presentsizes.now net_weights.now blocks.now m n }
     requires blank { Blank acc.old × (1 ≤ n) × (n ≤ length weights.now) }
     requires bounded { Bounded (score_of bits.now presentpins.now firsts.now presentsizes.now net_weights.now blocks.now weights.now m limit) n bounds.old }
     ensures best_join { BestJoin
         (score_of bits.now presentpins.now firsts.now presentsizes.now net_weights.now blocks.now weights.now m limit)
-        n result }
+        n (join_or result) }
+    ensures rated { IsRated result }
     ensures planned { Planned
         (score_of bits.now presentpins.now firsts.now presentsizes.now net_weights.now blocks.now weights.now m limit)
-        (rise_of bits.now presentpins.now firsts.now presentsizes.now net_weights.now blocks.now m) n bounds.new result }
+        (rise_of bits.now presentpins.now firsts.now presentsizes.now net_weights.now blocks.now m) n bounds.new (join_or result) }
     ensures blank_2 { Blank acc.new }
 {
     let best = best_join(
@@ -379,7 +387,7 @@ pub fn plan_join(
     );
     let rating = best.rating;
     if rating == 0 {
-        return best;
+        return None;
     }
     lift(
         bounds,
@@ -394,5 +402,5 @@ pub fn plan_join(
         m,
         n,
     );
-    best
+    Some(best)
 }

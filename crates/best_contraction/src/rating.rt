@@ -3,8 +3,7 @@ ghost use Rattle.std.specs.Prelude.{◌≡◌, ◌+◌, ◌*◌, ◌≤◌, ◌<
 ghost use Rattle.laws.specs.Occurrence.{occ};
 ghost use Rattle.best_contraction.specs.Rating.{lesser, term_of, row_of, own_sum, OwnOk, Raised, Holds, StretchOk, RowOk, Blank};
 
-use incidence::numbers::index;
-use incidence::{least, next_bit, next_net};
+use incidence::nets_of;
 
 // What a net of weight `w` with `n` pins adds to the rating of two of them.
 pub fn term(w: u16, n: u16) -> u64
@@ -22,45 +21,9 @@ fn add_net(acc: &mut [u64; 1025], presentpins: &[u16], first: usize, n: usize, t
     requires t_bound { t ≤ 536870912 }
     ensures { Raised acc.old acc.new (λ z. t * occ presentpins.now first n z) }
 {
-    let mut i = 0;
-    while i < n {
-        let y = index(presentpins[first + i]);
+    for i in 0..n {
+        let y = usize::from(presentpins[first + i]);
         acc[y] = acc[y] + t;
-        i += 1;
-    }
-}
-
-// Adds the terms of those nets of `u` that the word `c` of its row has, where `acc` has those of the words before. The word stays in hand, and
-// is not read from memory for each net.
-fn add_word(
-    acc: &mut [u64; 1025],
-    bits: &[u64],
-    presentpins: &[u16],
-    firsts: &[u16],
-    presentsizes: &[u16],
-    net_weights: &[u16],
-    u: usize,
-    c: usize,
-    m: usize,
-)
-    requires row_ok { RowOk presentpins.now firsts.now presentsizes.now net_weights.now m × (1 ≤ u) × (16 * u ≤ length bits.now) × (64 * c < m) }
-    requires holds { Holds acc.old (row_of bits.now presentpins.now firsts.now presentsizes.now net_weights.now u (64 * c)) }
-    ensures { Holds acc.new (row_of bits.now presentpins.now firsts.now presentsizes.now net_weights.now u (lesser (64 * (c + 1)) m)) }
-{
-    let base = 64 * c;
-    let word = bits[16 * (u - 1) + c];
-    let to = least(m - base, 64);
-    let mut j = next_bit(word, 0);
-    while j < to {
-        let e = base + j;
-        add_net(
-            acc,
-            presentpins,
-            index(firsts[e]),
-            index(presentsizes[e]),
-            term(net_weights[e], presentsizes[e]),
-        );
-        j = next_bit(word, j + 1);
     }
 }
 
@@ -79,20 +42,14 @@ pub fn accumulate(
     requires blank { Blank acc.old × (1 ≤ u) × (16 * u ≤ length bits.now) }
     ensures { Holds acc.new (row_of bits.now presentpins.now firsts.now presentsizes.now net_weights.now u m) }
 {
-    let mut c = 0;
-    while 64 * c < m {
-        add_word(
+    for e in nets_of(bits, u - 1, m) {
+        add_net(
             acc,
-            bits,
             presentpins,
-            firsts,
-            presentsizes,
-            net_weights,
-            u,
-            c,
-            m,
+            usize::from(firsts[e]),
+            usize::from(presentsizes[e]),
+            term(net_weights[e], presentsizes[e]),
         );
-        c += 1;
     }
 }
 
@@ -102,10 +59,8 @@ pub fn own_sum(bits: &[u64], presentsizes: &[u16], net_weights: &[u16], u: usize
     ensures { result ≡ own_sum bits.now presentsizes.now net_weights.now u m }
 {
     let mut sum: u64 = 0;
-    let mut e = next_net(bits, u - 1, 0, m);
-    while e < m {
+    for e in nets_of(bits, u - 1, m) {
         sum += term(net_weights[e], presentsizes[e]);
-        e = next_net(bits, u - 1, e + 1, m);
     }
     sum
 }

@@ -4,8 +4,6 @@ ghost use Rattle.std.specs.Prelude.{◌≡◌, ◌+◌, ◌-◌, ◌*◌, ◌≤
 ghost use Rattle.best_contraction.specs.Bound.{Highest};
 ghost use Rattle.best_contraction.specs.PartTop.{TopOf, part_end, Topped, Tops, FirstUp};
 
-use incidence::least;
-
 // A part and its top.
 #[derive(Clone, Copy)]
 struct Top {
@@ -13,34 +11,26 @@ struct Top {
     part: usize,
 }
 
-// The larger of two numbers.
-fn larger(a: u64, b: u64) -> u64
-    ensures { result ≡ a + (b - a) }
-{
-    if a < b { b } else { a }
-}
-
 // The highest of the four entries after `y`.
 pub fn four_top(table: &[u64; 1025], y: usize) -> u64
     requires { (length table.now ≡ 1025) × (y + 4 ≤ 1024) }
     ensures { TopOf table.now y (y + 4) result }
 {
-    larger(
-        larger(table[y + 1], table[y + 2]),
-        larger(table[y + 3], table[y + 4]),
+    u64::max(
+        u64::max(table[y + 1], table[y + 2]),
+        u64::max(table[y + 3], table[y + 4]),
     )
 }
 
-// The highest of the entries after `from`, up to `to`, one by one; 0 where there is none.
+// The highest of the entries after `from`, up to `to`, one by one; 0 where there is none. No Option: the highest of two parts is then
+// one max.
 fn rest_top(bounds: &[u64; 1025], from: usize, to: usize) -> u64
     requires { (length bounds.now ≡ 1025) × (from ≤ to) × (to ≤ 1024) }
     ensures { TopOf bounds.now from to result }
 {
     let mut top: u64 = 0;
-    let mut y = from;
-    while y < to {
-        top = larger(top, bounds[y + 1]);
-        y += 1;
+    for y in from..to {
+        top = u64::max(top, bounds[y + 1]);
     }
     top
 }
@@ -51,12 +41,11 @@ fn part_top(bounds: &[u64; 1025], from: usize, to: usize) -> u64
     ensures { TopOf bounds.now from to result }
 {
     let mut top: u64 = 0;
-    let mut y = from;
-    while y + 4 <= to {
-        top = larger(top, four_top(bounds, y));
-        y += 4;
+    let fours = (to - from) / 4;
+    for i in 0..fours {
+        top = u64::max(top, four_top(bounds, from + 4 * i));
     }
-    larger(top, rest_top(bounds, y, to))
+    u64::max(top, rest_top(bounds, from + 4 * fours, to))
 }
 
 // The last vertex of part `c`, where there are `n`.
@@ -64,7 +53,7 @@ fn part_end(c: usize, n: usize) -> usize
     requires { c ≤ 16 }
     ensures { result ≡ part_end c n }
 {
-    least(64 * c, n)
+    usize::min(64 * c, n)
 }
 
 // Sets the tops of all parts of the `n` vertices.
@@ -72,10 +61,8 @@ pub fn set_tops(tops: &mut [u64; 17], bounds: &[u64; 1025], n: usize)
     requires { (length tops.old ≡ 17) × (length bounds.now ≡ 1025) × (n ≤ 1024) }
     ensures { Topped bounds.now n tops.new }
 {
-    let mut i = 0;
-    while 64 * i < n {
+    for i in 0..n.div_ceil(64) {
         tops[i + 1] = part_top(bounds, 64 * i, part_end(i + 1, n));
-        i += 1;
     }
 }
 
@@ -95,10 +82,7 @@ fn higher(bound: u64, c: usize, top: Top) -> Top
 {
     let high = top.bound;
     if high < bound {
-        return Top {
-            bound: bound,
-            part: c,
-        };
+        return Top { bound, part: c };
     }
     top
 }
@@ -112,10 +96,8 @@ fn highest_part(tops: &[u64; 17], parts: usize) -> usize
         bound: tops[1],
         part: 1,
     };
-    let mut i = 1;
-    while i < parts {
+    for i in 1..parts {
         top = higher(tops[i + 1], i + 1, top);
-        i += 1;
     }
     top.part
 }
@@ -125,12 +107,10 @@ fn first_up(bounds: &[u64; 1025], from: usize, to: usize, top: u64) -> usize
     requires { (length bounds.now ≡ 1025) × (from < to) × (to ≤ 1024) × TopOf bounds.now from to top }
     ensures { FirstUp bounds.now from to top result }
 {
-    let mut y = from + 1;
-    while y < to {
+    for y in from + 1..to {
         if top <= bounds[y] {
             return y;
         }
-        y += 1;
     }
     to
 }
@@ -140,6 +120,6 @@ pub fn highest(tops: &[u64; 17], bounds: &[u64; 1025], n: usize) -> usize
     requires { (length bounds.now ≡ 1025) × (1 ≤ n) × (n ≤ 1024) × Topped bounds.now n tops.now }
     ensures { Highest bounds.now n result }
 {
-    let c = highest_part(tops, (n + 63) / 64);
+    let c = highest_part(tops, n.div_ceil(64));
     first_up(bounds, 64 * (c - 1), part_end(c, n), tops[c])
 }

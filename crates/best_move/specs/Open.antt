@@ -1,23 +1,26 @@
 -- The best open pair as the tables have it: what is open, what it is worth, the best of the pairs seen and the answer read as model's. Rests
 -- on model's Search and on incidence's rows of bits. Assumes nothing.
-use Rattle.std.specs.Prelude.{◌≡◌, List, Bool, true, not, ◌&&◌, cond, ℕ, zero, suc, ◌+◌, ◌-◌, ◌*◌, ◌/◌, ◌%◌, ◌^◌, ◌≤◌, ◌<◌, leb, eqb, length, get_or, ℤ, pos}
+use Rattle.std.specs.Prelude.{Option, Some, None, ◌≡◌, List, Bool, true, not, ◌&&◌, cond, ℕ, zero, suc, ◌+◌, ◌-◌, ◌*◌, ◌/◌, ◌%◌, ◌^◌, ◌≤◌, ◌<◌, leb, eqb, length, get_or, ℤ, pos}
 use Rattle.std.specs.Int.Signed.{mag, lt_z}
 use Rattle.incidence.specs.On.{on}
 use Rattle.laws.specs.Sum.{fold_to}
 use Rattle.model.specs.Search.{Best, none, best, better}
 use Rattle.best_move.specs.declared.open.Lead.{Lead}
-use Rattle.best_move.specs.declared.open.Pick.{Pick}
-use Rattle.best_move.specs.declared.open.Pick.TheVariants.{Move, Nothing}
+use Rattle.best_move.specs.declared.open.Move.{Move}
+
+-- vertex v to block b
+abbrev pub step : ℕ → ℕ → Option Move
+step v b = Some (record { vertex = v; block = b })
 
 -- the answer as model has it
-abbrev pub best_of : (ℕ → ℕ → ℤ) → Pick → Best
-best_of worth Nothing = none
-best_of worth (Move v b) = best v b (worth v b)
+abbrev pub best_of : (ℕ → ℕ → ℤ) → Option Move → Best
+best_of worth None = none
+best_of worth (Some p) = best p.vertex p.block (worth p.vertex p.block)
 
 -- a pair's numbers are in range
-abbrev pub PickIn : ℕ → ℕ → Pick → Type 0
-PickIn n k Nothing = Unit
-PickIn n k (Move v b) = (1 ≤ v) × (v ≤ n) × (1 ≤ b) × (b ≤ k)
+abbrev pub PickIn : ℕ → ℕ → Option Move → Type 0
+PickIn n k None = Unit
+PickIn n k (Some p) = (1 ≤ p.vertex) × (p.vertex ≤ n) × (1 ≤ p.block) × (p.block ≤ k)
 
 -- the gain of vertex v to block b, both from 1
 abbrev pub gain_in : List ℤ → ℕ → ℕ → ℤ
@@ -60,9 +63,9 @@ vertex_at at = (at - 1) / 16 + 1
 abbrev pub block_at : ℕ → ℕ
 block_at at = (at - 1) % 16 + 1
 
-abbrev pub pair_at : ℕ → Pick
-pair_at zero = Nothing
-pair_at (suc x) = Move (vertex_at (suc x)) (block_at (suc x))
+abbrev pub pair_at : ℕ → Option Move
+pair_at zero = None
+pair_at (suc x) = step (vertex_at (suc x)) (block_at (suc x))
 
 -- the best pair so far, by its place and its gain, as model has it
 abbrev pub lead_of : ℕ → ℤ → Best
@@ -75,7 +78,7 @@ pub record Leads (lead : Lead) (is : Best) : Type 0 where
   pub below : lead.at ≡ 0 → (gain : ℤ) → mag gain < 2 ^ 31 → lt_z lead.top gain ≡ true
 
 -- the answer is worth what it should be, and is in range
-pub record Chosen (worth : ℕ → ℕ → ℤ) (n k : ℕ) (r : Pick) (is : Best) : Type 0 where
+pub record Chosen (worth : ℕ → ℕ → ℤ) (n k : ℕ) (r : Option Move) (is : Best) : Type 0 where
   pub same : best_of worth r ≡ is
   pub within : PickIn n k r
 

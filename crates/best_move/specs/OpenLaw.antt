@@ -1,23 +1,22 @@
 -- Laws of the best open pair, in the code's variables: one pair weighed, one row, one candidate more, all of them. Rests on Open.
 -- Assumes nothing.
-use Rattle.std.specs.Prelude.{◌≡◌, List, Bool, ◌&&◌, cond, ℕ, zero, suc, ◌+◌, ◌-◌, ◌*◌, ◌^◌, ◌≤◌, ◌<◌, eqb, get_or, ℤ, pos, negsuc}
+use Rattle.std.specs.Prelude.{Option, ◌≡◌, List, Bool, ◌&&◌, cond, ℕ, zero, suc, ◌+◌, ◌-◌, ◌*◌, ◌^◌, ◌≤◌, ◌<◌, eqb, get_or, ℤ, pos, negsuc}
 use Rattle.std.proofs.Math.Path.{refl, sym, ap}
-use Rattle.std.proofs.Common.{◌∙◌, subst, true≢false, arith, SFits, of_z, to_z, to_z-of_z, lt-ltb, eq-eqb}
+use Rattle.std.proofs.Common.{◌∙◌, subst, true≢false, arith, SFits, of_z, to_z, to_z-of_z, lt-ltb, le-ltb, leb-true, eq-eqb}
 use Rattle.std.proofs.Math.Bool.{true, false}
 use Rattle.std.proofs.Math.Decide.{ℕ_discrete}
-use Rattle.std.specs.Int.Signed.{mag, lt_z}
+use Rattle.std.specs.Int.Signed.{mag, lt_z, le_z}
 use Rattle.std.specs.Int.{w32, w64}
 use Rattle.laws.specs.Sum.{fold_to, fold_to-zero, fold_to-step}
 use Rattle.model.specs.Search.{Best, none, best, better, consider, best_pair}
 use Rattle.guarantees.specs.Tops.{Top, best-top}
 use Rattle.incidence.specs.On.{on}
 use Rattle.best_move.specs.declared.open.Lead.{Lead}
-use Rattle.best_move.specs.declared.open.Pick.{Pick}
-use Rattle.best_move.specs.declared.open.Pick.TheVariants.{Move}
-use Rattle.best_move.specs.Open.{best_of, PickIn, may_go, open_in, considered, best_in_row, best_to, vertex_at, block_at, pair_at, lead_of, Leads, Chosen}
+use Rattle.best_move.specs.declared.open.Move.{Move}
+use Rattle.best_move.specs.Open.{step, best_of, PickIn, may_go, open_in, considered, best_in_row, best_to, vertex_at, block_at, pair_at, lead_of, Leads, Chosen}
 
 -- a place that holds a pair, and a pair that is in range
-pub pair-some : (at : ℕ) → (at ≡ 0 → ⊥) → Move (vertex_at at) (block_at at) ≡ pair_at at
+pub pair-some : (at : ℕ) → (at ≡ 0 → ⊥) → step (vertex_at at) (block_at at) ≡ pair_at at
 pair-some zero h = absurd (h refl)
 pair-some (suc x) h = refl
 
@@ -33,6 +32,12 @@ wide_fits gain f = subst (SFits w64) (sym (to_z-of_z f)) (record { sfits = omega
 
 pub read64 : (z : ℤ) → mag z < 2 ^ 63 → to_z w64 (of_z w64 z) ≡ z
 read64 z f = to_z-of_z {w = w64} (record { sfits = f })
+
+pub le-not-lt : (a b : ℤ) → le_z a b ≡ true → lt_z b a ≡ false
+le-not-lt (pos a) (pos b) h = le-ltb b a (leb-true a b h)
+le-not-lt (pos a) (negsuc b) h = absurd (true≢false (sym h))
+le-not-lt (negsuc a) (pos b) h = refl
+le-not-lt (negsuc a) (negsuc b) h = le-ltb a b (leb-true b a h)
 
 -- the lead that the search begins with
 pub no_lead : Leads (record { at = 0; top = negsuc 4294967295 }) none
@@ -175,6 +180,6 @@ module _ (candidates blocks weights loads ceilings : List ℕ) (worth : ℕ → 
     lead-in = pair-in n k lead.at all-candidates.within
 
 -- the pair that is answered is open
-pub pick-open : (may : ℕ → ℕ → Bool) (worth : ℕ → ℕ → ℤ) (n k v b : ℕ) (r : Pick) → r ≡ Move v b → Chosen worth n k r (best_pair n k may worth) → may v b ≡ true
+pub pick-open : (may : ℕ → ℕ → Bool) (worth : ℕ → ℕ → ℤ) (n k v b : ℕ) (r : Option Move) → r ≡ step v b → Chosen worth n k r (best_pair n k may worth) → may v b ≡ true
 pick-open may worth n k v b r e c =
     (subst (Top may worth (λ a d. (1 ≤ a) × (a ≤ n) × (1 ≤ d) × (d ≤ k))) (sym c.same ∙ ap (best_of worth) e) (best-top may worth k n)).open-pair

@@ -1,9 +1,10 @@
 -- Peaks: for each part of 64 vertices, and for each vertex, a number that no gain of them passes; how they are set and raised. Vertices and
 -- blocks count from 0 here: the 64 vertices from 64 * c on are part c; its peak is at place c, that of vertex x at 16 + x. Assumes nothing.
-use Rattle.std.specs.Prelude.{◌≡◌, refl, Bool, true, false, List, ℕ, zero, suc, ◌+◌, ◌-◌, ◌*◌, ◌/◌, ◌≤◌, ◌<◌, ltb, length, get_or, set, ℤ, pos, negsuc}
+use Rattle.std.specs.Prelude.{◌≡◌, refl, Bool, true, false, cond, List, ℕ, zero, suc, ◌+◌, ◌-◌, ◌*◌, ◌/◌, ◌≤◌, ◌<◌, ltb, length, get_or, set, ℤ, pos, negsuc}
 use Rattle.std.proofs.Common.{sym, ap, ◌∙◌, subst, true≢false, arith, ltb-true, ltb-false, le-ltb, length-set, get_or-set_same, get_or-set_other}
 use Rattle.std.proofs.Math.Decide.{ℕ_discrete}
 use Rattle.std.specs.Int.Signed.{lt_z}
+use Rattle.std.specs.Int.{int_max}
 
 -- the smaller of two numbers
 abbrev pub lesser : ℕ → ℕ → ℕ
@@ -97,6 +98,13 @@ larger-second a b r e t = rw e (record { kept = λ z h. not-below b a z (not-bot
 
 pub larger-first : (a b r : ℤ) → r ≡ a → lt_z a b ≡ false → Larger a b r
 larger-first a b r e t = rw e (record { kept = λ z h. h; above = t })
+
+pub larger_max : (a b r : ℤ) → r ≡ int_max a b → Larger a b r
+larger_max a b r e = go (lt_z b a) refl
+  where
+    go : (t : Bool) → lt_z b a ≡ t → Larger a b r
+    go true q = let f : r ≡ a = e ∙ ap (λ (t : Bool). cond t a b) q in larger-first a b r f (not-both b a q)
+    go false q = let f : r ≡ b = e ∙ ap (λ (t : Bool). cond t a b) q in rw f (record { kept = λ z h. not-below b a z q h; above = not_itself b })
 
 -- ---- four blocks from b on, or the last four of k
 

@@ -1,6 +1,6 @@
 -- Which candidates a search weighs: tests of a vertex's gains against the best one, and what a failed test says. Vertices and blocks count
 -- from 0 here, a vertex's own block from 1. Assumes nothing.
-use Rattle.std.specs.Prelude.{◌≡◌, false, not, ◌&&◌, List, ℕ, ◌+◌, ◌*◌, ◌^◌, ◌≤◌, ◌<◌, leb, eqb, length, get_or, ℤ, pos}
+use Rattle.std.specs.Prelude.{Option, MatchOption, ◌≡◌, false, not, ◌&&◌, List, ℕ, ◌+◌, ◌*◌, ◌^◌, ◌≤◌, ◌<◌, leb, eqb, length, get_or, ℤ, pos}
 use Rattle.std.specs.Int.Signed.{mag, lt_z, le_z}
 use Rattle.laws.specs.Bit.{bit}
 
@@ -40,3 +40,8 @@ pub record Passed (gains : List ℤ) (blocks weights rooms : List ℕ) (word fir
   pub high : r ≤ 64
   pub found : r < size → bit word r ≡ 1
   pub not-better : (j : ℕ) → from ≤ j → j < r → j < size → bit word j ≡ 1 → (b : ℕ) → b < k → NotBetter gains rooms (16 * (first + j)) low (get_or weights (first + j) 0) (get_or blocks (first + j) 0) b
+
+-- the next of them below `size`, or that there is none
+abbrev pub NextRising : List ℤ → (blocks weights rooms : List ℕ) (word first size k : ℕ) → ℤ → ℕ → Option ℕ → Type 0
+NextRising gains blocks weights rooms word first size k low from r =
+    MatchOption r (Passed gains blocks weights rooms word first size k low from 64) (λ j. (j < size) × Passed gains blocks weights rooms word first size k low from j)

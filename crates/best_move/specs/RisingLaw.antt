@@ -173,6 +173,15 @@ module _ (gains : List ℤ) (blocks weights rooms : List ℕ) (word first size k
     not-better = λ j l u s e. absurd (omega (arith, h.passed j l u));
   }
 
+  -- none is left
+  pub passed-end : (r : ℕ) → size ≤ r → Passed gains blocks weights rooms word first size k low from r → Passed gains blocks weights rooms word first size k low from 64
+  passed-end r l h = record {
+    start = omega (arith, h.start, h.high);
+    high = omega arith;
+    found = λ u. absurd (omega (arith, h.high));
+    not-better = λ j l' u c e. h.not-better j l' (omega arith) c e;
+  }
+
   pub passed-more : (j r : ℕ) → j < size → Passed gains blocks weights rooms word first size k low from j
       → ((b : ℕ) → b < k → NotBetter gains rooms (16 * (first + j)) low (get_or weights (first + j) 0) (get_or blocks (first + j) 0) b) → NextBit word (j + 1) r → Passed gains blocks weights rooms word first size k low from r
   passed-more j r l h s n = record {
@@ -234,7 +243,7 @@ module _ (candidates blocks weights loads ceilings rooms : List ℕ) (gains : Li
             )
 
     -- `top` and `low'` are the two gains read back from their bits
-    pub among : (lead₀ lead : Lead) (from r : ℕ) {top low low' : ℤ} → top ≡ lead.top → low' ≡ low → Least top low → from < size → Searched lead₀ lead from
+    pub among : (lead₀ lead : Lead) (from r : ℕ) {top low low' : ℤ} → top ≡ lead.top → low' ≡ low → Least top low → from ≤ size → Searched lead₀ lead from
         → Passed gains blocks weights rooms (get_or candidates c 0) (64 * c) size k low' from r → Among lead₀ lead r
     among lead₀ lead from r {low' = low'} et el least l s p = record {
       high = p.high;

@@ -1,7 +1,6 @@
 // The best open pair: the search over the candidates, in increasing order, and over the blocks. Ties go to the lowest vertex, then to the
 // lowest block.
 ghost use Rattle.std.specs.Prelude.{◌≡◌, cond, ◌+◌, ◌-◌, ◌*◌, ◌≤◌, ◌<◌, length, get_or};
-ghost use Rattle.std.specs.Int.Signed.{lt_z};
 ghost use Rattle.model.specs.Search.{Best, best_pair};
 ghost use Rattle.index.specs.Indexed.{Kept};
 ghost use Rattle.best_move.specs.Open.{gain_in, room_for, may_go, open_in, considered, best_in_row, best_to, vertex_at, block_at, pair_at, Leads, Chosen, VertexOk, SearchOk, IndexOk};
@@ -9,17 +8,15 @@ ghost use Rattle.best_move.specs.First.{FirstOk};
 ghost use Rattle.best_move.specs.Peak.{lesser, Peaked};
 ghost use Rattle.best_move.specs.Rising.{Rooms};
 
-use crate::numbers::{both, least};
 use crate::rising::{least_better, measure, next_rising};
-use incidence::numbers::long;
 use index::numbers::block_at;
 use index::rows::put_right;
 
-// The open pair to take, or that no pair is open.
+// The open pair to take.
 #[derive(Clone, Copy)]
-pub enum Pick {
-    Move { vertex: u16, block: u16 },
-    Nothing,
+pub struct Move {
+    pub vertex: u16,
+    pub block: u16,
 }
 
 // The place of no pair: places count from 1.
@@ -36,25 +33,11 @@ struct Lead {
     top: i64,
 }
 
-// One of two places, by a test.
-fn either_place(first: bool, a: usize, b: usize) -> usize
+// One of two values, by a test.
+fn choose<T: Copy>(first: bool, a: T, b: T) -> T
     ensures { result ≡ cond first a b }
 {
     if first { a } else { b }
-}
-
-// One of two gains, by a test.
-fn either_gain(first: bool, a: i64, b: i64) -> i64
-    ensures { result ≡ cond first a b }
-{
-    if first { a } else { b }
-}
-
-// Whether one gain is below another.
-fn less(a: i64, b: i64) -> bool
-    ensures { result ≡ lt_z a b }
-{
-    a < b
 }
 
 // The better of the pair at place `here`, if it may be taken, and the best of those before it. Both fields are chosen without a branch, since
@@ -63,12 +46,12 @@ fn weigh(gain: i32, may: bool, here: usize, lead: Lead) -> Lead
     requires { 1 ≤ here }
     ensures { (before : Best) → Leads lead before → Leads result (considered may (vertex_at here) (block_at here) gain before) }
 {
-    let worth = gain as i64;
+    let worth = i64::from(gain);
     let top = lead.top;
-    let better = both(may, less(top, worth));
+    let better = may & (top < worth);
     Lead {
-        at: either_place(better, here, lead.at),
-        top: either_gain(better, worth, top),
+        at: choose(better, here, lead.at),
+        top: choose(better, worth, top),
     }
 }
 
@@ -80,13 +63,6 @@ fn has_space(load: u64, weight: u64, ceiling: u64) -> bool
         return false;
     }
     load <= ceiling - weight
-}
-
-// Whether a gain is above that of the best pair so far.
-fn is_above(gain: i32, top: i64) -> bool
-    ensures { result ≡ lt_z top gain }
-{
-    top < gain as i64
 }
 
 // The best of `before` and the pairs of the vertex at place `x`, of block `own`, that may be taken: its row of the index is ranked, so the first
@@ -108,16 +84,14 @@ fn first_open(
 {
     let row = 16 * x;
     let top = before.top;
-    let mut j: usize = 0;
-    while j + 1 < k {
+    for j in 0..k - 1 {
         let b = block_at(index, x, j);
-        if !is_above(gains[row + (b - 1)], top) {
+        if i64::from(gains[row + (b - 1)]) <= top {
             return before;
         }
         if has_space(loads[b - 1], weight, ceilings[b - 1]) {
             return weigh(gains[row + (b - 1)], true, row + (b - 1) + 1, before);
         }
-        j += 1;
     }
     before
 }
@@ -144,8 +118,8 @@ fn best_with(
         gains,
         loads,
         ceilings,
-        incidence::numbers::index(blocks[i]),
-        long(weights[i]),
+        usize::from(blocks[i]),
+        u64::from(weights[i]),
         i,
         k,
         before,
@@ -153,18 +127,18 @@ fn best_with(
 }
 
 // The pair at a place of the table of gains, counted from 1; none at 0.
-fn pair_at(at: usize) -> Pick
+fn pair_at(at: usize) -> Option<Move>
     requires { at ≤ 16384 }
     ensures { result ≡ pair_at at }
 {
     if at == NO_PLACE {
-        return Pick::Nothing;
+        return None;
     }
     let x = at - 1;
-    Pick::Move {
+    Some(Move {
         vertex: (x / 16 + 1) as u16,
         block: (x % 16 + 1) as u16,
-    }
+    })
 }
 
 // The best of `before` and the open pairs of the candidates among the `size` vertices from place 64 * c on. Only those that may have a better
@@ -195,33 +169,30 @@ fn best_among(
     let word = candidates[c];
     let mut best = before;
     let mut from: usize = 0;
-    while from < size {
-        let j = next_rising(
+    while let Some(j) = next_rising(
+        gains,
+        blocks,
+        weights,
+        rooms,
+        peaks,
+        word,
+        first,
+        from,
+        size,
+        k,
+        least_better(best.top),
+    ) {
+        best = best_with(
             gains,
+            index,
             blocks,
             weights,
-            rooms,
-            peaks,
-            word,
-            first,
-            from,
-            size,
+            loads,
+            ceilings,
+            first + j,
             k,
-            least_better(best.top),
+            best,
         );
-        if j < size {
-            best = best_with(
-                gains,
-                index,
-                blocks,
-                weights,
-                loads,
-                ceilings,
-                first + j,
-                k,
-                best,
-            );
-        }
         from = j + 1;
     }
     best
@@ -251,9 +222,9 @@ fn best_in_part(
     ensures leads { Leads before (best_to (open_in candidates.now blocks.now weights.now loads.now ceilings.now) (gain_in gains.now) k (64 * c)) → Leads result (best_to (open_in candidates.now blocks.now weights.now loads.now ceilings.now) (gain_in gains.now) k (lesser (64 * c + 64) n)) }
     ensures kept { Kept n k index.old index.new }
 {
-    let peak = peaks[c] as i64;
+    let peak = i64::from(peaks[c]);
     let top = before.top;
-    if less(top, peak) {
+    if top < peak {
         return best_among(
             gains,
             index,
@@ -265,7 +236,7 @@ fn best_in_part(
             candidates,
             peaks,
             c,
-            least(64, n - 64 * c),
+            usize::min(64, n - 64 * c),
             k,
             before,
         );
@@ -287,7 +258,7 @@ pub fn best_open(
     peaks: &[i32; 1040],
     n: usize,
     k: usize,
-) -> Pick
+) -> Option<Move>
     requires search_ok { SearchOk (length gains.now) (length blocks.now) (length weights.now) (length candidates.now) n k }
     requires peaked { Peaked gains.now peaks.now n k }
     requires index_ok { IndexOk (length index.old) candidates.now blocks.now n k }
@@ -300,13 +271,11 @@ pub fn best_open(
     };
     let mut rooms = [0u32; 16];
     measure(&mut rooms, loads, ceilings, k);
-    let mut c: usize = 0;
-    while 64 * c < n {
+    for c in 0..n.div_ceil(64) {
         best = best_in_part(
             gains, index, blocks, weights, loads, ceilings, &rooms, candidates, peaks, c, n, k,
             best,
         );
-        c += 1;
     }
     pair_at(best.at)
 }

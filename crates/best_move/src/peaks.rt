@@ -2,16 +2,7 @@
 // vertices that can't hold a better pair. The parts' are the first 16, that of vertex x is at 16 + x. Vertices and blocks count from 0.
 ghost use Rattle.std.specs.Prelude.{◌≡◌, ℕ, ◌+◌, ◌*◌, ◌≤◌, ◌<◌, length};
 ghost use Rattle.best_move.specs.Open.{RowOk};
-ghost use Rattle.best_move.specs.Peak.{Under, Peaked, Higher, Raised, Larger, RowPeak, PartPeak, FourPeak, PartSet, Levelled};
-
-use crate::numbers::least;
-
-// The larger of two gains.
-fn higher(a: i32, b: i32) -> i32
-    ensures { Larger a b result }
-{
-    if a < b { b } else { a }
-}
+ghost use Rattle.best_move.specs.Peak.{Under, Peaked, Higher, Raised, RowPeak, PartPeak, FourPeak, PartSet, Levelled};
 
 // The highest of `before` and the gains of vertex `x`.
 fn row_peak(gains: &[i32], x: usize, k: usize, before: i32) -> i32
@@ -20,24 +11,21 @@ fn row_peak(gains: &[i32], x: usize, k: usize, before: i32) -> i32
 {
     let row = 16 * x;
     let mut peak = before;
-    let mut j: usize = 0;
-    while j < k {
-        peak = higher(peak, gains[row + j]);
-        j += 1;
+    for j in 0..k {
+        peak = i32::max(peak, gains[row + j]);
     }
     peak
 }
 
 // The highest gain of the vertices from `from` on and before `to`, vertex by vertex; where there is none, the lowest number that a table holds.
+// No Option: the highest of two parts is then one max.
 fn rows_peak(gains: &[i32], from: usize, to: usize, k: usize) -> i32
     requires { (from ≤ to) × (to ≤ 1024) × (k ≤ 16) × (16 * to ≤ length gains.now) }
     ensures { PartPeak gains.now from to k result }
 {
     let mut peak: i32 = -2147483648;
-    let mut x = from;
-    while x < to {
+    for x in from..to {
         peak = row_peak(gains, x, k, peak);
-        x += 1;
     }
     peak
 }
@@ -51,16 +39,14 @@ fn four_peak(gains: &[i32], from: usize, to: usize, b: usize) -> i32
     let mut p1: i32 = -2147483648;
     let mut p2: i32 = -2147483648;
     let mut p3: i32 = -2147483648;
-    let mut x = from;
-    while x < to {
+    for x in from..to {
         let at = 16 * x + b;
-        p0 = higher(p0, gains[at]);
-        p1 = higher(p1, gains[at + 1]);
-        p2 = higher(p2, gains[at + 2]);
-        p3 = higher(p3, gains[at + 3]);
-        x += 1;
+        p0 = i32::max(p0, gains[at]);
+        p1 = i32::max(p1, gains[at + 1]);
+        p2 = i32::max(p2, gains[at + 2]);
+        p3 = i32::max(p3, gains[at + 3]);
     }
-    higher(higher(p0, p1), higher(p2, p3))
+    i32::max(i32::max(p0, p1), i32::max(p2, p3))
 }
 
 // The highest gain of the same vertices to all `k` blocks, four at a time; the last four may hold some of those before them once more.
@@ -72,10 +58,8 @@ fn part_peak(gains: &[i32], from: usize, to: usize, k: usize) -> i32
         return rows_peak(gains, from, to, k);
     }
     let mut peak: i32 = -2147483648;
-    let mut b: usize = 0;
-    while b < k {
-        peak = higher(peak, four_peak(gains, from, to, least(b, k - 4)));
-        b += 4;
+    for i in 0..k.div_ceil(4) {
+        peak = i32::max(peak, four_peak(gains, from, to, usize::min(4 * i, k - 4)));
     }
     peak
 }
@@ -86,12 +70,10 @@ fn set_each(peaks: &mut [i32; 1040], gains: &[i32], from: usize, to: usize, k: u
     ensures { PartSet gains.now from to k peaks.old peaks.new result }
 {
     let mut peak: i32 = -2147483648;
-    let mut x = from;
-    while x < to {
+    for x in from..to {
         let top = part_peak(gains, x, x + 1, k);
         peaks[16 + x] = top;
-        peak = higher(peak, top);
-        x += 1;
+        peak = i32::max(peak, top);
     }
     peak
 }
@@ -101,10 +83,8 @@ fn set_all(peaks: &mut [i32; 1040], from: usize, to: usize, peak: i32)
     requires { (length peaks.old ≡ 1040) × (from ≤ to) × (to ≤ 1024) }
     ensures { Levelled from to peak peaks.old peaks.new }
 {
-    let mut x = from;
-    while x < to {
+    for x in from..to {
         peaks[16 + x] = peak;
-        x += 1;
     }
 }
 
@@ -127,11 +107,8 @@ pub fn survey(peaks: &mut [i32; 1040], gains: &[i32], n: usize, k: usize)
     requires { (length peaks.old ≡ 1040) × (n ≤ 1024) × (k ≤ 16) × (16 * n ≤ length gains.now) }
     ensures { Peaked gains.now peaks.new n k }
 {
-    let mut c: usize = 0;
-    while 64 * c < n {
-        let peak = set_part(peaks, gains, 64 * c, least(64 * c + 64, n), k);
-        peaks[c] = peak;
-        c += 1;
+    for c in 0..n.div_ceil(64) {
+        peaks[c] = set_part(peaks, gains, 64 * c, usize::min(64 * c + 64, n), k);
     }
 }
 
@@ -140,7 +117,7 @@ fn raise(peaks: &mut [i32; 1040], i: usize, gain: i32)
     requires { (length peaks.old ≡ 1040) × (i < 1040) }
     ensures { Raised peaks.old peaks.new i gain }
 {
-    peaks[i] = higher(peaks[i], gain);
+    peaks[i] = i32::max(peaks[i], gain);
 }
 
 // Raises the peaks of vertex `x` and of its part to what the gains of `x` need.

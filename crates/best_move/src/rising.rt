@@ -4,23 +4,15 @@
 ghost use Rattle.std.specs.Prelude.{◌≡◌, false, ℕ, ◌+◌, ◌*◌, ◌≤◌, ◌<◌, length, get_or, pos};
 ghost use Rattle.std.specs.Int.Signed.{lt_z};
 ghost use Rattle.best_move.specs.Peak.{Peaked};
-ghost use Rattle.best_move.specs.Rising.{Rooms, RoomFor, Least, NotBetter, PartOk, Passed};
+ghost use Rattle.best_move.specs.Rising.{Rooms, RoomFor, Least, NotBetter, PartOk, NextRising};
 
-use crate::numbers::{both, either};
 use incidence::next_bit;
 
 // The room that a block of weight `load` has left under its ceiling, as far as 32 bits go.
 fn room_of(load: u64, ceiling: u64) -> u32
     ensures { RoomFor load ceiling result }
 {
-    if ceiling < load {
-        return 0;
-    }
-    let room = ceiling - load;
-    if 4294967295 < room {
-        return 4294967295;
-    }
-    room as u32
+    u64::min(ceiling.saturating_sub(load), 4294967295) as u32
 }
 
 // Sets the rooms of `k` blocks.
@@ -28,10 +20,8 @@ pub fn measure(rooms: &mut [u32; 16], loads: &[u64; 16], ceilings: &[u64; 16], k
     requires { (length rooms.old ≡ 16) × (k ≤ 16) }
     ensures { Rooms loads.now ceilings.now k rooms.new }
 {
-    let mut b: usize = 0;
-    while b < k {
+    for b in 0..k {
         rooms[b] = room_of(loads[b], ceilings[b]);
-        b += 1;
     }
 }
 
@@ -62,7 +52,7 @@ fn may_rise(
     ensures { result ≡ false → NotBetter gains.now rooms.now row low weight own b }
 {
     let gain = gains[row + b];
-    both(low <= gain, both(weight <= rooms[b], own != b as u32 + 1))
+    (low <= gain) & (weight <= rooms[b]) & (own != b as u32 + 1)
 }
 
 // The same of one of the four blocks from `b` on.
@@ -78,16 +68,11 @@ fn four_rise(
     requires { (row + 16 ≤ length gains.now) × (b < 13) }
     ensures { result ≡ false → (j : ℕ) → b ≤ j → j < b + 4 → NotBetter gains.now rooms.now row low weight own j }
 {
-    either(
-        either(
-            may_rise(gains, rooms, row, b, low, weight, own),
-            may_rise(gains, rooms, row, b + 1, low, weight, own),
-        ),
-        either(
-            may_rise(gains, rooms, row, b + 2, low, weight, own),
-            may_rise(gains, rooms, row, b + 3, low, weight, own),
-        ),
-    )
+    let first = may_rise(gains, rooms, row, b, low, weight, own)
+        | may_rise(gains, rooms, row, b + 1, low, weight, own);
+    let second = may_rise(gains, rooms, row, b + 2, low, weight, own)
+        | may_rise(gains, rooms, row, b + 3, low, weight, own);
+    first | second
 }
 
 // The same of one of all 16 blocks, with no branch between them: which of them is the first to pass can't be predicted. Places past the last
@@ -96,16 +81,11 @@ fn any_rises(gains: &[i32], rooms: &[u32; 16], row: usize, low: i32, weight: u32
     requires { row + 16 ≤ length gains.now }
     ensures { result ≡ false → (j : ℕ) → j < 16 → NotBetter gains.now rooms.now row low weight own j }
 {
-    either(
-        either(
-            four_rise(gains, rooms, row, 0, low, weight, own),
-            four_rise(gains, rooms, row, 4, low, weight, own),
-        ),
-        either(
-            four_rise(gains, rooms, row, 8, low, weight, own),
-            four_rise(gains, rooms, row, 12, low, weight, own),
-        ),
-    )
+    let first = four_rise(gains, rooms, row, 0, low, weight, own)
+        | four_rise(gains, rooms, row, 4, low, weight, own);
+    let second = four_rise(gains, rooms, row, 8, low, weight, own)
+        | four_rise(gains, rooms, row, 12, low, weight, own);
+    first | second
 }
 
 // The same of one of the `k` blocks, where `peak` is not below the gains to them. A long row whose peak is below `low` is not read: it is
@@ -132,8 +112,7 @@ fn rises(
     any_rises(gains, rooms, row, low, weight, own)
 }
 
-// The first set bit of `word` from bit `from` on whose vertex may have a better pair; `size` or more where there is none. Bit j stands for the
-// vertex `first + j`.
+// The first set bit of `word` from bit `from` on, and below `size`, whose vertex may have a better pair. Bit j stands for the vertex `first + j`.
 pub fn next_rising(
     gains: &[i32],
     blocks: &[u16],
@@ -146,11 +125,12 @@ pub fn next_rising(
     size: usize,
     k: usize,
     low: i32,
-) -> usize
+) -> Option<usize>
     requires part_ok { PartOk (length gains.now) (length blocks.now) (length weights.now) first size k × (from ≤ 64) }
     requires peaked { Peaked gains.now peaks.now (first + size) k }
-    ensures { Passed gains.now blocks.now weights.now rooms.now word first size k low from result }
+    ensures { NextRising gains.now blocks.now weights.now rooms.now word first size k low from result }
 {
+    // No for: the place is the answer, and it goes from bit to bit.
     let mut j = next_bit(word, from);
     while j < size {
         let i = first + j;
@@ -164,9 +144,9 @@ pub fn next_rising(
             weights[i],
             blocks[i] as u32,
         ) {
-            return j;
+            return Some(j);
         }
         j = next_bit(word, j + 1);
     }
-    j
+    None
 }

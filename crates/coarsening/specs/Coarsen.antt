@@ -1,6 +1,7 @@
 -- A's contractions on sound tables: what one of them and the loop of them ask and do, with the laws that the proofs of the code cite. Rests on
 -- Own and Linked, on operations's Join and on guarantees' Calls and Fuel. Assumes nothing.
 use Rattle.std.specs.Prelude.{ℕ, suc, ◌+◌, ◌*◌, ◌-◌, ◌<◌, ◌≤◌, ◌≡◌, refl, Bool, true, false, cond, List, ◌∷◌, pos, eqb, ltb, length, get_or, set}
+use Rattle.std.specs.Int.{from_bool}
 use Rattle.std.proofs.Common.{arith, sym, ap, ap₂, ◌∙◌, subst, inl, inr, lt-ltb, le-ltb, length-set}
 use Rattle.laws.specs.Choice.{one}
 use Rattle.laws.specs.Sum.{count_below, sum-zero, sum_step, sum-sum_to, sum_to, count-le}
@@ -286,6 +287,14 @@ going_more qn qm qk qf ql g o = record {
   keeps = λ h c e w st. keeps-more qn qm qk qf ql (g.keeps h c e w st) (o.keeps h (g.is h c e w st).there (g.is h c e w st).here);
 }
 
+-- what is left after a turn that contracted a pair, and after one that found none
+module _ {T T' : Tables} {own into gone into' gone' own' : List ℕ} {len average len' : ℕ} {some : Bool} (rest : ℕ) (g : Going T own into gone len average T' (locals into' gone' len' (cond some rest 0) own')) where
+  pub going_on : some ≡ true → (next : ℕ) → next ≡ rest → Going T own into gone len average T' (locals into' gone' len' next own')
+  going_on e next q = subst (λ (x : ℕ). Going T own into gone len average T' (locals into' gone' len' x own')) (ap (λ (b : Bool). cond b rest 0) e ∙ sym q) g
+
+  pub going_out : some ≡ false → Going T own into gone len average T' (locals into' gone' len' 0 own')
+  going_out e = subst (λ (x : ℕ). Going T own into gone len average T' (locals into' gone' len' x own')) (ap (λ (b : Bool). cond b rest 0) e) g
+
 -- the marks say who is fixed
 owned-first : {h : Hypergraph} {c : Coarse} {T : Tables} {fixedmarks own into gone : List ℕ} {len : ℕ} → FixedIs fixedmarks h c.stack → Stands h c T into gone len → OwnBlocks (λ y. eqb (on fixedmarks 1 y) 1) T.blocks T.n own → Own h c.stack T.blocks T.n own
 owned-first f st o = own_fixed f st.sound.follows.says.all-vertices o
@@ -320,8 +329,7 @@ pub board-all : (blocks : List ℕ) (i n c : ℕ) → i ≡ n → n ≤ 1024 →
 unfolding board_in
 board-all blocks i n c e l q = (q ∙ ap (board_in blocks) e, omega (arith, count-le i (λ x. ltb 0 (get_or blocks x 0))))
 
-pub placed-none : (b : ℕ) → b ≡ 0 → 0 ≡ one (ltb 0 b)
-placed-none b e = sym (ap one (le-ltb 0 b (omega arith)))
-
-pub placed-some : (b : ℕ) → (b ≡ 0 → ⊥) → 1 ≡ one (ltb 0 b)
-placed-some b n = sym (ap one (lt-ltb 0 b (omega (arith, n))))
+-- a test as a number
+pub placed-as : (b : Bool) {w : ℕ} → w ≡ from_bool b → (w ≡ one b) × (w ≤ 1)
+placed-as true e = (e, omega (arith, e))
+placed-as false e = (e, omega (arith, e))

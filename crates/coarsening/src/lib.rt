@@ -15,25 +15,8 @@ use best_contraction::join::plan_join;
 use incidence::is_pin;
 use incidence::numbers::narrow;
 use operations::joins::join;
-use operations::pairs::LongStack;
+use operations::pairs::Joins;
 use operations::size::Size;
-
-// The stack, and how many vertices have still to leave the board: 0 too where no pair is left.
-#[derive(Clone, Copy)]
-pub struct Round {
-    pub stack: LongStack,
-    pub left: usize,
-}
-
-// 1 for a block, 0 for none.
-fn placed(block: u16) -> usize
-    ensures { (result ≡ one (ltb 0 block)) × (result ≤ 1) }
-{
-    if block == 0 {
-        return 0;
-    }
-    1
-}
 
 // How many vertices are on the board.
 fn on_board(blocks: &[u16], n: usize) -> usize
@@ -41,10 +24,8 @@ fn on_board(blocks: &[u16], n: usize) -> usize
     ensures { (result ≡ board_in blocks.now n) × (result ≤ 1024) }
 {
     let mut board = 0;
-    let mut i = 0;
-    while i < n {
-        board = board + placed(blocks[i]);
-        i += 1;
+    for i in 0..n {
+        board += usize::from(0 < blocks[i]);
     }
     board
 }
@@ -54,12 +35,7 @@ fn excess(blocks: &[u16], n: usize, k: usize) -> usize
     requires { ((n ≤ 1024) × (n ≤ length blocks.now)) × (k ≤ 16) }
     ensures { result ≡ board_in blocks.now n - 2 * k }
 {
-    let board = on_board(blocks, n);
-    let low = 2 * k;
-    if board < low {
-        return 0;
-    }
-    board - low
+    on_board(blocks, n).saturating_sub(2 * k)
 }
 
 // The block by which the vertex at place `i` is paired: its block, or, if it is fixed, one that no other vertex has, above the 16 that there are,
@@ -80,16 +56,15 @@ fn join_blocks(blocks: &[u16], fixedmarks: &[u64; 48], n: usize) -> [u16; 1024]
     ensures { OwnBlocks (λ y. eqb (on fixedmarks.now 1 y) 1) blocks.now n result }
 {
     let mut joinblocks = [0u16; 1024];
-    let mut i = 0;
-    while i < n {
+    for i in 0..n {
         joinblocks[i] = join_block(blocks[i], is_pin(fixedmarks, 1, i), i);
-        i += 1;
     }
     joinblocks
 }
 
-// Contracts the best pair, if there is one. `acc` is all 0 before and after; `bounds` has each vertex's bound on its ratings; pairs are chosen
-// by `joinblocks`.
+// Contracts the best pair, and answers whether there was one. `acc` is all 0 before and after; `bounds` has each vertex's bound on its ratings;
+// pairs are chosen by `joinblocks`. `left` stands in the contract alone: how many vertices have still to leave the board, 0
+// after a call that found no pair.
 fn coarsen_once(
     acc: &mut [u64; 1025],
     bounds: &mut [u64; 1025],
@@ -103,28 +78,28 @@ fn coarsen_once(
     blocks: &mut [u16],
     weights: &mut [u32],
     aboves: &mut [u16],
+    stack: &mut Joins<1024>,
     netweights: &[u16],
     firsts: &[u16],
     size: Size,
     total: u32,
-    s: Round,
-) -> Round
-    requires once_ok { OnceOk
+) -> bool
+    requires once_ok { (left : ℕ) × OnceOk
         (λ loads loadedsizes. tables counts.old visited.old gains.old presentpins.old presentsizes.old bits.old blocks.old weights.old aboves.old loads netweights.now firsts.now loadedsizes size.n size.m size.k total)
-        (locals s.stack.into s.stack.gone s.stack.len s.left joinblocks.old) size.average }
+        (locals stack.old.into stack.old.gone stack.old.len left joinblocks.old) size.average }
     requires blank { Blank acc.old × Bounded
         (score_of bits.old presentpins.old firsts.now presentsizes.old netweights.now joinblocks.old weights.old size.m size.average)
         size.n bounds.old }
-    ensures by_index { (loads loadedsizes : List ℕ) → Once
+    ensures by_index { (loads loadedsizes : List ℕ) (left : ℕ) → 1 ≤ left → Once
         (tables counts.old visited.old gains.old presentpins.old presentsizes.old bits.old blocks.old weights.old aboves.old loads netweights.now firsts.now loadedsizes size.n size.m size.k total)
-        (locals s.stack.into s.stack.gone s.stack.len s.left joinblocks.old) size.average
+        (locals stack.old.into stack.old.gone stack.old.len left joinblocks.old) size.average
         (tables counts.new visited.new gains.new presentpins.new presentsizes.new bits.new blocks.new weights.new aboves.new loads netweights.now firsts.now loadedsizes size.n size.m size.k total)
-        (locals result.stack.into result.stack.gone result.stack.len result.left joinblocks.new) }
+        (locals stack.new.into stack.new.gone stack.new.len (cond result (left - 1) 0) joinblocks.new) }
     ensures blank_2 { Blank acc.new × Bounded
         (score_of bits.new presentpins.new firsts.now presentsizes.new netweights.now joinblocks.new weights.new size.m size.average)
         size.n bounds.new }
 {
-    let pair = plan_join(
+    let Some(pair) = plan_join(
         acc,
         bounds,
         bits,
@@ -137,15 +112,9 @@ fn coarsen_once(
         size.average,
         size.m,
         size.n,
-    );
-    let before = s.stack;
-    let rating = pair.rating;
-    if rating == 0 {
-        return Round {
-            stack: before,
-            left: 0,
-        };
-    }
+    ) else {
+        return false;
+    };
     let u = pair.into;
     let v = pair.gone;
     join(
@@ -168,11 +137,8 @@ fn coarsen_once(
         v - 1,
     );
     joinblocks[v - 1] = 0;
-    let stack = before.push(narrow(u), narrow(v));
-    Round {
-        stack: stack,
-        left: s.left - 1,
-    }
+    *stack = stack.push(narrow(u), narrow(v));
+    true
 }
 
 // Contracts pairs until 2 × k vertices are on the board or no pair is left.
@@ -191,8 +157,8 @@ pub fn coarsen(
     fixedmarks: [u64; 48],
     size: Size,
     total: u32,
-    stack: LongStack,
-) -> LongStack
+    stack: Joins<1024>,
+) -> Joins<1024>
     requires { CoarsenOk
         (λ loads loadedsizes. tables counts.old visited.old gains.old presentpins.old presentsizes.old bits.old blocks.old weights.old aboves.old loads netweights.now firsts.now loadedsizes size.n size.m size.k total)
         fixedmarks stack.into stack.gone stack.len size.average }
@@ -216,12 +182,10 @@ pub fn coarsen(
         size.m,
         size.n,
     );
-    let mut s = Round {
-        stack: stack,
-        left: excess(blocks, size.n, size.k),
-    };
-    while 0 < s.left {
-        s = coarsen_once(
+    let many = excess(blocks, size.n, size.k);
+    let mut joins = stack;
+    for _ in 0..many {
+        if !coarsen_once(
             &mut acc,
             &mut bounds,
             &mut joinblocks,
@@ -234,12 +198,14 @@ pub fn coarsen(
             blocks,
             weights,
             aboves,
+            &mut joins,
             netweights,
             firsts,
             size,
             total,
-            s,
-        );
+        ) {
+            break;
+        }
     }
-    s.stack
+    joins
 }

@@ -1,6 +1,5 @@
 // A, the n-level cycle, on the tables of a running sale.
 #![tactic(auto)]
 
-mod numbers;
 mod refining;
 pub mod whole;

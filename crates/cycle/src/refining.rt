@@ -5,9 +5,8 @@ ghost use Rattle.operations.specs.Tables.{tables};
 ghost use Rattle.search_moves.specs.Rows.{RowsAre};
 ghost use Rattle.cycle.specs.Refine.{PartOk, Parts, RefineOk, Refines};
 
-use crate::numbers::{counted, place_of};
 use operations::joins::split;
-use operations::pairs::LongStack;
+use operations::pairs::Joins;
 use search_moves::rows::{fill_rows, part_rows};
 use walk::walks::{Walked, walk};
 
@@ -25,8 +24,8 @@ fn add_walk(f: Fine, w: Walked) -> Fine
     ensures { (result.tried ≡ f.tried + w.tried) × (result.kept ≡ f.kept + w.kept) × (result.total ≡ w.total) }
 {
     Fine {
-        tried: f.tried + counted(w.tried),
-        kept: f.kept + counted(w.kept),
+        tried: f.tried + w.tried as u32,
+        kept: f.kept + w.kept as u32,
         total: w.total,
     }
 }
@@ -140,7 +139,7 @@ pub fn refine(
     m: usize,
     k: usize,
     total: u32,
-    stack: LongStack,
+    stack: Joins<1024>,
 ) -> Fine
     requires refine_ok { RefineOk
         (tables counts.old visited.old gains.old presentpins.old presentsizes.old bits.old blocks.old weights.old aboves.old loads.old netweights.now firsts.now loadedsizes.now n m k total)
@@ -156,15 +155,13 @@ pub fn refine(
     let mut f = Fine {
         tried: 0,
         kept: 0,
-        total: total,
+        total,
     };
     let mut rows = [0u64; 16384];
     fill_rows(&mut rows, presentpins, firsts, presentsizes, m);
-    let mut i = stack.len;
-    while 0 < i {
-        i -= 1;
-        let u = place_of(stack.into[i]);
-        let v = place_of(stack.gone[i]);
+    for i in (0..stack.len).rev() {
+        let u = usize::from(stack.into[i]) - 1;
+        let v = usize::from(stack.gone[i]) - 1;
         let w = refine_once(
             counts,
             visited,

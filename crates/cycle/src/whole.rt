@@ -4,23 +4,13 @@ ghost use Rattle.index.specs.Indexed.{Kept};
 ghost use Rattle.operations.specs.Tables.{tables};
 ghost use Rattle.cycle.specs.Whole.{CycleOk, Levels, Does};
 
-use crate::numbers::counted;
 use crate::refining::refine;
 use coarsening::coarsen;
-use operations::pairs::LongStack;
+use operations::pairs::Joins;
 use operations::size::Size;
 use polish::polishing::polish;
 
-// How many contractions were made, the moves that the walks made and kept, all together, and the metric.
-#[derive(Clone, Copy)]
-struct Descent {
-    joins: u32,
-    tried: u32,
-    kept: u32,
-    total: u32,
-}
-
-// What A answers: the same, with P's moves, and the metric after them.
+// What A answers: how many contractions were made, the moves that the walks made and kept, all together, P's moves, and the metric.
 #[derive(Clone, Copy)]
 pub struct Cycled {
     pub joins: u32,
@@ -30,7 +20,7 @@ pub struct Cycled {
     pub total: u32,
 }
 
-// Down to the coarsest level and back.
+// Down to the coarsest level and back, with no move of P yet.
 fn descend(
     counts: &mut [u16],
     visited: &mut [u16],
@@ -50,7 +40,7 @@ fn descend(
     fixedmarks: [u64; 48],
     size: Size,
     total: u32,
-) -> Descent
+) -> Cycled
     requires cycle_ok { CycleOk
         (tables counts.old visited.old gains.old presentpins.old presentsizes.old bits.old blocks.old weights.old aboves.old loads.old netweights.now firsts.now loadedsizes.now size.n size.m size.k total)
         size.average fixedmarks }
@@ -77,7 +67,7 @@ fn descend(
         fixedmarks,
         size,
         total,
-        LongStack::new(),
+        Joins::new(),
     );
     let f = refine(
         counts,
@@ -102,10 +92,11 @@ fn descend(
         total,
         stack,
     );
-    Descent {
-        joins: counted(stack.len),
+    Cycled {
+        joins: stack.len as u32,
         tried: f.tried,
         kept: f.kept,
+        moves: 0,
         total: f.total,
     }
 }
@@ -183,10 +174,8 @@ pub fn run(
         d.total,
     );
     Cycled {
-        joins: d.joins,
-        tried: d.tried,
-        kept: d.kept,
         moves: p.moves,
         total: p.total,
+        ..d
     }
 }

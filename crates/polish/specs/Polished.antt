@@ -4,7 +4,7 @@ use Prim.Native.Nat.{ℕ, suc, ◌+◌, ◌-◌, ◌<◌, ◌≤◌, ◌^◌}
 use Rattle.std.proofs.Math.Decide.{ℕ_discrete}
 use Rattle.std.proofs.Common.{arith, sym, ap, ◌∙◌, subst, eq-eqb, ne_eqb, lt-ltb, le-ltb}
 use Rattle.std.proofs.Math.Path.{◌≡◌, refl, ap₂}
-use Rattle.std.specs.Prelude.{Bool, not, ◌&&◌, ◌||◌, List, eqb, ltb, ℤ, pos, length, get_or}
+use Rattle.std.specs.Prelude.{Option, None, Bool, not, ◌&&◌, ◌||◌, List, eqb, ltb, ℤ, pos, length, get_or}
 use Rattle.std.proofs.Math.Bool.{true, false, cond}
 use Rattle.std.specs.Int.Signed.{lt_z}
 use Rattle.laws.specs.Place.{place}
@@ -16,9 +16,8 @@ use Rattle.guarantees.specs.Caps.{CeilingIs}
 use Rattle.fixed.specs.Starting.{FixedIs}
 use Rattle.operations.specs.Tables.{Tables, Sound, Keeps}
 use Rattle.operations.specs.Move.{Open, CanGo, Went, own_block, board-test}
-use Rattle.best_move.specs.declared.open.Pick.{Pick}
-use Rattle.best_move.specs.declared.open.Pick.TheVariants.{Move as Step, Nothing}
-use Rattle.best_move.specs.Open.{best_of, gain_in, open_in, Chosen}
+use Rattle.best_move.specs.declared.open.Move.{Move}
+use Rattle.best_move.specs.Open.{step, best_of, gain_in, open_in, Chosen}
 use Rattle.best_move.specs.OpenLink.{polish-is}
 use Rattle.search_moves.specs.Marks.{candidate_bit, Marked}
 use Rattle.search_moves.specs.Tabled.{holds, pair-open}
@@ -126,9 +125,9 @@ module _ {h : Hypergraph} {cs : List Contraction} {q : Polish} {T : Tables} {mar
       let d : v - 1 + 1 ≡ v = omega arith in
       A.board (v - 1) (omega arith) ∙ ap (λ (z : ℕ). may_move h cs z) d))
 
-module _ {T : List ℕ → List ℕ → Tables} {marks : List ℕ} {left moves : ℕ} (ok : PassOk T marks left moves) {r : Pick} (ceilings : List ℕ) (v b : ℕ)
+module _ {T : List ℕ → List ℕ → Tables} {marks : List ℕ} {left moves : ℕ} (ok : PassOk T marks left moves) {r : Option Move} (ceilings : List ℕ) (v b : ℕ)
     (c : Chosen (gain_in (T ok.aboves ok.loaded).gains) (T ok.aboves ok.loaded).n (T ok.aboves ok.loaded).k r (rise_in (T ok.aboves ok.loaded) marks ceilings))
-    (e : r ≡ Step v b) where
+    (e : r ≡ step v b) where
   pub pass-in : (1 ≤ v) × (v ≤ (T ok.aboves ok.loaded).n) × (1 ≤ b) × (b ≤ (T ok.aboves ok.loaded).k)
   pass-in = rw e at c.within
 
@@ -142,7 +141,7 @@ module _ {T : List ℕ → List ℕ → Tables} {marks : List ℕ} {left moves :
   pass-goes x d = record { aboves = ok.aboves; loaded = ok.loaded; goes = record { h = ok.h; cs = ok.cs; block = ok.polish.block; sound = ok.at.sound; open-pair = rw d pass-open } }
 
 -- no pair is left whose gain is above 0
-pub pass-none : (T : Tables) (marks ceilings : List ℕ) (left moves : ℕ) {r : Pick} → 1 ≤ left → Chosen (gain_in T.gains) T.n T.k r (rise_in T marks ceilings) → r ≡ Nothing → Passed T marks ceilings left moves T 0 moves
+pub pass-none : (T : Tables) (marks ceilings : List ℕ) (left moves : ℕ) {r : Option Move} → 1 ≤ left → Chosen (gain_in T.gains) T.n T.k r (rise_in T marks ceilings) → r ≡ None → Passed T marks ceilings left moves T 0 moves
 pass-none T marks ceilings left moves l c e = record {
   is = λ h ceiling cs q lim A.
       let d : left ≡ suc (left - 1) = omega arith in
@@ -161,7 +160,7 @@ pass-none T marks ceilings left moves l c e = record {
 }
 
 -- a move
-pub pass-move : {T T' : Tables} (marks ceilings : List ℕ) (left moves x v b : ℕ) {r : Pick} → 1 ≤ left → T'.n ≡ T.n → Chosen (gain_in T.gains) T.n T.k r (rise_in T marks ceilings) → r ≡ Step v b → x + 1 ≡ v → Went T T' x b
+pub pass-move : {T T' : Tables} (marks ceilings : List ℕ) (left moves x v b : ℕ) {r : Option Move} → 1 ≤ left → T'.n ≡ T.n → Chosen (gain_in T.gains) T.n T.k r (rise_in T marks ceilings) → r ≡ step v b → x + 1 ≡ v → Went T T' x b
     → Passed T marks ceilings left moves T' (left - 1) (moves + 1)
 pass-move {T} {T'} marks ceilings left moves x v b l qn c e d w = record {
   is = λ h ceiling cs q lim A.
@@ -204,6 +203,9 @@ polish-first {h} {cs} {T = T} f s m = record {
 
 pub passing-none : (T : Tables) (marks ceilings : List ℕ) → Passing T marks ceilings T T.total 0
 passing-none T marks ceilings = record { is = λ h ceiling cs q lim A. record { polish = q; at = A; same = refl }; keeps = keeps-none T }
+
+pub passing-at : {T T' : Tables} {marks ceilings : List ℕ} {left left' moves : ℕ} → left ≡ left' → Passing T marks ceilings T' left moves → Passing T marks ceilings T' left' moves
+passing-at {T} {T'} {marks} {ceilings} {moves = moves} e f = subst (λ (i : ℕ). Passing T marks ceilings T' i moves) e f
 
 pub pass-asks : {T T' : List ℕ → List ℕ → Tables} {fixedmarks marks ceilings : List ℕ} {left moves : ℕ} (ok : PolishOk T fixedmarks)
     → Marked fixedmarks marks (sits (T ok.aboves ok.loaded).blocks (T ok.aboves ok.loaded).n)

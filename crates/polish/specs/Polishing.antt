@@ -1,6 +1,6 @@
 -- P: the vertices on the board that are not fixed are candidates, the best open pair is moved while its gain is above 0. What the code's
 -- variables are for model's polish on its way, and what one move, and the whole, ask and do. Rests on Tabled. Assumes nothing.
-use Rattle.std.specs.Prelude.{ℕ, ◌+◌, ◌*◌, ◌<◌, ◌≤◌, ◌^◌, ◌≡◌, refl, Bool, true, false, ◌&&◌, ◌||◌, cond, List, eqb, ltb, ℤ, pos, get_or}
+use Rattle.std.specs.Prelude.{Option, None, ℕ, ◌+◌, ◌*◌, ◌<◌, ◌≤◌, ◌^◌, ◌≡◌, refl, Bool, true, false, ◌&&◌, ◌||◌, cond, List, eqb, ltb, ℤ, pos, get_or}
 use Rattle.std.proofs.Math.Decide.{ℕ_discrete}
 use Rattle.std.proofs.Common.{arith, sym, ap, ap₂, ◌∙◌, eq-eqb, ne_eqb, lt-ltb, le-ltb, ltb-true, ltb-false, of_z, to_z}
 use Rattle.std.proofs.Math.Bool.{and-true, and-false, or-false}
@@ -8,9 +8,8 @@ use Rattle.std.specs.Int.Signed.{lt_z, mag}
 use Rattle.std.specs.Int.{w32}
 use Rattle.laws.specs.Integer.{read32}
 use Rattle.model.specs.Search.{Best, none, best, best_pair}
-use Rattle.best_move.specs.declared.open.Pick.{Pick}
-use Rattle.best_move.specs.declared.open.Pick.TheVariants.{Move as Step, Nothing}
-use Rattle.best_move.specs.Open.{best_of, PickIn, gain_in, open_in, Chosen}
+use Rattle.best_move.specs.declared.open.Move.{Move}
+use Rattle.best_move.specs.Open.{step, best_of, PickIn, gain_in, open_in, Chosen}
 use Rattle.best_move.specs.OpenLaw.{pick-open}
 use Rattle.search_moves.specs.Marks.{Marked, marked-none, marked-ext, marked_more}
 
@@ -73,28 +72,28 @@ rise-read g v b v' b' ev eb f is = is ∙ ap (lt_z (pos 0)) (read32 (gain_in g v
 abbrev pub rise_of : (gains : List ℤ) (blocks weights loads ceilings marks : List ℕ) (n k : ℕ) → Best
 rise_of gains blocks weights loads ceilings marks n k = rise (best_pair n k (open_in marks blocks weights loads ceilings) (gain_in gains))
 
-pub rise-none : (worth : ℕ → ℕ → ℤ) (n k : ℕ) {r : Pick} {b : Best} → Chosen worth n k r b → r ≡ Nothing → Chosen worth n k Nothing (rise b)
+pub rise-none : (worth : ℕ → ℕ → ℤ) (n k : ℕ) {r : Option Move} {b : Best} → Chosen worth n k r b → r ≡ None → Chosen worth n k None (rise b)
 rise-none worth n k c e = record { same = ap rise (ap (best_of worth) (sym e) ∙ c.same); within = tt }
 
-pub rise-yes : (worth : ℕ → ℕ → ℤ) (n k v b : ℕ) {r : Pick} {c : Best} → Chosen worth n k r c → r ≡ Step v b → lt_z (pos 0) (worth v b) ≡ true → Chosen worth n k (Step v b) (rise c)
+pub rise-yes : (worth : ℕ → ℕ → ℤ) (n k v b : ℕ) {r : Option Move} {c : Best} → Chosen worth n k r c → r ≡ step v b → lt_z (pos 0) (worth v b) ≡ true → Chosen worth n k (step v b) (rise c)
 rise-yes worth n k v b c e t = record {
   same = sym (ap rise (sym c.same ∙ ap (best_of worth) e) ∙ ap (λ (x : Bool). cond x (best v b (worth v b)) none) t);
   within = rw e at c.within;
 }
 
-pub rise-no : (worth : ℕ → ℕ → ℤ) (n k v b : ℕ) {r : Pick} {c : Best} → Chosen worth n k r c → r ≡ Step v b → lt_z (pos 0) (worth v b) ≡ false → Chosen worth n k Nothing (rise c)
+pub rise-no : (worth : ℕ → ℕ → ℤ) (n k v b : ℕ) {r : Option Move} {c : Best} → Chosen worth n k r c → r ≡ step v b → lt_z (pos 0) (worth v b) ≡ false → Chosen worth n k None (rise c)
 rise-no worth n k v b c e t = record {
   same = sym (ap rise (sym c.same ∙ ap (best_of worth) e) ∙ ap (λ (x : Bool). cond x (best v b (worth v b)) none) t);
   within = tt;
 }
 
-pub rise-in : (n k v b gains : ℕ) {r : Pick} → PickIn n k r → r ≡ Step v b → n ≤ 1024 → k ≤ 16 → 16 * n ≤ gains → RiseOk gains v b
+pub rise-in : (n k v b gains : ℕ) {r : Option Move} → PickIn n k r → r ≡ step v b → n ≤ 1024 → k ≤ 16 → 16 * n ≤ gains → RiseOk gains v b
 rise-in n k v b gains i e ln lk lg =
     let w : (1 ≤ v) × (v ≤ n) × (1 ≤ b) × (b ≤ k) = rw e at i in
     record { v-in = omega (arith, w.0, w.1); b-in = omega (arith, w.2, w.3); fit = omega (arith, w.1) }
 
 -- a pair that was found is open
-pub rise-open : {n k : ℕ} (may : ℕ → ℕ → Bool) (worth : ℕ → ℕ → ℤ) {r : Pick} (v b : ℕ) → Chosen worth n k r (rise (best_pair n k may worth)) → r ≡ Step v b → may v b ≡ true
+pub rise-open : {n k : ℕ} (may : ℕ → ℕ → Bool) (worth : ℕ → ℕ → ℤ) {r : Option Move} (v b : ℕ) → Chosen worth n k r (rise (best_pair n k may worth)) → r ≡ step v b → may v b ≡ true
 rise-open {n} {k} may worth {r} v b c e = go (best_pair n k may worth) refl c.same
   where
     never : best v b (worth v b) ≡ none → ⊥

@@ -1,34 +1,34 @@
-// The calls W and P: refused with the number of the refusal, or done, with the numbers of the answer.
-ghost use Rattle.std.specs.Prelude.{ℕ, ◌*◌, ◌≤◌, List, length};
+// The calls W and P: refused, or done, with the numbers of the answer.
+ghost use Rattle.std.specs.Prelude.{ℕ, ◌*◌, ◌≤◌, List, length, MatchResult};
+ghost use Rattle.refusal.specs.Number.{number_of};
 ghost use Rattle.model.specs.Catalogue.{Hypergraph};
-ghost use Rattle.model.specs.Machine.{call_w, call_p, says_w, says_p};
+ghost use Rattle.model.specs.Machine.{call_w, call_p, says_w, says_p, says_no};
 ghost use Rattle.model.specs.Lent.{Two, two, stack_of};
 ghost use Rattle.guarantees.specs.Caps.{CeilingIs};
 ghost use Rattle.index.specs.Indexed.{KeepsRight};
 ghost use Rattle.fixed.specs.Starting.{FixedIs};
 ghost use Rattle.search_moves.specs.Lent.{lent};
-ghost use Rattle.edit_calls.specs.Steps.{told};
 ghost use Rattle.edit_calls.specs.Called.{Called};
 ghost use Rattle.search_calls.specs.Searching.{ReadyW};
 
 use edit_calls::refusals::refuses_walk;
-use incidence::numbers::{narrow, wide};
+use incidence::numbers::narrow;
 use index::rows::put_all_right;
 use operations::pairs::Journal;
 use polish::polishing::polish;
+use refusal::Refusal;
 use walk::walks::walk;
 
-// What a call leaves of the journal, its refusal or 0, and the numbers of its answer, 0 where it is refused; the metric is in any case the one after it.
+// What W leaves of the journal, and the numbers of its answer.
 #[derive(Clone, Copy)]
 pub struct WalkTurn {
     pub journal: Journal,
-    pub no: u32,
     pub tried: u32,
     pub kept: u32,
     pub total: u32,
 }
 
-// P is never refused.
+// The same of P, which is never refused.
 #[derive(Clone, Copy)]
 pub struct PolishTurn {
     pub journal: Journal,
@@ -59,27 +59,21 @@ pub fn call_walk(
     journal: Journal,
     u: usize,
     v: usize,
-) -> WalkTurn
+) -> Result<WalkTurn, Refusal>
     requires ready_w { ReadyW
         (lent counts.old visited.old gains.old blocks.old loads.old presentpins.now presentsizes.now bits.now weights.now netweights.now firsts.now n m k total)
         (two journal.vertices journal.blocks journal.len) fixedmarks }
     requires n_in_bounds { 16 * n ≤ length index.old }
-    ensures by_index { (aboves loadedsizes : List ℕ) (S : Two) (h : Hypergraph) (ceiling : ℕ → ℕ) → CeilingIs ceilings.now h ceiling → FixedIs fixedmarks h (stack_of S.xs S.ys S.len) → Called h ceiling
-        (lent counts.old visited.old gains.old blocks.old loads.old presentpins.now presentsizes.now bits.now weights.now netweights.now firsts.now n m k total aboves loadedsizes)
-        (lent counts.new visited.new gains.new blocks.new loads.new presentpins.now presentsizes.now bits.now weights.now netweights.now firsts.now n m k result.total aboves loadedsizes)
-        S S (two journal.vertices journal.blocks journal.len) (two result.journal.vertices result.journal.blocks result.journal.len) (call_w u v) (told result.no (says_w result.tried result.kept result.total)) }
+    ensures by_index { (aboves loadedsizes : List ℕ) (S : Two) (h : Hypergraph) (ceiling : ℕ → ℕ) →
+        let before = lent counts.old visited.old gains.old blocks.old loads.old presentpins.now presentsizes.now bits.now weights.now netweights.now firsts.now n m k total aboves loadedsizes in
+        let after = λ (after : ℕ). lent counts.new visited.new gains.new blocks.new loads.new presentpins.now presentsizes.now bits.now weights.now netweights.now firsts.now n m k after aboves loadedsizes in
+        let moves = two journal.vertices journal.blocks journal.len in
+        CeilingIs ceilings.now h ceiling → FixedIs fixedmarks h (stack_of S.xs S.ys S.len) → MatchResult result
+        (λ t. Called h ceiling before (after t.total) S S moves (two t.journal.vertices t.journal.blocks t.journal.len) (call_w u v) (says_w t.tried t.kept t.total))
+        (λ e. Called h ceiling before (after total) S S moves moves (call_w u v) (says_no (number_of e))) }
     ensures keeps_right { KeepsRight gains.old blocks.old gains.new blocks.new n k index.old index.new }
 {
-    let no = refuses_walk(blocks, n, u, v);
-    if no != 0 {
-        return WalkTurn {
-            journal: journal,
-            no: no,
-            tried: 0,
-            kept: 0,
-            total: total,
-        };
-    }
+    refuses_walk(blocks, n, u, v)?;
     let cleared = journal.clear();
     let no_rows = [0u64; 1];
     let w = walk(
@@ -107,13 +101,12 @@ pub fn call_walk(
         v - 1,
     );
     put_all_right(index, gains, blocks, n, k);
-    WalkTurn {
+    Ok(WalkTurn {
         journal: cleared,
-        no: 0,
-        tried: wide(narrow(w.tried)),
-        kept: wide(narrow(w.kept)),
+        tried: u32::from(narrow(w.tried)),
+        kept: u32::from(narrow(w.kept)),
         total: w.total,
-    }
+    })
 }
 
 // P.

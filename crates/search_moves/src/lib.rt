@@ -2,6 +2,7 @@
 // still above all gains.
 #![tactic(auto)]
 
+pub mod board;
 pub mod marks;
 pub mod peaks;
 pub mod rows;

@@ -8,8 +8,7 @@ ghost use Rattle.connectivity.specs.Listed.{has};
 ghost use Rattle.search_moves.specs.Marks.{Marked, SameNets, MoreNets, PinsOk, Covered, near, NetsOk, Fresh, WordMarked, Spread};
 ghost use Rattle.search_moves.specs.Rows.{RowIs, RowsPast};
 
-use incidence::numbers::index;
-use incidence::{is_pin, least, next_bit, put, take};
+use incidence::{is_pin, next_bit, put, take};
 
 // Makes `x` a candidate, unless it has moved or is fixed.
 pub fn mark_vertex(marks: &mut [u64; 48], x: usize)
@@ -27,10 +26,8 @@ fn mark_pins(marks: &mut [u64; 48], presentpins: &[u16], first: usize, size: usi
     requires { (length marks.old ≡ 48) × PinsOk presentpins.now first size }
     ensures { Marked marks.old marks.new (has presentpins.now first size) × SameNets marks.old marks.new }
 {
-    let mut j: usize = 0;
-    while j < size {
-        mark_vertex(marks, index(presentpins[first + j]) - 1);
-        j += 1;
+    for j in 0..size {
+        mark_vertex(marks, usize::from(presentpins[first + j]) - 1);
     }
 }
 
@@ -40,11 +37,9 @@ fn mark_row(marks: &mut [u64; 48], rows: &[u64], e: usize)
     ensures { Marked marks.old marks.new (λ x. eqb (on rows.now e x) 1) × SameNets marks.old marks.new }
 {
     let row = 16 * e;
-    let mut c: usize = 0;
-    while c < 16 {
+    for c in 0..16 {
         let word = rows[row + c];
         marks[c] = marks[c] | (word ^ (word & marks[16 + c]));
-        c += 1;
     }
 }
 
@@ -66,7 +61,12 @@ fn mark_all(
         mark_row(marks, rows, e);
         return;
     }
-    mark_pins(marks, presentpins, index(firsts[e]), index(presentsizes[e]));
+    mark_pins(
+        marks,
+        presentpins,
+        usize::from(firsts[e]),
+        usize::from(presentsizes[e]),
+    );
 }
 
 // Makes the pins of net `e` candidates, and puts it to the nets for which that has been done.
@@ -96,7 +96,8 @@ fn fresh(word: u64, seen: u64) -> u64
 }
 
 // Makes the pins of the nets of `u` candidates that one word of its row has, from net `from` on, unless that has been done before in this
-// search: the word of row 2 tells that of all 64 nets at once. The answer is where the next word begins, or `m`.
+// search: the word of row 2 tells that of all 64 nets at once. The answer is where the next word begins, or `m`, where the nets
+// end.
 fn mark_word(
     marks: &mut [u64; 48],
     bits: &[u64],
@@ -114,9 +115,10 @@ fn mark_word(
     ensures { WordMarked bits.now presentpins.now firsts.now presentsizes.now m u from result marks.old marks.new }
 {
     let c = from / 64;
-    let to = least(from + 64, m);
+    let to = usize::min(from + 64, m);
     let nets = fresh(bits[16 * u + c], marks[32 + c]);
     let mut j = next_bit(nets, 0);
+    // No for: it goes from bit to bit, and ends with the nets or with the word.
     while from + j < to {
         mark_net(
             marks,
@@ -149,6 +151,7 @@ fn mark_nets(
     ensures { Marked marks.old marks.new (near bits.now presentpins.now firsts.now presentsizes.now u m) × Covered marks.new presentpins.now firsts.now presentsizes.now }
 {
     let mut e = 0;
+    // No for: a word begins where the last one ended.
     while e < m {
         e = mark_word(
             marks,

@@ -5,13 +5,13 @@ ghost use Rattle.std.specs.Prelude.{◌≡◌, List, ℕ, ◌+◌, ◌*◌, ◌-
 ghost use Rattle.best_move.specs.Open.{RowOk};
 ghost use Rattle.best_move.specs.Peak.{Under, Peaked, Higher};
 ghost use Rattle.operations.specs.Move.{CanGo, Went};
-ghost use Rattle.search_moves.specs.Lent.{lent};
+ghost use Rattle.search_moves.specs.Lent.{lent_on};
 ghost use Rattle.search_moves.specs.Peaks.{Lifted};
 ghost use Rattle.search_moves.specs.Lifting.{PinsIn, NetIn, LiftOk, LastUnder, FirstUnder, NetUnder};
 
+use crate::board::Board;
 use best_move::peaks::{raise_entry, raise_row};
-use incidence::next_net;
-use incidence::numbers::index;
+use incidence::nets_of;
 use operations::moves::go;
 
 // Raises the peak over `x`, of block `own`, to its gains, if that block is `s`.
@@ -40,11 +40,9 @@ fn raise_last(
     ensures { Higher peaks.old peaks.new
         × LastUnder gains.now peaks.new blocks.now presentpins.now first size s k }
 {
-    let mut j: usize = 0;
-    while j < size {
-        let x = index(presentpins[first + j]) - 1;
+    for j in 0..size {
+        let x = usize::from(presentpins[first + j]) - 1;
         raise_in_block(peaks, gains, x, blocks[x], s, k);
-        j += 1;
     }
 }
 
@@ -60,10 +58,8 @@ fn raise_first(
     requires { (length peaks.old ≡ 1040) × (1 ≤ t) × (t ≤ 16) × PinsIn (length gains.now) 1024 presentpins.now first size }
     ensures { Higher peaks.old peaks.new × FirstUnder gains.now peaks.new presentpins.now first size t }
 {
-    let mut j: usize = 0;
-    while j < size {
-        raise_entry(peaks, gains, index(presentpins[first + j]) - 1, t - 1);
-        j += 1;
+    for j in 0..size {
+        raise_entry(peaks, gains, usize::from(presentpins[first + j]) - 1, t - 1);
     }
 }
 
@@ -84,7 +80,7 @@ fn lift_last(
     ensures { Higher peaks.old peaks.new × (get_or counts.now (16 * e + (s - 1)) 0 ≡ 1
         → LastUnder gains.now peaks.new blocks.now presentpins.now first size s k) }
 {
-    if counts[16 * e + (index(s) - 1)] != 1 {
+    if counts[16 * e + (usize::from(s) - 1)] != 1 {
         return;
     }
     raise_last(peaks, gains, blocks, presentpins, first, size, s, k);
@@ -105,7 +101,7 @@ fn lift_first(
     ensures { Higher peaks.old peaks.new × (get_or counts.now (16 * e + (t - 1)) 0 ≡ 1
         → FirstUnder gains.now peaks.new presentpins.now first size t) }
 {
-    let b = index(t);
+    let b = usize::from(t);
     if counts[16 * e + (b - 1)] != 1 {
         return;
     }
@@ -166,22 +162,20 @@ fn lift(
     ensures { Lifted gains.now peaks.old peaks.new counts.now blocks.now presentpins.now firsts.now presentsizes.now bits.now m k u s t }
 {
     raise_row(peaks, gains, u, k);
-    let mut e = next_net(bits, u, 0, m);
-    while e < m {
+    for e in nets_of(bits, u, m) {
         lift_net(
             peaks,
             gains,
             counts,
             blocks,
             presentpins,
-            index(firsts[e]),
-            index(presentsizes[e]),
+            usize::from(firsts[e]),
+            usize::from(presentsizes[e]),
             e,
             s,
             t,
             k,
         );
-        e = next_net(bits, u, e + 1, m);
     }
 }
 
@@ -193,28 +187,20 @@ pub fn shift(
     blocks: &mut [u16],
     loads: &mut [u64; 16],
     peaks: &mut [i32; 1040],
-    presentpins: &[u16],
-    presentsizes: &[u16],
-    bits: &[u64],
-    weights: &[u32],
-    netweights: &[u16],
-    firsts: &[u16],
-    n: usize,
-    m: usize,
-    k: usize,
+    board: Board<'_>,
     total: u32,
     u: usize,
     t: u16,
 ) -> u32
     requires can_go { CanGo
-        (lent counts.old visited.old gains.old blocks.old loads.old presentpins.now presentsizes.now bits.now weights.now netweights.now firsts.now n m k total)
+        (lent_on counts.old visited.old gains.old blocks.old loads.old board total)
         u t }
-    requires peaked { Peaked gains.old peaks.old n k }
+    requires peaked { Peaked gains.old peaks.old board.n board.k }
     ensures by_index { (aboves loadedsizes : List ℕ) → Went
-        (lent counts.old visited.old gains.old blocks.old loads.old presentpins.now presentsizes.now bits.now weights.now netweights.now firsts.now n m k total aboves loadedsizes)
-        (lent counts.new visited.new gains.new blocks.new loads.new presentpins.now presentsizes.now bits.now weights.now netweights.now firsts.now n m k result aboves loadedsizes)
+        (lent_on counts.old visited.old gains.old blocks.old loads.old board.entry total aboves loadedsizes)
+        (lent_on counts.new visited.new gains.new blocks.new loads.new board.entry result aboves loadedsizes)
         u t }
-    ensures peaked_2 { Peaked gains.new peaks.new n k }
+    ensures peaked_2 { Peaked gains.new peaks.new board.entry.n board.entry.k }
 {
     let s = blocks[u];
     let after = go(
@@ -223,15 +209,15 @@ pub fn shift(
         gains,
         blocks,
         loads,
-        presentpins,
-        presentsizes,
-        bits,
-        weights,
-        netweights,
-        firsts,
-        n,
-        m,
-        k,
+        board.presentpins,
+        board.presentsizes,
+        board.bits,
+        board.weights,
+        board.netweights,
+        board.firsts,
+        board.n,
+        board.m,
+        board.k,
         total,
         u,
         t,
@@ -241,12 +227,12 @@ pub fn shift(
         gains,
         counts,
         blocks,
-        bits,
-        presentpins,
-        firsts,
-        presentsizes,
-        m,
-        k,
+        board.bits,
+        board.presentpins,
+        board.firsts,
+        board.presentsizes,
+        board.m,
+        board.k,
         u,
         s,
         t,

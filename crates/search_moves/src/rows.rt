@@ -6,18 +6,15 @@ ghost use Rattle.search_moves.specs.Marks.{PinsOk};
 ghost use Rattle.search_moves.specs.Rows.{RowsAre, FilledTo};
 ghost use Rattle.search_moves.specs.Parted.{NetParted, PartedTo, PartRowsOk};
 
-use incidence::numbers::index;
-use incidence::{is_pin, next_net, put, take};
+use incidence::{is_pin, nets_of, put, take};
 
 // Puts the pins of one net into its row, which has none.
 fn fill_row(rows: &mut [u64; 16384], presentpins: &[u16], first: usize, size: usize, e: usize)
     requires { (16 * e + 16 ≤ length rows.old) × PinsOk presentpins.now first size × ((x : ℕ) → x < 1024 → on rows.old e x ≡ 0) }
     ensures { FilledTo rows.old presentpins.now first e size rows.new }
 {
-    let mut j: usize = 0;
-    while j < size {
-        put(rows, e, index(presentpins[first + j]) - 1);
-        j += 1;
+    for j in 0..size {
+        put(rows, e, usize::from(presentpins[first + j]) - 1);
     }
 }
 
@@ -33,16 +30,14 @@ pub fn fill_rows(
         × ((e : ℕ) → e < m → PinsOk presentpins.now (get_or firsts.now e 0) (get_or presentsizes.now e 0)) }
     ensures { RowsAre rows.new presentpins.now firsts.now presentsizes.now m }
 {
-    let mut e: usize = 0;
-    while e < m {
+    for e in 0..m {
         fill_row(
             rows,
             presentpins,
-            index(firsts[e]),
-            index(presentsizes[e]),
+            usize::from(firsts[e]),
+            usize::from(presentsizes[e]),
             e,
         );
-        e += 1;
     }
 }
 
@@ -63,9 +58,7 @@ pub fn part_rows(rows: &mut [u64; 16384], bits: &[u64], m: usize, u: usize, v: u
     requires { PartRowsOk rows.old bits.now m u v }
     ensures { PartedTo rows.old bits.now u v m rows.new }
 {
-    let mut e = next_net(bits, v, 0, m);
-    while e < m {
+    for e in nets_of(bits, v, m) {
         part_row(rows, bits, e, u, v);
-        e = next_net(bits, v, e + 1, m);
     }
 }

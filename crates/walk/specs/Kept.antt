@@ -1,7 +1,8 @@
 -- Which prefix a walk keeps, in the code's variables: the worth of a prefix by its two numbers, the heaviest block by the blocks' weights in the
 -- tables, and that this is model's. Rests on operations's Tables. Assumes nothing.
-use Rattle.std.specs.Prelude.{ℕ, ◌+◌, ◌-◌, max, ◌≡◌, Bool, true, false, ◌&&◌, ◌||◌, cond, List, eqb, ltb, get_or}
-use Rattle.std.proofs.Common.{arith, sym, ap, ◌∙◌, eq-eqb, ne_eqb, le-ltb}
+use Rattle.std.specs.Prelude.{ℕ, ◌+◌, ◌-◌, max, ◌≡◌, Bool, true, false, ◌&&◌, ◌||◌, cond, List, eqb, ltb, get_or, Some}
+use Rattle.std.specs.Ordering.{partial_lt, partial_ordering_then, nat_cmp, is_some_and, is_lt}
+use Rattle.std.proofs.Common.{arith, refl, Less, Equal, Greater, sym, ap, ◌∙◌, eq-eqb, ne_eqb, le-ltb}
 use Rattle.std.proofs.Math.Bool.{or-false}
 use Rattle.laws.specs.Sum.{fold_to, fold_to-zero, fold_to-step, fold_to-ext}
 use Rattle.model.specs.Catalogue.{Hypergraph}
@@ -37,15 +38,17 @@ heaviest-is {h} {cs} {block} {T} s =
     let e : b - 1 + 1 ≡ b = omega arith in
     ap (max most) (s.bears (b - 1) (omega (arith, s.follows.says.all_blocks)) ∙ ap (block_weight h cs block) e))
 
--- ---- the order, by the tests that the code makes
-pub tie-is : (total heavy low most : ℕ) → total ≡ low → ltb heavy most ≡ is_kept (worth total heavy) (worth low most)
-unfolding is_kept
-tie-is total heavy low most e = sym (
-    ap (λ (t : Bool). t || (eqb total low && ltb heavy most)) (le-ltb total low (omega arith)) ∙ ap (λ (t : Bool). t && ltb heavy most) (eq-eqb total low e))
+-- ---- the order, by the comparison that the code makes
+before : (p q r s : Bool) → is_some_and is_lt (partial_ordering_then (Some (cond p Less (cond q Equal Greater))) (Some (cond r Less (cond s Equal Greater)))) ≡ (p || (q && r))
+before true q r s = refl
+before false true true s = refl
+before false true false true = refl
+before false true false false = refl
+before false false r s = refl
 
-pub apart-is : (total heavy low most : ℕ) → (total ≡ low → ⊥) → ltb total low ≡ is_kept (worth total heavy) (worth low most)
+pub order-is : (total heavy low most : ℕ) → partial_lt {X = ℕ × ℕ} (λ x y. partial_ordering_then (Some (nat_cmp x.0 y.0)) (Some (nat_cmp x.1 y.1))) (total, heavy) (low, most) ≡ is_kept (worth total heavy) (worth low most)
 unfolding is_kept
-apart-is total heavy low most n = sym (ap (λ (t : Bool). ltb total low || (t && ltb heavy most)) (ne_eqb total low n) ∙ or-false (ltb total low))
+order-is total heavy low most = before (ltb total low) (eqb total low) (ltb heavy most) (eqb heavy most)
 
 -- what is kept, by the test's answer
 pub choice-new : {X : Type 0} {x : X} (y : X) {q r : Bool} → r ≡ q → r ≡ true → x ≡ cond q x y

@@ -2,7 +2,7 @@
 -- it. Rests on Steps. Assumes nothing.
 use Prim.Native.Nat.{ℕ, zero, suc, ◌+◌, ◌-◌, ◌<◌, ◌≤◌}
 use Rattle.std.proofs.Common.{arith, sym, ap₂, ◌∙◌, le-leb}
-use Rattle.std.specs.Prelude.{◌≡◌, Bool, not, ◌&&◌, List, leb, ℤ}
+use Rattle.std.specs.Prelude.{Option, None, ◌≡◌, Bool, not, ◌&&◌, List, leb, ℤ}
 use Rattle.std.proofs.Math.Path.{refl, ap}
 use Rattle.std.proofs.Math.Bool.{true, false, cond}
 use Rattle.std.proofs.lemmas.Bool.{lt-leb}
@@ -14,9 +14,8 @@ use Rattle.model.specs.Search.{Best, none, best, Walk, worth_of, best_pair, walk
 use Rattle.guarantees.specs.Caps.{CeilingIs}
 use Rattle.guarantees.specs.Walks.{moved}
 use Rattle.operations.specs.Tables.{Tables}
-use Rattle.best_move.specs.declared.open.Pick.{Pick}
-use Rattle.best_move.specs.declared.open.Pick.TheVariants.{Move as Step, Nothing}
-use Rattle.best_move.specs.Open.{best_of, gain_in, open_in, Chosen}
+use Rattle.best_move.specs.declared.open.Move.{Move}
+use Rattle.best_move.specs.Open.{step, best_of, gain_in, open_in, Chosen}
 use Rattle.best_move.specs.OpenLaw.{pick-open}
 use Rattle.best_move.specs.OpenLink.{walk_is}
 use Rattle.search_moves.specs.Marks.{candidate_bit}
@@ -26,15 +25,15 @@ use Rattle.walk.specs.Steps.{Locals, At, next_of, TakeOk, Took, TurnOk, Turned}
 
 -- ---- the next move, as the code finds it
 module _ (gains : List ℤ) (blocks weights loads ceilings marks : List ℕ) (n k tried kept : ℕ) where
-  pub next-stop : kept + patience ≤ tried → Chosen (gain_in gains) n k Nothing (next_of gains blocks weights loads ceilings marks n k tried kept)
+  pub next-stop : kept + patience ≤ tried → Chosen (gain_in gains) n k None (next_of gains blocks weights loads ceilings marks n k tried kept)
   next-stop l = record { same = sym (ap (λ (t : Bool). cond t none (best_pair n k (open_in marks blocks weights loads ceilings) (gain_in gains))) (le-leb (kept + patience) tried l)); within = tt }
 
-  pub next-best : (r : Pick) → tried < kept + patience → Chosen (gain_in gains) n k r (best_pair n k (open_in marks blocks weights loads ceilings) (gain_in gains))
+  pub next-best : (r : Option Move) → tried < kept + patience → Chosen (gain_in gains) n k r (best_pair n k (open_in marks blocks weights loads ceilings) (gain_in gains))
       → Chosen (gain_in gains) n k r (next_of gains blocks weights loads ceilings marks n k tried kept)
   next-best r l c = record { same = c.same ∙ sym (ap (λ (t : Bool). cond t none (best_pair n k (open_in marks blocks weights loads ceilings) (gain_in gains))) (lt-leb (kept + patience) tried l)); within = c.within }
 
   -- a pair that was found is open
-  pub next-open : {r : Pick} (v b : ℕ) → Chosen (gain_in gains) n k r (next_of gains blocks weights loads ceilings marks n k tried kept) → r ≡ Step v b → open_in marks blocks weights loads ceilings v b ≡ true
+  pub next-open : {r : Option Move} (v b : ℕ) → Chosen (gain_in gains) n k r (next_of gains blocks weights loads ceilings marks n k tried kept) → r ≡ step v b → open_in marks blocks weights loads ceilings v b ≡ true
   next-open {r} v b c e = go (leb (kept + patience) tried) c.same
     where
       go : (t : Bool) → best_of (gain_in gains) r ≡ cond t none (best_pair n k (open_in marks blocks weights loads ceilings) (gain_in gains)) → open_in marks blocks weights loads ceilings v b ≡ true
@@ -84,7 +83,7 @@ module _ (h : Hypergraph) (ceiling : ℕ → ℕ) (cs : List Contraction) where
 
 -- ---- a turn
 module _ {T : List ℕ → List ℕ → Tables} {L : Locals} {turn : ℕ} (ceilings : List ℕ) (ok : TurnOk T L turn) where
-  pub take-asks : {r : Pick} (v b : ℕ) → Chosen (gain_in (T ok.aboves ok.loaded).gains) (T ok.aboves ok.loaded).n (T ok.aboves ok.loaded).k r (next_in (T ok.aboves ok.loaded) L ceilings) → r ≡ Step v b → TakeOk T L turn v b
+  pub take-asks : {r : Option Move} (v b : ℕ) → Chosen (gain_in (T ok.aboves ok.loaded).gains) (T ok.aboves ok.loaded).n (T ok.aboves ok.loaded).k r (next_in (T ok.aboves ok.loaded) L ceilings) → r ≡ step v b → TakeOk T L turn v b
   take-asks v b c e =
       let S = T ok.aboves ok.loaded in
       let i : (1 ≤ v) × (v ≤ S.n) × (1 ≤ b) × (b ≤ S.k) = rw e at c.within in
@@ -102,7 +101,7 @@ module _ {T : List ℕ → List ℕ → Tables} {L : Locals} {turn : ℕ} (ceili
       }
 
 -- no move
-pub turn-none : (T : Tables) (L : Locals) (ceilings : List ℕ) (turn : ℕ) {r : Pick} → turn < T.n → L.tried ≤ turn → Chosen (gain_in T.gains) T.n T.k r (next_in T L ceilings) → r ≡ Nothing → Turned T L ceilings turn T L T.n
+pub turn-none : (T : Tables) (L : Locals) (ceilings : List ℕ) (turn : ℕ) {r : Option Move} → turn < T.n → L.tried ≤ turn → Chosen (gain_in T.gains) T.n T.k r (next_in T L ceilings) → r ≡ None → Turned T L ceilings turn T L T.n
 turn-none T L ceilings turn on to c e = record {
   is = λ h ceiling cs w q A.
       let d : T.n - T.n ≡ 0 = omega arith in
@@ -118,7 +117,7 @@ turn-none T L ceilings turn on to c e = record {
 }
 
 -- a move
-pub turn-move : {T T' : Tables} {L L' : Locals} (ceilings : List ℕ) (turn turn' v b : ℕ) {r : Pick} → turn < T.n → L.tried ≤ turn → Chosen (gain_in T.gains) T.n T.k r (next_in T L ceilings) → r ≡ Step v b → Took T L turn v b T' L' turn'
+pub turn-move : {T T' : Tables} {L L' : Locals} (ceilings : List ℕ) (turn turn' v b : ℕ) {r : Option Move} → turn < T.n → L.tried ≤ turn → Chosen (gain_in T.gains) T.n T.k r (next_in T L ceilings) → r ≡ step v b → Took T L turn v b T' L' turn'
     → Turned T L ceilings turn T' L' turn'
 turn-move {T} {T'} {L} {L'} ceilings turn turn' v b on to c e k = record {
   is = λ h ceiling cs w q A.

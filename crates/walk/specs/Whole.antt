@@ -114,6 +114,9 @@ going_more {turn = turn} {turn' = turn'} qn qm qk qf ql f k = record {
   keeps = keeps-more qn qm qk qf ql f.keeps k.keeps;
 }
 
+pub going-at : {T T' : Tables} {L L' : Locals} {ceilings : List ℕ} {turn turn' : ℕ} → turn ≡ turn' → Going T L ceilings turn T' L' → Going T L ceilings turn' T' L'
+going-at {T} {T'} {L} {L'} {ceilings} e g = subst (λ (i : ℕ). Going T L ceilings i T' L') e g
+
 -- there is a walk that tables and variables are those of
 pub record HasWalk (T : List ℕ → List ℕ → Tables) (L : Locals) : Type 0 where
   pub aboves : List ℕ

@@ -1,19 +1,19 @@
 // W, a walk from two vertices (localized FM search): the best open pair is moved, also where its gain is negative, until none is open or 25
 // moves have been made since the prefix that is kept; then the moves after that prefix are reversed.
-ghost use Rattle.std.specs.Prelude.{List, ℕ, ◌+◌, ◌-◌, ◌*◌, ◌<◌, ◌≤◌, length};
+ghost use Rattle.std.specs.Prelude.{cond, List, ℕ, ◌+◌, ◌-◌, ◌*◌, ◌<◌, ◌≤◌, length};
 ghost use Rattle.index.specs.Indexed.{Kept};
 ghost use Rattle.best_move.specs.Open.{SearchOk, IndexOk, Chosen, gain_in};
 ghost use Rattle.best_move.specs.Peak.{Peaked};
 ghost use Rattle.walk.specs.Back.{RewindOk, Rewinds};
-ghost use Rattle.search_moves.specs.Lent.{lent};
+ghost use Rattle.search_moves.specs.Lent.{lent, lent_on};
 ghost use Rattle.search_moves.specs.Rows.{RowsPast};
 ghost use Rattle.walk.specs.Steps.{locals, next_of, TakeOk, Took, TurnOk, Turned, WalkOk, Walks};
 
-use crate::kept::{heaviest, keep};
-use best_move::open::{Pick, best_open};
+use crate::kept::{Prefix, heaviest, keep};
+use best_move::open::{Move, best_open};
 use best_move::peaks::survey;
-use incidence::numbers::index;
 use operations::moves::back;
+use search_moves::board::Board;
 use search_moves::marks::{mark_vertex, spread};
 use search_moves::peaks::shift;
 
@@ -25,15 +25,11 @@ pub struct Walked {
     pub total: u32,
 }
 
-// A walk on its way. `tried` counts the moves made. `spent` counts the turns that are spent of the n that a walk has at most: one that ends has
-// spent them all. `kept`, `low` and `heaviest` are of the kept prefix: its length, its metric, and the weight of its heaviest block.
+// A walk on its way: how many moves were made, the prefix that is kept, and the metric.
 #[derive(Clone, Copy)]
 struct Steps {
-    spent: usize,
     tried: usize,
-    kept: usize,
-    low: u32,
-    heaviest: u64,
+    prefix: Prefix,
     total: u32,
 }
 
@@ -42,27 +38,34 @@ fn next_move(
     gains: &[i32],
     index: &mut [u16],
     blocks: &[u16],
-    weights: &[u32],
-    loads: &[u64; 16],
+    board: Board<'_>,
     ceilings: &[u64; 16],
+    loads: &[u64; 16],
     marks: &[u64; 48],
     peaks: &[i32; 1040],
-    n: usize,
-    k: usize,
     tried: usize,
     kept: usize,
-) -> Pick
-    requires kept_le_tried { (kept ≤ tried) × (tried ≤ 1024) × SearchOk (length gains.now) (length blocks.now) (length weights.now) (length marks.now) n k }
-    requires peaked { Peaked gains.now peaks.now n k }
-    requires index_ok { IndexOk (length index.old) marks.now blocks.now n k }
-    ensures chosen { Chosen (gain_in gains.now) n k result (next_of gains.now blocks.now weights.now loads.now ceilings.now marks.now n k tried kept) }
-    ensures kept { Kept n k index.old index.new }
+) -> Option<Move>
+    requires kept_le_tried { (kept ≤ tried) × (tried ≤ 1024) × SearchOk (length gains.now) (length blocks.now) (length board.weights.now) (length marks.now) board.n board.k }
+    requires peaked { Peaked gains.now peaks.now board.n board.k }
+    requires index_ok { IndexOk (length index.old) marks.now blocks.now board.n board.k }
+    ensures chosen { Chosen (gain_in gains.now) board.entry.n board.entry.k result (next_of gains.now blocks.now board.entry.weights.now loads.now ceilings.now marks.now board.entry.n board.entry.k tried kept) }
+    ensures kept { Kept board.entry.n board.entry.k index.old index.new }
 {
     if kept + 25 <= tried {
-        return Pick::Nothing;
+        return None;
     }
     best_open(
-        gains, index, blocks, weights, loads, ceilings, marks, peaks, n, k,
+        gains,
+        index,
+        blocks,
+        board.weights,
+        loads,
+        ceilings,
+        marks,
+        peaks,
+        board.n,
+        board.k,
     )
 }
 
@@ -77,82 +80,52 @@ fn make_move(
     peaks: &mut [i32; 1040],
     movers: &mut [u16; 1024],
     origins: &mut [u16; 1024],
-    presentpins: &[u16],
-    presentsizes: &[u16],
-    bits: &[u64],
-    weights: &[u32],
-    netweights: &[u16],
-    firsts: &[u16],
+    board: Board<'_>,
     rows: &[u64],
     limit: u16,
-    n: usize,
-    m: usize,
-    k: usize,
     v: u16,
     b: u16,
     s: Steps,
 ) -> Steps
     requires take_ok { TakeOk
-        (lent counts.old visited.old gains.old blocks.old loads.old presentpins.now presentsizes.now bits.now weights.now netweights.now firsts.now n m k s.total)
-        (locals marks.old movers.old origins.old s.tried s.kept s.low s.heaviest) s.spent v b }
-    requires peaked { Peaked gains.old peaks.old n k }
-    requires rows_past { RowsPast rows.now presentpins.now firsts.now presentsizes.now limit m }
+        (lent_on counts.old visited.old gains.old blocks.old loads.old board s.total)
+        (locals marks.old movers.old origins.old s.tried s.prefix.kept s.prefix.low s.prefix.heaviest) s.tried v b }
+    requires peaked { Peaked gains.old peaks.old board.n board.k }
+    requires rows_past { RowsPast rows.now board.presentpins.now board.firsts.now board.presentsizes.now limit board.m }
     ensures by_index { (aboves loadedsizes : List ℕ) → Took
-        (lent counts.old visited.old gains.old blocks.old loads.old presentpins.now presentsizes.now bits.now weights.now netweights.now firsts.now n m k s.total aboves loadedsizes)
-        (locals marks.old movers.old origins.old s.tried s.kept s.low s.heaviest) s.spent v b
-        (lent counts.new visited.new gains.new blocks.new loads.new presentpins.now presentsizes.now bits.now weights.now netweights.now firsts.now n m k result.total aboves loadedsizes)
-        (locals marks.new movers.new origins.new result.tried result.kept result.low result.heaviest) result.spent }
-    ensures peaked_2 { Peaked gains.new peaks.new n k }
+        (lent_on counts.old visited.old gains.old blocks.old loads.old board.entry s.total aboves loadedsizes)
+        (locals marks.old movers.old origins.old s.tried s.prefix.kept s.prefix.low s.prefix.heaviest) s.tried v b
+        (lent_on counts.new visited.new gains.new blocks.new loads.new board.entry result.total aboves loadedsizes)
+        (locals marks.new movers.new origins.new result.tried result.prefix.kept result.prefix.low result.prefix.heaviest) result.tried }
+    ensures peaked_2 { Peaked gains.new peaks.new board.entry.n board.entry.k }
 {
-    let x = index(v) - 1;
+    let x = usize::from(v) - 1;
     let at = s.tried;
     let made = at + 1;
     movers[at] = v;
     origins[at] = blocks[x];
     let total = shift(
-        counts,
-        visited,
-        gains,
-        blocks,
-        loads,
-        peaks,
-        presentpins,
-        presentsizes,
-        bits,
-        weights,
-        netweights,
-        firsts,
-        n,
-        m,
-        k,
-        s.total,
-        x,
-        b,
+        counts, visited, gains, blocks, loads, peaks, board, s.total, x, b,
     );
     spread(
         marks,
-        bits,
+        board.bits,
         rows,
         limit,
-        presentpins,
-        firsts,
-        presentsizes,
-        m,
+        board.presentpins,
+        board.firsts,
+        board.presentsizes,
+        board.m,
         x,
     );
-    let heavy = heaviest(loads, k);
-    let p = keep(made, total, heavy, s.kept, s.low, s.heaviest);
     Steps {
-        spent: s.spent + 1,
         tried: made,
-        kept: p.kept,
-        low: p.low,
-        heaviest: p.heaviest,
-        total: total,
+        prefix: keep(made, total, heaviest(loads, board.k), s.prefix),
+        total,
     }
 }
 
-// A turn of the walk: the next move, or the walk's end.
+// A turn of the walk: makes the next move, and answers whether there was one. In the contract a turn without a move counts as the last one, `n`.
 fn advance(
     counts: &mut [u16],
     visited: &mut [u16],
@@ -164,70 +137,59 @@ fn advance(
     peaks: &mut [i32; 1040],
     movers: &mut [u16; 1024],
     origins: &mut [u16; 1024],
-    presentpins: &[u16],
-    presentsizes: &[u16],
-    bits: &[u64],
-    weights: &[u32],
-    netweights: &[u16],
-    firsts: &[u16],
+    board: Board<'_>,
     rows: &[u64],
     limit: u16,
     ceilings: &[u64; 16],
-    n: usize,
-    m: usize,
-    k: usize,
-    s: Steps,
-) -> Steps
+    s: &mut Steps,
+) -> bool
     requires turn_ok { TurnOk
-        (lent counts.old visited.old gains.old blocks.old loads.old presentpins.now presentsizes.now bits.now weights.now netweights.now firsts.now n m k s.total)
-        (locals marks.old movers.old origins.old s.tried s.kept s.low s.heaviest) s.spent }
-    requires peaked { Peaked gains.old peaks.old n k }
-    requires n_in_bounds { 16 * n ≤ length index.old }
-    requires rows_past { RowsPast rows.now presentpins.now firsts.now presentsizes.now limit m }
+        (lent_on counts.old visited.old gains.old blocks.old loads.old board s.old.total)
+        (locals marks.old movers.old origins.old s.old.tried s.old.prefix.kept s.old.prefix.low s.old.prefix.heaviest) s.old.tried }
+    requires peaked { Peaked gains.old peaks.old board.n board.k }
+    requires n_in_bounds { 16 * board.n ≤ length index.old }
+    requires rows_past { RowsPast rows.now board.presentpins.now board.firsts.now board.presentsizes.now limit board.m }
     ensures by_index { (aboves loadedsizes : List ℕ) → Turned
-        (lent counts.old visited.old gains.old blocks.old loads.old presentpins.now presentsizes.now bits.now weights.now netweights.now firsts.now n m k s.total aboves loadedsizes)
-        (locals marks.old movers.old origins.old s.tried s.kept s.low s.heaviest) ceilings.now s.spent
-        (lent counts.new visited.new gains.new blocks.new loads.new presentpins.now presentsizes.now bits.now weights.now netweights.now firsts.now n m k result.total aboves loadedsizes)
-        (locals marks.new movers.new origins.new result.tried result.kept result.low result.heaviest) result.spent }
-    ensures peaked_2 { Peaked gains.new peaks.new n k }
-    ensures kept { Kept n k index.old index.new }
+        (lent_on counts.old visited.old gains.old blocks.old loads.old board.entry s.old.total aboves loadedsizes)
+        (locals marks.old movers.old origins.old s.old.tried s.old.prefix.kept s.old.prefix.low s.old.prefix.heaviest) ceilings.now s.old.tried
+        (lent_on counts.new visited.new gains.new blocks.new loads.new board.entry s.new.total aboves loadedsizes)
+        (locals marks.new movers.new origins.new s.new.tried s.new.prefix.kept s.new.prefix.low s.new.prefix.heaviest) (cond result s.new.tried board.entry.n) }
+    ensures peaked_2 { Peaked gains.new peaks.new board.entry.n board.entry.k }
+    ensures kept { Kept board.entry.n board.entry.k index.old index.new }
 {
     match next_move(
-        gains, index, blocks, weights, loads, ceilings, marks, peaks, n, k, s.tried, s.kept,
+        gains,
+        index,
+        blocks,
+        board,
+        ceilings,
+        loads,
+        marks,
+        peaks,
+        s.tried,
+        s.prefix.kept,
     ) {
-        Pick::Nothing => Steps {
-            spent: n,
-            tried: s.tried,
-            kept: s.kept,
-            low: s.low,
-            heaviest: s.heaviest,
-            total: s.total,
-        },
-        Pick::Move { vertex, block } => make_move(
-            counts,
-            visited,
-            gains,
-            blocks,
-            loads,
-            marks,
-            peaks,
-            movers,
-            origins,
-            presentpins,
-            presentsizes,
-            bits,
-            weights,
-            netweights,
-            firsts,
-            rows,
-            limit,
-            n,
-            m,
-            k,
-            vertex,
-            block,
-            s,
-        ),
+        None => false,
+        Some(best) => {
+            *s = make_move(
+                counts,
+                visited,
+                gains,
+                blocks,
+                loads,
+                marks,
+                peaks,
+                movers,
+                origins,
+                board,
+                rows,
+                limit,
+                best.vertex,
+                best.block,
+                *s,
+            );
+            true
+        }
     }
 }
 
@@ -238,49 +200,39 @@ fn rewind(
     gains: &mut [i32],
     blocks: &mut [u16],
     loads: &mut [u64; 16],
-    presentpins: &[u16],
-    presentsizes: &[u16],
-    bits: &[u64],
-    weights: &[u32],
-    netweights: &[u16],
-    firsts: &[u16],
+    board: Board<'_>,
     movers: &[u16; 1024],
     origins: &[u16; 1024],
-    n: usize,
-    m: usize,
-    k: usize,
     total: u32,
     tried: usize,
     kept: usize,
 ) -> u32
     requires { RewindOk
-        (lent counts.old visited.old gains.old blocks.old loads.old presentpins.now presentsizes.now bits.now weights.now netweights.now firsts.now n m k total)
+        (lent_on counts.old visited.old gains.old blocks.old loads.old board total)
         movers.now origins.now tried kept }
     ensures { (aboves loadedsizes : List ℕ) → Rewinds
-        (lent counts.old visited.old gains.old blocks.old loads.old presentpins.now presentsizes.now bits.now weights.now netweights.now firsts.now n m k total aboves loadedsizes)
+        (lent_on counts.old visited.old gains.old blocks.old loads.old board.entry total aboves loadedsizes)
         movers.now origins.now tried kept
-        (lent counts.new visited.new gains.new blocks.new loads.new presentpins.now presentsizes.now bits.now weights.now netweights.now firsts.now n m k result aboves loadedsizes) }
+        (lent_on counts.new visited.new gains.new blocks.new loads.new board.entry result aboves loadedsizes) }
 {
     let mut t = total;
-    let mut j = tried;
-    while kept < j {
-        j -= 1;
-        let x = index(movers[j]) - 1;
+    for j in (kept..tried).rev() {
+        let x = usize::from(movers[j]) - 1;
         t = back(
             counts,
             visited,
             gains,
             blocks,
             loads,
-            presentpins,
-            presentsizes,
-            bits,
-            weights,
-            netweights,
-            firsts,
-            n,
-            m,
-            k,
+            board.presentpins,
+            board.presentsizes,
+            board.bits,
+            board.weights,
+            board.netweights,
+            board.firsts,
+            board.n,
+            board.m,
+            board.k,
             t,
             x,
             origins[j],
@@ -327,6 +279,17 @@ pub fn walk(
         result.tried result.kept }
     ensures kept { Kept n k index.old index.new }
 {
+    let board = Board {
+        presentpins,
+        presentsizes,
+        bits,
+        weights,
+        netweights,
+        firsts,
+        n,
+        m,
+        k,
+    };
     let mut marks = fixedmarks;
     mark_vertex(&mut marks, u);
     mark_vertex(&mut marks, v);
@@ -335,15 +298,17 @@ pub fn walk(
     let mut movers = [0u16; 1024];
     let mut origins = [0u16; 1024];
     let mut s = Steps {
-        spent: 0,
         tried: 0,
-        kept: 0,
-        low: total,
-        heaviest: heaviest(loads, k),
-        total: total,
+        prefix: Prefix {
+            kept: 0,
+            low: total,
+            heaviest: heaviest(loads, k),
+        },
+        total,
     };
-    while s.spent < n {
-        s = advance(
+    // No for: a turn without a move ends the walk.
+    'turns: while s.tried < n
+        && advance(
             counts,
             visited,
             gains,
@@ -354,46 +319,29 @@ pub fn walk(
             &mut peaks,
             &mut movers,
             &mut origins,
-            presentpins,
-            presentsizes,
-            bits,
-            weights,
-            netweights,
-            firsts,
+            board,
             rows,
             limit,
             ceilings,
-            n,
-            m,
-            k,
-            s,
-        );
-    }
-    let tried = s.tried;
+            &mut s,
+        )
+    {}
     let t = rewind(
         counts,
         visited,
         gains,
         blocks,
         loads,
-        presentpins,
-        presentsizes,
-        bits,
-        weights,
-        netweights,
-        firsts,
+        board,
         &movers,
         &origins,
-        n,
-        m,
-        k,
         s.total,
-        tried,
-        s.kept,
+        s.tried,
+        s.prefix.kept,
     );
     Walked {
-        tried: tried,
-        kept: s.kept,
+        tried: s.tried,
+        kept: s.prefix.kept,
         total: t,
     }
 }

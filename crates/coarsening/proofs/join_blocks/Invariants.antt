@@ -5,7 +5,4 @@ use Rattle.coarsening.specs.Own.{OwnBlocks, own-none, own-more, own-all}
 use Rattle.coarsening.proofs.join_blocks.Given as goal
 
 abbrev pub invariant-loop-i : goal.invariant-loop-i
-invariant-loop-i l = OwnBlocks (λ y. eqb (on l.fixedmarks 1 y) 1) l.blocks l.i l.joinblocks × (l.i ≤ l.n) × (l.n ≤ 1024) × (l.n ≤ length l.blocks) × (length l.fixedmarks ≡ 48)
-
-abbrev pub decreases-loop-i : goal.decreases-loop-i
-decreases-loop-i l = l.n - l.i
+invariant-loop-i l = OwnBlocks (λ y. eqb (on l.fixedmarks 1 y) 1) l.blocks l.i l.joinblocks

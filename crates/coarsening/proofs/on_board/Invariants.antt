@@ -4,7 +4,4 @@ use Rattle.coarsening.specs.Coarsen.{board_in, board-none, board-more, board-all
 use Rattle.coarsening.proofs.on_board.Given as goal
 
 abbrev pub invariant-loop-i : goal.invariant-loop-i
-invariant-loop-i l = (l.board ≡ board_in l.blocks l.i) × (l.i ≤ l.n) × (l.n ≤ 1024) × (l.n ≤ length l.blocks) × (l.board ≤ l.i)
-
-abbrev pub decreases-loop-i : goal.decreases-loop-i
-decreases-loop-i l = l.n - l.i
+invariant-loop-i l = (l.board ≡ board_in l.blocks l.i) × (l.board ≤ l.i)

@@ -23,10 +23,6 @@ pub bounds-bounds-i : goal.bounds-bounds-i
 bounds-bounds-i c =
     omega (arith, c.requires.tables_ok.vertices, c.loop-i.invariant.1.len)
 
-pub overflow_add-i-in-loop-i : goal.overflow_add-i-in-loop-i
-overflow_add-i-in-loop-i c =
-    omega (arith, c.requires.tables_ok.vertices)
-
 pub loop-i-preserved : goal.loop-i-preserved
 loop-i-preserved c =
     let a = c.args in

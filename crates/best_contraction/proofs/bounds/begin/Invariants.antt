@@ -6,6 +6,3 @@ use Rattle.best_contraction.proofs.bounds.begin.Given as goal
 
 abbrev pub invariant-loop-i : goal.invariant-loop-i
 invariant-loop-i l = (l.i ≤ l.n) × OwnSums l.bits l.presentsizes l.net_weights l.m l.i l.bounds
-
-abbrev pub decreases-loop-i : goal.decreases-loop-i
-decreases-loop-i l = l.n - l.i

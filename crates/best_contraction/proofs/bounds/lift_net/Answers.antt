@@ -24,34 +24,34 @@ bounds-presentpins-first c =
 
 pub offset_bounds-bounds-y : goal.offset_bounds-bounds-y
 offset_bounds-bounds-y c =
-    omega (arith, c.index-y.ensures, c.requires.take_ok.pin c.loop-i.i (omega arith))
+    omega (arith, c.from-y.ensures, c.requires.take_ok.pin c.loop-i.i (omega arith))
 
 pub bounds-bounds-y : goal.bounds-bounds-y
 bounds-bounds-y c =
-    omega (arith, c.loop-i.invariant.1.len, c.index-y.ensures, c.requires.take_ok.pin c.loop-i.i (omega arith))
+    omega (arith, c.loop-i.invariant.1.len, c.from-y.ensures, c.requires.take_ok.pin c.loop-i.i (omega arith))
 
 pub share-requires : goal.share-requires
 share-requires c =
-    omega (arith, c.index-y.ensures, c.requires.take_ok.pin c.loop-i.i (omega arith))
+    omega (arith, c.from-y.ensures, c.requires.take_ok.pin c.loop-i.i (omega arith))
 
 pub raised-requires : goal.raised-requires
 raised-requires c =
     let a = c.args in
-    share-small a.blocks.now a.u a.own a.near a.far c.index-y.result c.share.result c.requires.near_bound.0 c.requires.near_bound.1 c.share.ensures
+    share-small a.blocks.now a.u a.own a.near a.far c.from-y.result c.share.result c.requires.near_bound.0 c.requires.near_bound.1 c.share.ensures
 
 pub offset_bounds-bounds-y-in-loop-i : goal.offset_bounds-bounds-y-in-loop-i
 offset_bounds-bounds-y-in-loop-i c =
-    omega (arith, c.index-y.ensures, c.requires.take_ok.pin c.loop-i.i (omega arith))
+    omega (arith, c.from-y.ensures, c.requires.take_ok.pin c.loop-i.i (omega arith))
 
 pub bounds-bounds-y-in-loop-i : goal.bounds-bounds-y-in-loop-i
 bounds-bounds-y-in-loop-i c =
-    omega (arith, c.loop-i.invariant.1.len, c.index-y.ensures, c.requires.take_ok.pin c.loop-i.i (omega arith))
+    omega (arith, c.loop-i.invariant.1.len, c.from-y.ensures, c.requires.take_ok.pin c.loop-i.i (omega arith))
 
 pub loop-i-preserved : goal.loop-i-preserved
 loop-i-preserved c =
     let a = c.args in
     let l = c.loop-i in
-    (omega arith, lift-more a.presentpins.now a.first (rise_at a.blocks.now a.u a.own a.near a.far) a.bounds.now l.bounds l.i c.index-y.result c.share.result _ l.invariant.1 c.index-y.ensures (omega (arith, c.index-y.ensures, c.requires.take_ok.pin l.i (omega arith))) c.share.ensures c.raised.ensures)
+    (omega arith, lift-more a.presentpins.now a.first (rise_at a.blocks.now a.u a.own a.near a.far) a.bounds.now l.bounds l.i c.from-y.result c.share.result _ l.invariant.1 c.from-y.ensures (omega (arith, c.from-y.ensures, c.requires.take_ok.pin l.i (omega arith))) c.share.ensures c.raised.ensures)
 
 pub returns : goal.returns
 returns c =

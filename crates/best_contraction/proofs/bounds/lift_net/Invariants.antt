@@ -7,6 +7,3 @@ use Rattle.best_contraction.proofs.bounds.lift_net.Given as goal
 
 abbrev pub invariant-loop-i : goal.invariant-loop-i
 invariant-loop-i l = (l.i ≤ l.n) × Risen l.initial.bounds l.bounds (λ z. occ l.presentpins l.first l.i z * rise_at l.blocks l.u l.own l.near l.far z)
-
-abbrev pub decreases-loop-i : goal.decreases-loop-i
-decreases-loop-i l = l.n - l.i

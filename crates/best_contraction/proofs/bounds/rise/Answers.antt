@@ -6,7 +6,7 @@ use Rattle.best_contraction.proofs.bounds.rise.Goals as goal
 
 pub returns-then-both : goal.returns-then-both
 returns-then-both c =
-    let h : ((c.excess-more.result ≡ near_rise c.args.both c.args.w c.args.n) × (c.excess-more.result ≡ far_rise c.args.both c.args.w c.args.n)) × ((c.excess-more.result ≤ 536870912) × (c.excess-more.result ≤ 536870912)) = rise-both _ _ _ c.term-t.result c.fewer.result c.term.result _ c.if-both.true c.term-t.ensures.0 c.fewer.ensures c.term.ensures.0 c.term.ensures.1 c.excess-more.ensures in
+    let h : ((c.saturating_sub-more.result ≡ near_rise c.args.both c.args.w c.args.n) × (c.saturating_sub-more.result ≡ far_rise c.args.both c.args.w c.args.n)) × ((c.saturating_sub-more.result ≤ 536870912) × (c.saturating_sub-more.result ≤ 536870912)) = rise-both _ _ _ c.term-t.result c.saturating_sub.result c.term.result _ c.if-both.true c.term-t.ensures.0 c.saturating_sub.ensures c.term.ensures.0 c.term.ensures.1 c.saturating_sub-more.ensures in
     record { near_value = h.0; near_bound = h.1 }
 
 pub returns : goal.returns

@@ -15,9 +15,6 @@ offset_bounds-acc-i c = omega (arith, c.requires)
 pub bounds-acc-i : goal.bounds-acc-i
 bounds-acc-i c = omega (arith, c.requires, c.loop-i.invariant.1.len)
 
-pub overflow_add-i : goal.overflow_add-i
-overflow_add-i c = omega (arith, c.requires)
-
 pub loop-i-preserved : goal.loop-i-preserved
 loop-i-preserved c =
     let l = c.loop-i in

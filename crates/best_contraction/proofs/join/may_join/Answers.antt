@@ -21,4 +21,4 @@ returns-then-limit-a c =
 pub returns : goal.returns
 returns c =
     let a = c.args in
-    fits-left a.blocks.now a.weights.now a.u a.own a.a a.limit a.y c.long.result (omega (arith, c.if-y-u.false)) c.if-blocks-y.false c.if-limit-a.false c.long.ensures
+    fits-left a.blocks.now a.weights.now a.u a.own a.a a.limit a.y c.from.result (omega (arith, c.if-y-u.false)) c.if-blocks-y.false c.if-limit-a.false c.from.ensures

@@ -6,6 +6,3 @@ use Rattle.best_contraction.proofs.join.weigh_to.Given as goal
 
 abbrev pub invariant-loop-y : goal.invariant-loop-y
 invariant-loop-y l = (l.y ≤ l.to) × (l.best ≡ top_to (score_in (fits l.blocks l.weights l.u l.own l.a l.limit) (λ z. get_or l.acc z 0)) l.y)
-
-abbrev pub decreases-loop-y : goal.decreases-loop-y
-decreases-loop-y l = l.to - l.y

@@ -1,27 +1,25 @@
-use Rattle.std.proofs.Common.{ℕ, ◌≤◌, ◌-◌, ◌*◌, arith, ◌≡◌, subst}
-use Rattle.best_contraction.specs.Rating.{lesser, row_of, Holds}
-use Rattle.best_contraction.specs.RatingLaw.{row-none}
+use Rattle.std.proofs.Common.{arith}
+use Rattle.incidence.specs.On.{along-next, gave}
+use Rattle.best_contraction.specs.RatingLaw.{row-first, row-stretch, row_more}
 use Rattle.best_contraction.proofs.rating.accumulate.Goals as goal
 
-pub loop-c-init : goal.loop-c-init
-loop-c-init c =
+pub loop-e-init : goal.loop-e-init
+loop-e-init c =
     let a = c.args in
-    let e : 0 ≡ lesser (64 * 0) a.m = omega arith in
-    (omega arith, subst (λ (k : ℕ). Holds a.acc.now (row_of a.bits.now a.presentpins.now a.firsts.now a.presentsizes.now a.net_weights.now a.u k)) e (row-none a.bits.now a.presentpins.now a.firsts.now a.presentsizes.now a.net_weights.now a.u a.m c.requires.row_ok a.acc.now c.requires.blank.0))
+    let s = c.nets_of-e-items.ensures in
+    rw c.into_iter-e-iterator.ensures.into_iter_gives (s.along, row-first a.bits.now a.presentpins.now a.firsts.now a.presentsizes.now a.net_weights.now a.u a.m c.requires.row_ok a.acc.now _ c.requires.blank.0 s.first)
 
-pub add_word-requires : goal.add_word-requires
-add_word-requires c =
+pub add_net-requires : goal.add_net-requires
+add_net-requires c =
     let a = c.args in
-    let l = c.loop-c in
-    let e : lesser (64 * l.c) a.m ≡ 64 * l.c = omega arith in record { row_ok = (c.requires.row_ok, c.requires.blank.1, c.requires.blank.2, omega arith); holds = subst (λ (k : ℕ). Holds l.acc (row_of a.bits.now a.presentpins.now a.firsts.now a.presentsizes.now a.net_weights.now a.u k)) e l.invariant.1 }
+    let g = c.in-Some.ensures.steps in
+    let e = gave c.loop-e.invariant.0 g in
+    record { stretch_ok = row-stretch a.bits.now a.presentpins.now a.firsts.now a.presentsizes.now a.net_weights.now a.u a.m c.requires.row_ok c.loop-e.acc c.in-Some.e _ _ e.below (rw g.here at c.loop-e.invariant.1) c.from.ensures c.from-in-loop-e.ensures; t_bound = c.term.ensures.1 }
 
-pub loop-c-preserved : goal.loop-c-preserved
-loop-c-preserved c =
-    (omega (arith, c.requires.row_ok.nets), c.add_word.ensures)
-
-pub returns : goal.returns
-returns c =
+pub loop-e-preserved : goal.loop-e-preserved
+loop-e-preserved c =
     let a = c.args in
-    let l = c.loop-c in
-    let e : lesser (64 * l.c) a.m ≡ a.m = omega arith in
-    subst (λ (k : ℕ). Holds l.acc (row_of a.bits.now a.presentpins.now a.firsts.now a.presentsizes.now a.net_weights.now a.u k)) e l.invariant.1
+    let I = c.loop-e.invariant in
+    let g = c.in-Some.ensures.steps in
+    let e = gave I.0 g in
+    (along-next I.0 g, row_more a.bits.now a.presentpins.now a.firsts.now a.presentsizes.now a.net_weights.now a.u a.m c.requires.row_ok c.loop-e.acc _ c.in-Some.e a.m _ _ _ _ (rw g.here at I.1) e.here c.from.ensures c.from-in-loop-e.ensures c.term.ensures.0 c.add_net.ensures e.next)

@@ -20,39 +20,39 @@ bounds-presentpins-first c =
 
 pub offset_bounds-acc-y : goal.offset_bounds-acc-y
 offset_bounds-acc-y c =
-    omega (arith, c.index-y.ensures, c.requires.stretch_ok.pin c.loop-i.i (omega arith))
+    omega (arith, c.from-y.ensures, c.requires.stretch_ok.pin c.loop-i.i (omega arith))
 
 pub bounds-acc-y : goal.bounds-acc-y
 bounds-acc-y c =
     let a = c.args in
     let p = c.requires in
     let l = c.loop-i in
-    (net-room a.acc.now a.presentpins.now a.first a.n a.t p.stretch_ok p.t_bound l.acc l.i c.index-y.result (omega arith) l.invariant.1 c.index-y.ensures).0
+    (net-room a.acc.now a.presentpins.now a.first a.n a.t p.stretch_ok p.t_bound l.acc l.i c.from-y.result (omega arith) l.invariant.1 c.from-y.ensures).0
 
 pub overflow_add-acc : goal.overflow_add-acc
 overflow_add-acc c =
     let a = c.args in
     let p = c.requires in
     let l = c.loop-i in
-    omega (arith, net-room a.acc.now a.presentpins.now a.first a.n a.t p.stretch_ok p.t_bound l.acc l.i c.index-y.result (omega arith) l.invariant.1 c.index-y.ensures)
+    omega (arith, net-room a.acc.now a.presentpins.now a.first a.n a.t p.stretch_ok p.t_bound l.acc l.i c.from-y.result (omega arith) l.invariant.1 c.from-y.ensures)
 
 pub offset_bounds-acc-y-in-loop-i : goal.offset_bounds-acc-y-in-loop-i
 offset_bounds-acc-y-in-loop-i c =
-    omega (arith, c.index-y.ensures, c.requires.stretch_ok.pin c.loop-i.i (omega arith))
+    omega (arith, c.from-y.ensures, c.requires.stretch_ok.pin c.loop-i.i (omega arith))
 
 pub bounds-acc-y-in-loop-i : goal.bounds-acc-y-in-loop-i
 bounds-acc-y-in-loop-i c =
     let a = c.args in
     let p = c.requires in
     let l = c.loop-i in
-    (net-room a.acc.now a.presentpins.now a.first a.n a.t p.stretch_ok p.t_bound l.acc l.i c.index-y.result (omega arith) l.invariant.1 c.index-y.ensures).0
+    (net-room a.acc.now a.presentpins.now a.first a.n a.t p.stretch_ok p.t_bound l.acc l.i c.from-y.result (omega arith) l.invariant.1 c.from-y.ensures).0
 
 pub loop-i-preserved : goal.loop-i-preserved
 loop-i-preserved c =
     let a = c.args in
     let p = c.requires in
     let l = c.loop-i in
-    (omega arith, net-more a.acc.now a.presentpins.now a.first a.n a.t p.stretch_ok p.t_bound l.acc l.i c.index-y.result (omega arith) l.invariant.1 c.index-y.ensures)
+    (omega arith, net-more a.acc.now a.presentpins.now a.first a.n a.t p.stretch_ok p.t_bound l.acc l.i c.from-y.result (omega arith) l.invariant.1 c.from-y.ensures)
 
 pub returns : goal.returns
 returns c =

@@ -7,6 +7,3 @@ use Rattle.best_contraction.proofs.rating.add_net.Given as goal
 
 abbrev pub invariant-loop-i : goal.invariant-loop-i
 invariant-loop-i l = (l.i ≤ l.n) × Raised l.initial.acc l.acc (λ z. l.t * occ l.presentpins l.first l.i z)
-
-abbrev pub decreases-loop-i : goal.decreases-loop-i
-decreases-loop-i l = l.n - l.i

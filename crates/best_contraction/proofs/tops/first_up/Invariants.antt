@@ -5,6 +5,3 @@ use Rattle.best_contraction.proofs.tops.first_up.Given as goal
 
 abbrev pub invariant-loop-y : goal.invariant-loop-y
 invariant-loop-y l = (l.from < l.y) × (l.y ≤ l.to) × ((x : ℕ) → l.from < x → x < l.y → get_or l.bounds x 0 < l.top)
-
-abbrev pub decreases-loop-y : goal.decreases-loop-y
-decreases-loop-y l = l.to - l.y

@@ -6,6 +6,3 @@ use Rattle.best_contraction.proofs.tops.highest_part.Given as goal
 
 abbrev pub invariant-loop-i : goal.invariant-loop-i
 invariant-loop-i l = (1 ≤ l.i) × (l.i ≤ l.parts) × Highest l.tops l.i l.top.part × (l.top.bound ≡ get_or l.tops l.top.part 0)
-
-abbrev pub decreases-loop-i : goal.decreases-loop-i
-decreases-loop-i l = l.parts - l.i

@@ -1,18 +1,22 @@
-use Rattle.std.proofs.Common.{◌≤◌, ◌-◌, ◌+◌, arith, rules}
-use Rattle.best_contraction.specs.PartTop.{TopOf, top-none, top-join}
+use Rattle.std.proofs.Common.{arith, ◌+◌, ◌-◌, ◌*◌, ◌/◌, ◌≡◌}
+use Rattle.best_contraction.specs.PartTop.{larger-max, top-none, top-join}
 use Rattle.best_contraction.proofs.tops.part_top.Goals as goal
 
-pub loop-y-init : goal.loop-y-init
-loop-y-init c = (omega arith, c.requires.1, top-none c.args.bounds.now c.args.from)
+pub loop-i-init : goal.loop-i-init
+loop-i-init c =
+    let e : c.args.from + 0 ≡ c.args.from = omega arith in
+    rw e (top-none c.args.bounds.now c.args.from)
 
-pub loop-y-preserved : goal.loop-y-preserved
-loop-y-preserved c =
-    let l = c.loop-y in
+pub loop-i-preserved : goal.loop-i-preserved
+loop-i-preserved c =
+    let l = c.loop-i in
     let a = c.args in
-    (omega arith, omega arith, top-join a.bounds.now a.from l.y (l.y + 4) _ _ _ (omega arith) (omega arith) l.invariant.2 c.four_top.ensures c.larger-top.ensures)
+    let e : a.from + 4 * l.i + 4 ≡ a.from + 4 * (l.i + 1) = omega arith in
+    rw e at (top-join a.bounds.now a.from (a.from + 4 * l.i) (a.from + 4 * l.i + 4) _ _ _ (omega arith) (omega arith) l.invariant c.four_top.ensures (larger-max _ _ _ c.max-top.ensures))
 
 pub returns : goal.returns
 returns c =
-    let l = c.loop-y in
+    let l = c.loop-i in
     let a = c.args in
-    top-join a.bounds.now a.from l.y a.to _ _ _ l.invariant.0 l.invariant.1 l.invariant.2 c.rest_top.ensures c.larger.ensures
+    let e : l.i ≡ (a.to - a.from) / 4 = omega arith in
+    top-join a.bounds.now a.from _ a.to _ _ _ (omega arith) (omega arith) (rw e at l.invariant) c.rest_top.ensures (larger-max _ _ _ c.max.ensures)

@@ -1,8 +1,8 @@
 -- `best_open`: one part more.
-use Rattle.std.proofs.Common.{arith, ◌≡◌, sym, ap, ◌∙◌, subst, rules, ℕ, ◌≤◌, ◌-◌, ◌+◌, ◌*◌}
+use Rattle.std.proofs.Common.{Option, arith, ◌≡◌, sym, ap, ◌∙◌, subst, rules, ℕ, ◌≤◌, ◌-◌, ◌+◌, ◌*◌}
 use Rattle.model.specs.Search.{best_pair}
 use Rattle.index.specs.Indexed.{Kept, kept-none, kept_then}
-use Rattle.best_move.specs.declared.open.Pick.{Pick}
+use Rattle.best_move.specs.declared.open.Move.{Move}
 use Rattle.best_move.specs.Open.{Leads, Chosen, best_to, gain_in, open_in}
 use Rattle.best_move.specs.OpenLaw.{no_lead, none_seen, lead-in, all-candidates}
 use Rattle.best_move.specs.Peak.{lesser}
@@ -11,7 +11,4 @@ use Rattle.best_move.proofs.open.best_open.Given as goal
 
 abbrev pub invariant-loop-c : goal.invariant-loop-c
 invariant-loop-c l =
-    (l.c ≤ 16) × Kept l.n l.k l.initial.index l.index × Rooms l.loads l.ceilings l.k l.rooms × Leads l.best (best_to (open_in l.candidates l.blocks l.weights l.loads l.ceilings) (gain_in l.gains) l.k (lesser (64 * l.c) l.n))
-
-abbrev pub decreases-loop-c : goal.decreases-loop-c
-decreases-loop-c l = l.n - 64 * l.c
+    Kept l.n l.k l.initial.index l.index × Rooms l.loads l.ceilings l.k l.rooms × Leads l.best (best_to (open_in l.candidates l.blocks l.weights l.loads l.ceilings) (gain_in l.gains) l.k (lesser (64 * l.c) l.n))

@@ -8,12 +8,12 @@ use Rattle.best_move.proofs.open.best_with.Goals as goal
 pub returns : goal.returns
 returns c =
     let a = c.args in
-    let own = c.index in
+    let own = c.from in
     let row = c.put_right.ensures in record {
       leads = λ b h.
           subst (λ (x : ℕ). Leads c.first_open.result (best_in_row (gain_in a.gains.now) (λ b. may_go (get_or a.loads.now (b - 1) 0) (get_or a.blocks.now a.i 0) x (get_or a.ceilings.now (b - 1) 0) b) (a.i + 1) a.k b))
-          c.long.ensures
-          (subst (λ (x : ℕ). Leads c.first_open.result (best_in_row (gain_in a.gains.now) (λ b. may_go (get_or a.loads.now (b - 1) 0) x c.long.result (get_or a.ceilings.now (b - 1) 0) b) (a.i + 1) a.k b))
+          c.from-2.ensures
+          (subst (λ (x : ℕ). Leads c.first_open.result (best_in_row (gain_in a.gains.now) (λ b. may_go (get_or a.loads.now (b - 1) 0) x c.from-2.result (get_or a.ceilings.now (b - 1) 0) b) (a.i + 1) a.k b))
           own.ensures (c.first_open.ensures b h));
       kept = kept_row (row_for a.gains.now a.blocks.now a.k a.i) (omega arith) row;
     }
@@ -27,7 +27,7 @@ pub first_open-requires : goal.first_open-requires
 first_open-requires c =
     let a = c.args in
     let ok = c.requires in
-    let own = c.index in
+    let own = c.from in
     let row = c.put_right.ensures in
     record {
       rows = record { x-to = ok.row.i-to; k-to = ok.row.k-to; in-index = omega (arith, ok.in-index, row.len); in-gains = omega (arith, ok.row.in-gains) };

@@ -1,7 +1,7 @@
-use Rattle.std.proofs.Common.{arith, ◌≤◌, ◌-◌, refl, subst, rules}
+use Rattle.std.proofs.Common.{arith, refl, subst, ◌∙◌, to_z, of_z, w64}
 use Rattle.laws.specs.Integer.{read32}
 use Rattle.best_move.specs.Open.{Leads}
-use Rattle.best_move.specs.OpenLaw.{read64}
+use Rattle.best_move.specs.OpenLaw.{read64, le-not-lt}
 use Rattle.guarantees.specs.Ranked.{ranked_by}
 use Rattle.index.specs.Row.{gain_at}
 use Rattle.best_move.specs.First.{Shut, goes, block-other, shut-more, first_found, first-low, first-missing}
@@ -15,13 +15,13 @@ block_at-b-requires c =
     let a = c.args in
     let o = block-other a.loads.now a.ceilings.now a.weight c.requires c.loop-j.j _ (omega arith) refl in record { x_in_bounds = (omega arith, omega arith); bound = (o.0, omega (arith, o.1)) }
 
-pub returns-then-not-is_above : goal.returns-then-not-is_above
-returns-then-not-is_above c =
+pub returns-then-from-top : goal.returns-then-from-top
+returns-then-from-top c =
     let l = c.loop-j in
-    let gain = c.is_above-arg-1.given in
+    let gain = c.from-arg-1.given in
     let a = c.args in
-    λ b h. first-low a.loads.now a.ceilings.now a.weight c.requires l.j _ (omega arith) c.block_at-b.ensures.is a.before b (read64 _ c.struct_told-1.given.1.0.1) (read32 _ gain) gain
-    c.is_above.ensures c.if-not-is_above.true l.invariant.1 h
+    λ b h. first-low a.loads.now a.ceilings.now a.weight c.requires l.j _ (omega arith) c.block_at-b.ensures.is a.before b (read64 _ c.struct_told-1.given.1.0.1) (read64 _ c.from.type_inv ∙ c.from.ensures ∙ read32 _ gain) gain
+    refl (le-not-lt (to_z w64 (of_z w64 c.from.result)) (to_z w64 (of_z w64 a.before.top)) c.if-from-top.true) l.invariant.1 h
 
 pub returns-then-has_space : goal.returns-then-has_space
 returns-then-has_space c =

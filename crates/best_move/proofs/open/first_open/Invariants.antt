@@ -11,6 +11,3 @@ use Rattle.best_move.proofs.open.first_open.Given as goal
 
 abbrev pub invariant-loop-j : goal.invariant-loop-j
 invariant-loop-j l = (l.j ≤ l.k) × Shut (goes l.loads l.ceilings l.own l.weight) (ranked_by (gain_at l.gains l.x) l.own l.k) l.j
-
-abbrev pub decreases-loop-j : goal.decreases-loop-j
-decreases-loop-j l = l.k - l.j

@@ -6,6 +6,3 @@ use Rattle.best_move.proofs.peaks.four_peak.Given as goal
 
 abbrev pub invariant-loop-x : goal.invariant-loop-x
 invariant-loop-x l = (l.x ≤ l.to) × Column l.gains l.from l.x l.b l.p0 × Column l.gains l.from l.x (l.b + 1) l.p1 × Column l.gains l.from l.x (l.b + 2) l.p2 × Column l.gains l.from l.x (l.b + 3) l.p3
-
-abbrev pub decreases-loop-x : goal.decreases-loop-x
-decreases-loop-x l = l.to - l.x

@@ -1,6 +1,6 @@
 use Rattle.std.proofs.Common.{arith, ◌≡◌, sym, subst, ℕ, ◌≤◌, ◌-◌, ◌+◌, ℤ, w32, of_z, to_z, to_z-of_z}
 use Rattle.laws.specs.Integer.{read32}
-use Rattle.best_move.specs.Peak.{RowPeak, row-begins, row-rises}
+use Rattle.best_move.specs.Peak.{larger_max, RowPeak, row-begins, row-rises}
 use Rattle.best_move.proofs.peaks.row_peak.Goals as goal
 
 pub loop-j-init : goal.loop-j-init
@@ -12,8 +12,8 @@ pub loop-j-preserved : goal.loop-j-preserved
 loop-j-preserved c =
     let a = c.args in (
       omega arith,
-      subst (λ (z : ℤ). RowPeak a.gains.now a.x (c.loop-j.j + 1) (to_z w32 (of_z w32 a.before)) z) (sym (read32 _ c.higher-peak.type_inv))
-          (row-rises a.gains.now a.x c.loop-j.j _ _ _ _ c.loop-j.invariant.1 (read32 _ c.higher-arg-1.given) c.higher-peak.ensures),
+      subst (λ (z : ℤ). RowPeak a.gains.now a.x (c.loop-j.j + 1) (to_z w32 (of_z w32 a.before)) z) (sym (read32 _ c.max-peak.type_inv))
+          (row-rises a.gains.now a.x c.loop-j.j _ _ _ _ c.loop-j.invariant.1 (read32 _ c.max-arg-1.given) (larger_max _ _ _ c.max-peak.ensures.value)),
     )
 
 pub returns : goal.returns

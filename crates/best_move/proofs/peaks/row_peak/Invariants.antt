@@ -6,6 +6,3 @@ use Rattle.best_move.proofs.peaks.row_peak.Given as goal
 
 abbrev pub invariant-loop-j : goal.invariant-loop-j
 invariant-loop-j l = (l.j ≤ l.k) × RowPeak l.gains l.x l.j l.before l.peak
-
-abbrev pub decreases-loop-j : goal.decreases-loop-j
-decreases-loop-j l = l.k - l.j

@@ -6,6 +6,3 @@ use Rattle.best_move.proofs.peaks.rows_peak.Given as goal
 
 abbrev pub invariant-loop-x : goal.invariant-loop-x
 invariant-loop-x l = (l.x ≤ l.to) × PartPeak l.gains l.from l.x l.k l.peak
-
-abbrev pub decreases-loop-x : goal.decreases-loop-x
-decreases-loop-x l = l.to - l.x

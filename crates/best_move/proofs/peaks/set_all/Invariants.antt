@@ -6,6 +6,3 @@ use Rattle.best_move.proofs.peaks.set_all.Given as goal
 
 abbrev pub invariant-loop-x : goal.invariant-loop-x
 invariant-loop-x l = (l.from ≤ l.x) × (l.x ≤ l.to) × Levelled l.from l.x l.peak l.initial.peaks l.peaks
-
-abbrev pub decreases-loop-x : goal.decreases-loop-x
-decreases-loop-x l = l.to - l.x

@@ -1,6 +1,6 @@
 use Rattle.std.proofs.Common.{arith, rules, ◌-◌, ◌≤◌, w32, to_z}
 use Rattle.laws.specs.Integer.{read32}
-use Rattle.best_move.specs.Peak.{PartSet, each-begins, each-rises, each-ends}
+use Rattle.best_move.specs.Peak.{larger_max, PartSet, each-begins, each-rises, each-ends}
 use Rattle.best_move.proofs.peaks.set_each.Goals as goal
 
 pub loop-x-init : goal.loop-x-init
@@ -18,7 +18,7 @@ loop-x-preserved c =
     let a = c.args in (
       omega (arith, l.invariant.0),
       omega arith,
-      each-rises a.gains.now a.from l.x a.k a.peaks.now l.peaks _ _ _ _ _ (omega (arith, c.requires)) l.invariant.0 l.invariant.2 c.part_peak-top.ensures (read32 _ c.part_peak-top.type_inv) (read32 _ c.higher-peak.type_inv) c.higher-peak.ensures,
+      each-rises a.gains.now a.from l.x a.k a.peaks.now l.peaks _ _ _ _ _ (omega (arith, c.requires)) l.invariant.0 l.invariant.2 c.part_peak-top.ensures (read32 _ c.part_peak-top.type_inv) (read32 _ c.max-peak.type_inv) (larger_max _ _ _ c.max-peak.ensures.value),
     )
 
 pub returns : goal.returns

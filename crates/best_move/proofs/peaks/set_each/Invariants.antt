@@ -6,6 +6,3 @@ use Rattle.best_move.proofs.peaks.set_each.Given as goal
 
 abbrev pub invariant-loop-x : goal.invariant-loop-x
 invariant-loop-x l = (l.from ≤ l.x) × (l.x ≤ l.to) × PartSet l.gains l.from l.x l.k l.initial.peaks l.peaks l.peak
-
-abbrev pub decreases-loop-x : goal.decreases-loop-x
-decreases-loop-x l = l.to - l.x

@@ -6,6 +6,3 @@ use Rattle.best_move.proofs.rising.measure.Given as goal
 
 abbrev pub invariant-loop-b : goal.invariant-loop-b
 invariant-loop-b l = (l.b ≤ l.k) × (l.k ≤ 16) × Rooms l.loads l.ceilings l.b l.rooms
-
-abbrev pub decreases-loop-b : goal.decreases-loop-b
-decreases-loop-b l = l.k - l.b

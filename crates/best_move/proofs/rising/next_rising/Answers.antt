@@ -2,7 +2,7 @@ use Rattle.std.proofs.Common.{arith, ◌≡◌, sym, subst, false, rules, ◌≤
 use Rattle.std.specs.Int.Signed.{lt_z}
 use Rattle.laws.specs.Integer.{read32}
 use Rattle.best_move.specs.Rising.{Passed}
-use Rattle.best_move.specs.RisingLaw.{passed_none, passed-more}
+use Rattle.best_move.specs.RisingLaw.{passed_none, passed-more, passed-end}
 use Rattle.best_move.proofs.rising.next_rising.Goals as goal
 
 pub loop-j-init : goal.loop-j-init
@@ -29,7 +29,7 @@ pub returns-then-rises : goal.returns-then-rises
 returns-then-rises c =
     let a = c.args in
     let l = c.loop-j in
-    subst (λ (z : ℤ). Passed a.gains.now a.blocks.now a.weights.now a.rooms.now a.word a.first a.size a.k z a.from l.j) (read32 a.low c.ranges.low.sfits) l.invariant.1
+    (omega arith, subst (λ (z : ℤ). Passed a.gains.now a.blocks.now a.weights.now a.rooms.now a.word a.first a.size a.k z a.from l.j) (read32 a.low c.ranges.low.sfits) l.invariant.1)
 
 pub loop-j-preserved : goal.loop-j-preserved
 loop-j-preserved c =
@@ -40,4 +40,4 @@ pub returns : goal.returns
 returns c =
     let a = c.args in
     let l = c.loop-j in
-    subst (λ (z : ℤ). Passed a.gains.now a.blocks.now a.weights.now a.rooms.now a.word a.first a.size a.k z a.from l.j) (read32 a.low c.ranges.low.sfits) l.invariant.1
+    passed-end a.gains.now a.blocks.now a.weights.now a.rooms.now a.word a.first a.size a.k _ c.requires.part_ok.0.size-to a.from l.j (omega arith) (subst (λ (z : ℤ). Passed a.gains.now a.blocks.now a.weights.now a.rooms.now a.word a.first a.size a.k z a.from l.j) (read32 a.low c.ranges.low.sfits) l.invariant.1)

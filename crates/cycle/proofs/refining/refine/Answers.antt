@@ -1,4 +1,4 @@
-use Rattle.std.proofs.Common.{ℕ, ◌+◌, ◌*◌, ◌≤◌, arith, ◌≡◌, refl, length}
+use Rattle.std.proofs.Common.{ℕ, ◌+◌, ◌-◌, ap, ◌*◌, ◌≤◌, arith, ◌≡◌, refl, length}
 use Rattle.std.proofs.lemmas.List.{length-replicate}
 use Rattle.index.specs.Indexed.{Kept, kept-none, kept_then}
 use Rattle.incidence.specs.On.{on-blank}
@@ -16,80 +16,43 @@ fill_rows-requires c =
 
 pub loop-i-init : goal.loop-i-init
 loop-i-init c =
-    let p = c.requires.refine_ok in (omega arith, omega (arith, stack-to p), omega (arith, stack-to p), refining-none _ _ _ _ _ _, refl, refl, refl, refl, refl, refl, refl, refl, refl, kept-none c.args.index.now, c.fill_rows.ensures)
-
-pub overflow_sub-i : goal.overflow_sub-i
-overflow_sub-i c = omega (arith, c.loop-i-test)
+    let p = c.requires.refine_ok in (omega (arith, stack-to p), omega (arith, stack-to p), refining-none _ _ _ _ _ _, kept-none c.args.index.now, c.fill_rows.ensures)
 
 pub offset_bounds-stack-i : goal.offset_bounds-stack-i
 offset_bounds-stack-i c =
-    let p = c.requires.refine_ok in omega (arith, stack-to p, p.into-fit, p.gone-fit, c.loop-i.invariant.0, c.loop-i-test)
+    let p = c.requires.refine_ok in omega (arith, stack-to p, p.into-fit, p.gone-fit, c.loop-i.auto.i, c.loop-i-test)
 
 pub bounds-stack-i : goal.bounds-stack-i
 bounds-stack-i c =
-    let p = c.requires.refine_ok in omega (arith, stack-to p, p.into-fit, p.gone-fit, c.loop-i.invariant.0, c.loop-i-test)
+    let p = c.requires.refine_ok in omega (arith, stack-to p, p.into-fit, p.gone-fit, c.loop-i.auto.i, c.loop-i-test)
 
-pub place_of-u-requires : goal.place_of-u-requires
-place_of-u-requires c =
-    omega (arith, (top-asks c.loop-i.i c.requires.refine_ok c.loop-i.invariant.3 (omega (arith, c.loop-i-test))).0)
+pub overflow_sub-u : goal.overflow_sub-u
+overflow_sub-u c =
+    omega (arith, (top-asks c.loop-i.i c.requires.refine_ok c.loop-i.invariant.2 (omega (arith, c.loop-i-test))).0)
 
 pub offset_bounds-stack-i-in-loop-i : goal.offset_bounds-stack-i-in-loop-i
 offset_bounds-stack-i-in-loop-i c =
-    let p = c.requires.refine_ok in omega (arith, stack-to p, p.into-fit, p.gone-fit, c.loop-i.invariant.0, c.loop-i-test)
+    let p = c.requires.refine_ok in omega (arith, stack-to p, p.into-fit, p.gone-fit, c.loop-i.auto.i, c.loop-i-test)
 
 pub bounds-stack-i-in-loop-i : goal.bounds-stack-i-in-loop-i
 bounds-stack-i-in-loop-i c =
-    let p = c.requires.refine_ok in omega (arith, stack-to p, p.into-fit, p.gone-fit, c.loop-i.invariant.0, c.loop-i-test)
+    let p = c.requires.refine_ok in omega (arith, stack-to p, p.into-fit, p.gone-fit, c.loop-i.auto.i, c.loop-i-test)
 
-pub place_of-v-requires : goal.place_of-v-requires
-place_of-v-requires c =
-    omega (arith, (top-asks c.loop-i.i c.requires.refine_ok c.loop-i.invariant.3 (omega (arith, c.loop-i-test))).1)
+pub overflow_sub-v : goal.overflow_sub-v
+overflow_sub-v c =
+    omega (arith, (top-asks c.loop-i.i c.requires.refine_ok c.loop-i.invariant.2 (omega (arith, c.loop-i-test))).1)
 
 pub refine_once-w-requires : goal.refine_once-w-requires
 refine_once-w-requires c =
-    record { part_ok = part-asks c.loop-i.i c.requires.refine_ok c.loop-i.invariant.3 (omega (arith, c.loop-i-test)) c.place_of-u.ensures c.place_of-v.ensures; n_in_bounds = omega (arith, c.requires.n_in_bounds, c.loop-i.invariant.13.len); rows_are = c.loop-i.invariant.14 }
+    record { part_ok = part-asks c.loop-i.i c.requires.refine_ok c.loop-i.invariant.2 (omega (arith, c.loop-i-test)) (ap (λ (x : ℕ). x - 1) c.from-u.ensures) (ap (λ (x : ℕ). x - 1) c.from-v.ensures); n_in_bounds = omega (arith, c.requires.n_in_bounds, c.loop-i.invariant.3.len); rows_are = c.loop-i.invariant.4 }
 
 pub add_walk-f-requires : goal.add_walk-f-requires
 add_walk-f-requires c =
-    let q = parts-few (part-asks c.loop-i.i c.requires.refine_ok c.loop-i.invariant.3 (omega (arith, c.loop-i-test)) c.place_of-u.ensures c.place_of-v.ensures) c.refine_once-w.ensures.parts in (q.0, omega (arith, q), omega (arith, c.loop-i.invariant.1), omega (arith, c.loop-i.invariant.2))
-
-pub loop-i-smaller : goal.loop-i-smaller
-loop-i-smaller c =
-    omega (arith, c.loop-i-test)
+    let q = parts-few (part-asks c.loop-i.i c.requires.refine_ok c.loop-i.invariant.2 (omega (arith, c.loop-i-test)) (ap (λ (x : ℕ). x - 1) c.from-u.ensures) (ap (λ (x : ℕ). x - 1) c.from-v.ensures)) c.refine_once-w.ensures.parts in (q.0, omega (arith, q), omega (arith, c.loop-i.invariant.0), omega (arith, c.loop-i.invariant.1))
 
 pub loop-i-preserved : goal.loop-i-preserved
 loop-i-preserved c =
-    let q = parts-few (part-asks c.loop-i.i c.requires.refine_ok c.loop-i.invariant.3 (omega (arith, c.loop-i-test)) c.place_of-u.ensures c.place_of-v.ensures) c.refine_once-w.ensures.parts in let e = c.add_walk-f.ensures in (omega (arith, c.loop-i.invariant.0), omega (arith, c.loop-i.invariant.1, c.loop-i-test, e.0, q.0), omega (arith, c.loop-i.invariant.2, c.loop-i-test, e.1, q), rw e.2 (refining-more c.loop-i.i refl refl refl refl refl c.loop-i.invariant.3 (omega (arith, c.loop-i-test)) c.place_of-u.ensures c.place_of-v.ensures c.refine_once-w.ensures.parts e.0 e.1), omega (arith, c.loop-i.invariant, c.refine_once-w.auto), omega (arith, c.loop-i.invariant, c.refine_once-w.auto), omega (arith, c.loop-i.invariant, c.refine_once-w.auto), omega (arith, c.loop-i.invariant, c.refine_once-w.auto), omega (arith, c.loop-i.invariant, c.refine_once-w.auto), omega (arith, c.loop-i.invariant, c.refine_once-w.auto), omega (arith, c.loop-i.invariant, c.refine_once-w.auto), omega (arith, c.loop-i.invariant, c.refine_once-w.auto), omega (arith, c.loop-i.invariant, c.refine_once-w.auto), kept_then c.loop-i.invariant.13 c.refine_once-w.ensures.kept, c.refine_once-w.ensures.rows_are_2)
-
-pub shape_of-counts : goal.shape_of-counts
-shape_of-counts c = omega (arith, c.loop-i.invariant)
-
-pub shape_of-visited : goal.shape_of-visited
-shape_of-visited c = omega (arith, c.loop-i.invariant)
-
-pub shape_of-gains : goal.shape_of-gains
-shape_of-gains c = omega (arith, c.loop-i.invariant)
-
-pub shape_of-index : goal.shape_of-index
-shape_of-index c = omega (arith, c.loop-i.invariant)
-
-pub shape_of-presentpins : goal.shape_of-presentpins
-shape_of-presentpins c = omega (arith, c.loop-i.invariant)
-
-pub shape_of-presentsizes : goal.shape_of-presentsizes
-shape_of-presentsizes c = omega (arith, c.loop-i.invariant)
-
-pub shape_of-bits : goal.shape_of-bits
-shape_of-bits c = omega (arith, c.loop-i.invariant)
-
-pub shape_of-blocks : goal.shape_of-blocks
-shape_of-blocks c = omega (arith, c.loop-i.invariant)
-
-pub shape_of-weights : goal.shape_of-weights
-shape_of-weights c = omega (arith, c.loop-i.invariant)
+    let q = parts-few (part-asks c.loop-i.i c.requires.refine_ok c.loop-i.invariant.2 (omega (arith, c.loop-i-test)) (ap (λ (x : ℕ). x - 1) c.from-u.ensures) (ap (λ (x : ℕ). x - 1) c.from-v.ensures)) c.refine_once-w.ensures.parts in let e = c.add_walk-f.ensures in (omega (arith, c.loop-i.invariant.0, c.loop-i-test, e.0, q.0), omega (arith, c.loop-i.invariant.1, c.loop-i-test, e.1, q), rw e.2 (refining-more c.loop-i.i refl refl refl refl refl c.loop-i.invariant.2 (omega (arith, c.loop-i-test)) (ap (λ (x : ℕ). x - 1) c.from-u.ensures) (ap (λ (x : ℕ). x - 1) c.from-v.ensures) c.refine_once-w.ensures.parts e.0 e.1), kept_then c.loop-i.invariant.3 c.refine_once-w.ensures.kept, c.refine_once-w.ensures.rows_are_2)
 
 pub returns : goal.returns
-returns c = record { refines = refining-done c.loop-i.i c.loop-i.invariant.3 (omega (arith, c.loop-i-test)); kept = c.loop-i.invariant.13 }
-
-pub shape_of-aboves : goal.shape_of-aboves
-shape_of-aboves c = omega (arith, c.loop-i.invariant)
+returns c = record { refines = refining-done c.loop-i.i c.loop-i.invariant.2 (omega (arith, c.loop-i-test)); kept = c.loop-i.invariant.3 }

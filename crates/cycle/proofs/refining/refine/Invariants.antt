@@ -11,10 +11,6 @@ use Rattle.cycle.proofs.refining.refine.Given as goal
 
 abbrev pub invariant-loop-i : goal.invariant-loop-i
 invariant-loop-i l =
-    (l.i ≤ l.stack.len) × (l.f.tried + 1024 * l.i ≤ 1048576) × (l.f.kept + 1024 * l.i ≤ 1048576)
+    (l.f.tried + 1024 * l.i ≤ 1048576) × (l.f.kept + 1024 * l.i ≤ 1048576)
     × Refining (tables l.initial.counts l.initial.visited l.initial.gains l.initial.presentpins l.initial.presentsizes l.initial.bits l.initial.blocks l.initial.weights l.initial.aboves l.initial.loads l.netweights l.firsts l.loadedsizes l.n l.m l.k l.total) l.ceilings l.fixedmarks l.stack.into l.stack.gone l.stack.len l.i (tables l.counts l.visited l.gains l.presentpins l.presentsizes l.bits l.blocks l.weights l.aboves l.loads l.netweights l.firsts l.loadedsizes l.n l.m l.k l.f.total) l.f.tried l.f.kept
-    × (length l.counts ≡ length l.initial.counts) × (length l.visited ≡ length l.initial.visited) × (length l.gains ≡ length l.initial.gains) × (length l.presentpins ≡ length l.initial.presentpins) × (length l.presentsizes ≡ length l.initial.presentsizes) × (length l.bits ≡ length l.initial.bits) × (length l.blocks ≡ length l.initial.blocks) × (length l.weights ≡ length l.initial.weights) × (length l.aboves ≡ length l.initial.aboves)
     × Kept l.n l.k l.initial.index l.index × RowsAre l.rows l.presentpins l.firsts l.presentsizes l.m
-
-abbrev pub decreases-loop-i : goal.decreases-loop-i
-decreases-loop-i l = l.i

@@ -4,7 +4,4 @@ use Rattle.polish.specs.Polishing.{sits, sits-none, sits-more}
 use Rattle.polish.proofs.polishing.mark_board.Given as goal
 
 abbrev pub invariant-loop-x : goal.invariant-loop-x
-invariant-loop-x l = (l.x ≤ l.n) × Marked l.initial.marks l.marks (sits l.blocks l.x)
-
-abbrev pub decreases-loop-x : goal.decreases-loop-x
-decreases-loop-x l = l.n - l.x
+invariant-loop-x l = Marked l.initial.marks l.marks (sits l.blocks l.x)

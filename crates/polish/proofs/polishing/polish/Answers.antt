@@ -1,10 +1,20 @@
-use Rattle.std.proofs.Common.{arith, ◌≡◌, refl, ℕ, ◌≤◌, ◌+◌, List, ℤ, pos, length}
+use Rattle.std.proofs.Common.{arith, ap, ◌∙◌, Bool, true, false, cond, ◌-◌, ◌≡◌, refl, ℕ, ◌≤◌, ◌+◌, List, ℤ, pos, length}
 use Rattle.std.proofs.lemmas.List.{length-replicate}
 use Rattle.index.specs.Indexed.{Kept, kept-none, kept_then}
 use Rattle.best_move.specs.Peak.{Peaked}
 use Rattle.search_moves.specs.Lent.{lent}
-use Rattle.polish.specs.Polished.{Passing, passing-none, pass-asks, passing-more, polishes-all}
+use Rattle.polish.specs.Polished.{Passing, passing-none, pass-asks, passing-more, passing-at, polishes-all}
 use Rattle.polish.proofs.polishing.polish.Goals as goal
+
+-- a pass that made a move has made one more, and leaves one less; one that made none leaves none
+more : (moves : ℕ) {some : Bool} → some ≡ true → cond some (moves + 1) moves ≡ moves + 1
+more moves e = ap (λ (b : Bool). cond b (moves + 1) moves) e
+
+less : (left : ℕ) {some : Bool} → some ≡ true → cond some (left - 1) 0 ≡ left - 1
+less left e = ap (λ (b : Bool). cond b (left - 1) 0) e
+
+none : (left : ℕ) {some : Bool} → some ≡ false → cond some (left - 1) 0 ≤ 0
+none left e = omega (arith, ap (λ (b : Bool). cond b (left - 1) 0) e)
 
 pub mark_board-requires : goal.mark_board-requires
 mark_board-requires c =
@@ -16,49 +26,39 @@ survey-requires c =
     let frame = c.requires.polish_ok.sound.follows.world.frame in
     (length-replicate {A = ℤ} 1040 (pos 0), frame.few-vertices, frame.few, frame.gains-fit)
 
-pub loop-p-init : goal.loop-p-init
-loop-p-init c =
-    (omega arith, λ aboves loaded. passing-none _ _ _, c.survey.ensures, refl, refl, refl, refl, kept-none c.args.index.now)
+pub passes-init : goal.passes-init
+passes-init c =
+    (omega arith, λ aboves loaded. passing-at (omega arith) (passing-none _ _ _), c.survey.ensures, kept-none c.args.index.now)
 
-pub pass-p-requires : goal.pass-p-requires
-pass-p-requires c =
-    let l = c.loop-p in record { pass_ok = pass-asks c.requires.polish_ok c.mark_board.ensures l.invariant.1 c.loop-p-test.true (omega (arith, l.invariant.0, c.ranges.total)); peaked = l.invariant.2; n_in_bounds = omega (arith, c.requires.n_in_bounds, l.invariant.7.len) }
+pub pass-requires : goal.pass-requires
+pass-requires c =
+    let l = c.passes in record { pass_ok = (_, pass-asks c.requires.polish_ok c.mark_board.ensures l.invariant.1 (omega (arith, c.passes-test.true)) (omega (arith, l.invariant.0, c.ranges.total))); peaked = l.invariant.2; n_in_bounds = omega (arith, c.requires.n_in_bounds, l.invariant.3.len) }
 
-pub loop-p-smaller : goal.loop-p-smaller
-loop-p-smaller c =
-    let ok = c.requires.polish_ok in (c.pass-p.ensures.by_index ok.aboves ok.loaded).less
+pub passes-smaller : goal.passes-smaller
+passes-smaller c =
+    omega (arith, c.passes-test.true, c.pass.ensures.made, more c.passes.p.moves c.if-pass.true)
 
-pub loop-p-preserved : goal.loop-p-preserved
-loop-p-preserved c =
-    let ok = c.requires.polish_ok in
-    let l = c.loop-p in
-    let passed = c.pass-p.ensures in
-    let lengths = c.pass-p.auto in (
-      omega (arith, l.invariant.0, (passed.by_index ok.aboves ok.loaded).small),
-      λ aboves loaded. passing-more refl refl refl refl refl (l.invariant.1 aboves loaded) (passed.by_index aboves loaded),
+pub passes-preserved : goal.passes-preserved
+passes-preserved c =
+    let l = c.passes in
+    let passed = c.pass.ensures in
+    let one = more l.p.moves c.if-pass.true in (
+      omega (arith, c.passes-test.true, passed.made, one),
+      λ aboves loaded. passing-at (less (c.args.total - l.p.moves) c.if-pass.true ∙ omega (arith, passed.made, one))
+          (passing-more refl refl refl refl refl (l.invariant.1 aboves loaded) (passed.by_index aboves loaded _ (omega (arith, c.passes-test.true)))),
       passed.peaked_2,
-      omega (arith, l.invariant, lengths),
-      omega (arith, l.invariant, lengths),
-      omega (arith, l.invariant, lengths),
-      omega (arith, l.invariant, lengths),
-      kept_then l.invariant.7 passed.kept,
+      kept_then l.invariant.3 passed.kept,
     )
 
-pub shape_of-counts : goal.shape_of-counts
-shape_of-counts c = omega (arith, c.loop-p.invariant)
+pub returns-else-pass : goal.returns-else-pass
+returns-else-pass c =
+    let l = c.passes in
+    let passed = c.pass.ensures in record {
+      by_index = λ aboves loaded. polishes-all c.mark_board.ensures
+          (passing-more refl refl refl refl refl (l.invariant.1 aboves loaded) (passed.by_index aboves loaded _ (omega (arith, c.passes-test.true)))) (none (c.args.total - l.p.moves) c.if-pass.false);
+      kept = kept_then l.invariant.3 passed.kept;
+    }
 
-pub shape_of-visited : goal.shape_of-visited
-shape_of-visited c = omega (arith, c.loop-p.invariant)
-
-pub shape_of-gains : goal.shape_of-gains
-shape_of-gains c = omega (arith, c.loop-p.invariant)
-
-pub shape_of-index : goal.shape_of-index
-shape_of-index c = omega (arith, c.loop-p.invariant)
-
-pub returns : goal.returns
-returns c =
-    record { by_index = λ aboves loaded. polishes-all c.mark_board.ensures (c.loop-p.invariant.1 aboves loaded) c.loop-p-test.false; kept = c.loop-p.invariant.7 }
-
-pub shape_of-blocks : goal.shape_of-blocks
-shape_of-blocks c = omega (arith, c.loop-p.invariant)
+pub returns-after-passes : goal.returns-after-passes
+returns-after-passes c =
+    let l = c.passes in record { by_index = λ aboves loaded. polishes-all c.mark_board.ensures (l.invariant.1 aboves loaded) (omega (arith, c.passes-test.false)); kept = l.invariant.3 }

@@ -1,4 +1,4 @@
-use Rattle.std.proofs.Common.{arith, ◌≡◌, refl, ℕ, ◌≤◌, ◌+◌, List, ℤ, pos, length}
+use Rattle.std.proofs.Common.{arith, ◌≡◌, refl, ℕ, ◌≤◌, ◌-◌, List, ℤ, pos, length}
 use Rattle.std.proofs.lemmas.List.{length-replicate}
 use Rattle.index.specs.Indexed.{Kept, kept-none, kept_then}
 use Rattle.best_move.specs.Peak.{Peaked}
@@ -6,13 +6,12 @@ use Rattle.search_moves.specs.Lent.{lent}
 use Rattle.polish.specs.Polished.{Passing, passing-none, pass-asks, passing-more, polishes-all}
 use Rattle.polish.proofs.polishing.polish.Given as goal
 
-abbrev pub invariant-loop-p : goal.invariant-loop-p
-invariant-loop-p l =
-    (l.p.moves + l.p.left ≤ l.total)
-    × ((aboves loaded : List ℕ) → Passing (lent l.initial.counts l.initial.visited l.initial.gains l.initial.blocks l.initial.loads l.presentpins l.presentsizes l.bits l.weights l.netweights l.firsts l.n l.m l.k l.total aboves loaded) l.marks l.ceilings (lent l.counts l.visited l.gains l.blocks l.loads l.presentpins l.presentsizes l.bits l.weights l.netweights l.firsts l.n l.m l.k l.p.total aboves loaded) l.p.left l.p.moves)
+abbrev pub invariant-passes : goal.invariant-passes
+invariant-passes l =
+    (l.p.moves ≤ l.total)
+    × ((aboves loaded : List ℕ) → Passing (lent l.initial.counts l.initial.visited l.initial.gains l.initial.blocks l.initial.loads l.presentpins l.presentsizes l.bits l.weights l.netweights l.firsts l.n l.m l.k l.total aboves loaded) l.marks l.ceilings (lent l.counts l.visited l.gains l.blocks l.loads l.presentpins l.presentsizes l.bits l.weights l.netweights l.firsts l.n l.m l.k l.p.total aboves loaded) (l.total - l.p.moves) l.p.moves)
     × Peaked l.gains l.peaks l.n l.k
-    × (length l.counts ≡ length l.initial.counts) × (length l.visited ≡ length l.initial.visited) × (length l.gains ≡ length l.initial.gains) × (length l.blocks ≡ length l.initial.blocks)
     × Kept l.n l.k l.initial.index l.index
 
-abbrev pub decreases-loop-p : goal.decreases-loop-p
-decreases-loop-p l = l.p.left
+abbrev pub decreases-passes : goal.decreases-passes
+decreases-passes l = l.total - l.p.moves

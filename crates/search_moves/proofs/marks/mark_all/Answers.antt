@@ -12,8 +12,8 @@ returns-then-limit-presentsizes c =
 
 pub mark_pins-requires : goal.mark_pins-requires
 mark_pins-requires c =
-    (c.requires.0, rw (c.index.ensures, c.index-2.ensures) c.requires.3)
+    (c.requires.0, rw (c.from.ensures, c.from-2.ensures) c.requires.3)
 
 pub returns : goal.returns
 returns c =
-    rw (c.index.ensures, c.index-2.ensures) at c.mark_pins.ensures
+    rw (c.from.ensures, c.from-2.ensures) at c.mark_pins.ensures

@@ -4,7 +4,4 @@ use Rattle.search_moves.specs.Marks.{Marked, SameNets, nets-same, nets-then, pin
 use Rattle.search_moves.proofs.marks.mark_pins.Given as goal
 
 abbrev pub invariant-loop-j : goal.invariant-loop-j
-invariant-loop-j l = (l.j ≤ l.size) × Marked l.initial.marks l.marks (has l.presentpins l.first l.j) × SameNets l.initial.marks l.marks
-
-abbrev pub decreases-loop-j : goal.decreases-loop-j
-decreases-loop-j l = l.size - l.j
+invariant-loop-j l = Marked l.initial.marks l.marks (has l.presentpins l.first l.j) × SameNets l.initial.marks l.marks

@@ -4,7 +4,4 @@ use Rattle.search_moves.specs.Rows.{MarkedTo, marked-words-none, marked-words-mo
 use Rattle.search_moves.proofs.marks.mark_row.Given as goal
 
 abbrev pub invariant-loop-c : goal.invariant-loop-c
-invariant-loop-c l = (l.c ≤ 16) × MarkedTo l.rows l.e l.initial.marks l.c l.marks
-
-abbrev pub decreases-loop-c : goal.decreases-loop-c
-decreases-loop-c l = 16 - l.c
+invariant-loop-c l = MarkedTo l.rows l.e l.initial.marks l.c l.marks

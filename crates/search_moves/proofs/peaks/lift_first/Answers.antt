@@ -5,8 +5,8 @@ use Rattle.search_moves.proofs.peaks.lift_first.Goals as goal
 pub returns-then-counts-e-ne1 : goal.returns-then-counts-e-ne1
 returns-then-counts-e-ne1 c =
     let a = c.args in
-    (higher-none a.peaks.now, λ q. absurd (c.if-counts-e-ne1.true (ap (λ (z : ℕ). get_or a.counts.now (16 * a.e + (z - 1)) 0) c.index-b.ensures ∙ q)))
+    (higher-none a.peaks.now, λ q. absurd (c.if-counts-e-ne1.true (ap (λ (z : ℕ). get_or a.counts.now (16 * a.e + (z - 1)) 0) c.from-b.ensures ∙ q)))
 
 pub returns : goal.returns
 returns c =
-    let r = c.raise_first.ensures in (r.0, λ q. rw c.index-b.ensures at r.1)
+    let r = c.raise_first.ensures in (r.0, λ q. rw c.from-b.ensures at r.1)

@@ -4,7 +4,4 @@ use Rattle.search_moves.specs.Lifting.{FirstUnder, higher-none, higher-then, fir
 use Rattle.search_moves.proofs.peaks.raise_first.Given as goal
 
 abbrev pub invariant-loop-j : goal.invariant-loop-j
-invariant-loop-j l = (l.j ≤ l.size) × Higher l.initial.peaks l.peaks × FirstUnder l.gains l.peaks l.presentpins l.first l.j l.t
-
-abbrev pub decreases-loop-j : goal.decreases-loop-j
-decreases-loop-j l = l.size - l.j
+invariant-loop-j l = Higher l.initial.peaks l.peaks × FirstUnder l.gains l.peaks l.presentpins l.first l.j l.t

@@ -4,7 +4,4 @@ use Rattle.search_moves.specs.Lifting.{LastUnder, higher-none, higher-then, last
 use Rattle.search_moves.proofs.peaks.raise_last.Given as goal
 
 abbrev pub invariant-loop-j : goal.invariant-loop-j
-invariant-loop-j l = (l.j ≤ l.size) × Higher l.initial.peaks l.peaks × LastUnder l.gains l.peaks l.blocks l.presentpins l.first l.j l.s l.k
-
-abbrev pub decreases-loop-j : goal.decreases-loop-j
-decreases-loop-j l = l.size - l.j
+invariant-loop-j l = Higher l.initial.peaks l.peaks × LastUnder l.gains l.peaks l.blocks l.presentpins l.first l.j l.s l.k

@@ -4,7 +4,4 @@ use Rattle.search_moves.specs.Rows.{FilledTo, filled_none, filled_more}
 use Rattle.search_moves.proofs.rows.fill_row.Given as goal
 
 abbrev pub invariant-loop-j : goal.invariant-loop-j
-invariant-loop-j l = (l.j ≤ l.size) × FilledTo l.initial.rows l.presentpins l.first l.e l.j l.rows
-
-abbrev pub decreases-loop-j : goal.decreases-loop-j
-decreases-loop-j l = l.size - l.j
+invariant-loop-j l = FilledTo l.initial.rows l.presentpins l.first l.e l.j l.rows

@@ -4,7 +4,4 @@ use Rattle.search_moves.specs.Rows.{RowsTo, rows-to-none, rows-to-more, rows-to-
 use Rattle.search_moves.proofs.rows.fill_rows.Given as goal
 
 abbrev pub invariant-loop-e : goal.invariant-loop-e
-invariant-loop-e l = (l.e ≤ l.m) × RowsTo l.rows l.presentpins l.firsts l.presentsizes l.e
-
-abbrev pub decreases-loop-e : goal.decreases-loop-e
-decreases-loop-e l = l.m - l.e
+invariant-loop-e l = RowsTo l.rows l.presentpins l.firsts l.presentsizes l.e

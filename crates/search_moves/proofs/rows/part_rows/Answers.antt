@@ -1,38 +1,30 @@
-use Rattle.std.proofs.Common.{arith, ◌≡◌, ◌≤◌, ◌<◌, ◌-◌}
-use Rattle.incidence.specs.On.{on}
-use Rattle.search_moves.specs.Parted.{PartedTo, parted-none, parted-more, parted-all}
+use Rattle.std.proofs.Common.{arith}
+use Rattle.incidence.specs.On.{along-next, gave}
+use Rattle.search_moves.specs.Parted.{parted-none, parted-more, parted-all}
 use Rattle.search_moves.proofs.rows.part_rows.Goals as goal
 
-pub next_net-e-requires : goal.next_net-e-requires
-next_net-e-requires c =
-    (c.requires.v-fit, omega arith, c.requires.few)
+pub nets_of-e-items-requires : goal.nets_of-e-items-requires
+nets_of-e-items-requires c = omega (arith, c.requires.v-fit, c.requires.few)
 
 pub loop-e-init : goal.loop-e-init
 loop-e-init c =
-    let first = c.next_net-e.ensures in
-    (first.high, first.found, parted-none c.args.rows.now c.args.bits.now c.args.u c.args.v c.args.m c.next_net-e.result first)
+    let s = c.nets_of-e-items.ensures in
+    rw c.into_iter-e-iterator.ensures.into_iter_gives (s.along, parted-none c.args.rows.now c.args.bits.now c.args.u c.args.v c.args.m _ s.first)
 
 pub part_row-requires : goal.part_row-requires
 part_row-requires c =
     let ok = c.requires in
-    (omega (arith, c.loop-e-test.true, ok.rows_fit, c.loop-e.invariant.2.len), ok.u-fit, omega (arith, c.loop-e-test.true, ok.few), ok.u-small, ok.v-small, ok.apart)
-
-pub overflow_add-e : goal.overflow_add-e
-overflow_add-e c =
-    omega (arith, c.loop-e.invariant.0, c.requires.few)
-
-pub next_net-e-requires-in-loop-e : goal.next_net-e-requires-in-loop-e
-next_net-e-requires-in-loop-e c =
-    (c.requires.v-fit, omega (arith, c.loop-e-test.true), c.requires.few)
-
-pub loop-e-smaller : goal.loop-e-smaller
-loop-e-smaller c = omega (arith, c.next_net-e-in-loop-e.ensures.low, c.next_net-e-in-loop-e.ensures.high)
+    let e = gave c.loop-e.invariant.0 c.in-Some.ensures.steps in
+    (omega (arith, e.below, ok.rows_fit, c.loop-e.invariant.1.len), ok.u-fit, omega (arith, e.below, ok.few), ok.u-small, ok.v-small, ok.apart)
 
 pub loop-e-preserved : goal.loop-e-preserved
 loop-e-preserved c =
-    let next = c.next_net-e-in-loop-e.ensures in
-    (next.high, next.found, parted-more c.loop-e.e c.args.m c.next_net-e-in-loop-e.result (c.loop-e.invariant.1 c.loop-e-test.true) c.loop-e.invariant.2 c.part_row.ensures next)
+    let I = c.loop-e.invariant in
+    let g = c.in-Some.ensures.steps in
+    let e = gave I.0 g in
+    (along-next I.0 g, parted-more c.in-Some.e c.args.m _ e.here (rw g.here at I.1) c.part_row.ensures e.next)
 
 pub returns : goal.returns
 returns c =
-    parted-all c.args.m c.loop-e.e c.loop-e.invariant.0 (omega arith) c.loop-e.invariant.2
+    let I = c.loop-e.invariant in
+    parted-all c.args.m _ (omega (arith, I.0.end, c.in-None.ensures.steps.0)) (omega (arith, I.0.end, c.in-None.ensures.steps.0)) I.1

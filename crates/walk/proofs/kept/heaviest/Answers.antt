@@ -3,13 +3,13 @@ use Rattle.walk.specs.Kept.{heaviest_in, heaviest-none, heaviest-more}
 use Rattle.walk.proofs.kept.heaviest.Goals as goal
 
 pub loop-j-init : goal.loop-j-init
-loop-j-init c = (omega arith, heaviest-none c.args.loads.now)
+loop-j-init c = heaviest-none c.args.loads.now
 
 pub loop-j-preserved : goal.loop-j-preserved
 loop-j-preserved c =
-    (omega arith, heaviest-more c.args.loads.now c.loop-j.j _ _ _ c.loop-j.invariant.1 refl c.larger-most.ensures)
+    heaviest-more c.args.loads.now c.loop-j.j _ _ _ c.loop-j.invariant refl c.max-most.ensures
 
 pub returns : goal.returns
 returns c =
-    let e : c.loop-j.j ≡ c.args.k = omega (arith, c.loop-j.invariant.0) in
-    c.loop-j.invariant.1 ∙ ap (heaviest_in c.args.loads.now) e
+    let e : c.loop-j.j ≡ c.args.k = omega arith in
+    c.loop-j.invariant ∙ ap (heaviest_in c.args.loads.now) e

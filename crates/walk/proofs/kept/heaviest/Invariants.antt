@@ -4,7 +4,4 @@ use Rattle.walk.specs.Kept.{heaviest_in, heaviest-none, heaviest-more}
 use Rattle.walk.proofs.kept.heaviest.Given as goal
 
 abbrev pub invariant-loop-j : goal.invariant-loop-j
-invariant-loop-j l = (l.j ≤ l.k) × (l.most ≡ heaviest_in l.loads l.j)
-
-abbrev pub decreases-loop-j : goal.decreases-loop-j
-decreases-loop-j l = l.k - l.j
+invariant-loop-j l = (l.most ≡ heaviest_in l.loads l.j)

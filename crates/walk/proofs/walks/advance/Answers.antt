@@ -10,14 +10,14 @@ next_move-requires c =
 
 pub make_move-requires : goal.make_move-requires
 make_move-requires c =
-    let start = c.requires in record { take_ok = take-asks c.args.ceilings.now start.turn_ok _ _ c.next_move.ensures.chosen c.in-Move.is; peaked = start.peaked; rows_past = start.rows_past }
+    let start = c.requires in record { take_ok = take-asks c.args.ceilings.now start.turn_ok _ _ c.next_move.ensures.chosen c.in-Some.is; peaked = start.peaked; rows_past = start.rows_past }
 
-pub returns-in-Nothing : goal.returns-in-Nothing
-returns-in-Nothing c =
+pub returns-in-None : goal.returns-in-None
+returns-in-None c =
     let start = c.requires in
-    let moved = c.next_move.ensures in record { by_index = λ aboves loaded. turn-none _ _ _ _ start.turn_ok.turn-to start.turn_ok.tried-to moved.chosen c.in-Nothing.is; peaked_2 = start.peaked; kept = moved.kept }
+    let moved = c.next_move.ensures in record { by_index = λ aboves loaded. turn-none _ _ _ _ start.turn_ok.turn-to start.turn_ok.tried-to moved.chosen c.in-None.is; peaked_2 = start.peaked; kept = moved.kept }
 
-pub returns-in-Move : goal.returns-in-Move
-returns-in-Move c =
+pub returns-in-Some : goal.returns-in-Some
+returns-in-Some c =
     let ok = c.requires.turn_ok in
-    let moved = c.make_move.ensures in record { by_index = λ aboves loaded. turn-move _ _ _ _ _ ok.turn-to ok.tried-to c.next_move.ensures.chosen c.in-Move.is (moved.by_index aboves loaded); peaked_2 = moved.peaked_2; kept = c.next_move.ensures.kept }
+    let moved = c.make_move.ensures in record { by_index = λ aboves loaded. turn-move _ _ _ _ _ ok.turn-to ok.tried-to c.next_move.ensures.chosen c.in-Some.is (moved.by_index aboves loaded); peaked_2 = moved.peaked_2; kept = c.next_move.ensures.kept }

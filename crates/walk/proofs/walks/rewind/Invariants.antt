@@ -5,9 +5,5 @@ use Rattle.walk.proofs.walks.rewind.Given as goal
 
 abbrev pub invariant-loop-j : goal.invariant-loop-j
 invariant-loop-j l =
-    (l.kept ≤ l.j) × (l.j ≤ l.tried)
-    × ((aboves loaded : List ℕ) → Rewinding (lent l.initial.counts l.initial.visited l.initial.gains l.initial.blocks l.initial.loads l.presentpins l.presentsizes l.bits l.weights l.netweights l.firsts l.n l.m l.k l.total aboves loaded) l.movers l.origins l.tried l.kept l.j (lent l.counts l.visited l.gains l.blocks l.loads l.presentpins l.presentsizes l.bits l.weights l.netweights l.firsts l.n l.m l.k l.t aboves loaded))
-    × (length l.counts ≡ length l.initial.counts) × (length l.visited ≡ length l.initial.visited) × (length l.gains ≡ length l.initial.gains) × (length l.blocks ≡ length l.initial.blocks)
-
-abbrev pub decreases-loop-j : goal.decreases-loop-j
-decreases-loop-j l = l.j
+    (l.kept ≤ l.j)
+    × ((aboves loaded : List ℕ) → Rewinding (lent l.initial.counts l.initial.visited l.initial.gains l.initial.blocks l.initial.loads l.board.presentpins.now l.board.presentsizes.now l.board.bits.now l.board.weights.now l.board.netweights.now l.board.firsts.now l.board.n l.board.m l.board.k l.total aboves loaded) l.movers l.origins l.tried l.kept l.j (lent l.counts l.visited l.gains l.blocks l.loads l.board.presentpins.now l.board.presentsizes.now l.board.bits.now l.board.weights.now l.board.netweights.now l.board.firsts.now l.board.n l.board.m l.board.k l.t aboves loaded))

@@ -1,11 +1,19 @@
-use Rattle.std.proofs.Common.{arith, ◌≡◌, refl, ◌∙◌, ℕ, ◌≤◌, ◌-◌, List, ℤ, pos, length}
+use Rattle.std.proofs.Common.{arith, ap, Bool, true, cond, ◌≡◌, refl, ◌∙◌, ℕ, ◌≤◌, ◌-◌, List, ℤ, pos, length}
 use Rattle.std.proofs.lemmas.List.{length-replicate}
 use Rattle.index.specs.Indexed.{Kept, kept-none, kept_then}
 use Rattle.best_move.specs.Peak.{Peaked}
 use Rattle.search_moves.specs.Lent.{lent}
 use Rattle.walk.specs.Steps.{locals, Going}
-use Rattle.walk.specs.Whole.{HasWalk, started, has_first, going-none, turn-asks, going_more, end-asks, walks-all}
+use Rattle.walk.specs.Whole.{HasWalk, started, has_first, going-none, turn-asks, going_more, going-at, end-asks, walks-all}
 use Rattle.walk.proofs.walks.walk.Goals as goal
+use Rattle.walk.proofs.walks.walk.Goals.{then-turns-test+else-advance, else-turns-test}
+
+-- a turn that made a move is one more
+made : (tried n : ℕ) {some : Bool} → some ≡ true → cond some tried n ≡ tried
+made tried n e = ap (λ (b : Bool). cond b tried n) e
+
+whole : (n : ℕ) → n ≤ n
+whole n = omega arith
 
 pub mark_vertex-requires : goal.mark_vertex-requires
 mark_vertex-requires c =
@@ -27,72 +35,57 @@ heaviest-requires c =
     let ok = c.requires.walk_ok in
     (ok.sound.loads-fit, ok.sound.follows.world.frame.few)
 
-pub loop-s-init : goal.loop-s-init
-loop-s-init c =
+pub turns-init : goal.turns-init
+turns-init c =
     let a = c.args in
     let ok = c.requires.walk_ok in
     let one = c.mark_vertex.ensures in
     let two = c.mark_vertex-2.ensures in
     let fit = length-replicate {A = ℕ} 1024 0 in (
       omega arith,
-      omega arith,
       has_first ok (started a.u a.v one.0 two.0 one.1 two.1 _ ok.u-in ok.u-on ok.v-in ok.v-on fit fit refl c.heaviest.ensures),
       λ aboves loaded. going-none _ _ _,
       c.survey.ensures,
-      refl,
-      refl,
-      refl,
-      refl,
       kept-none a.index.now,
     )
 
-pub advance-s-requires : goal.advance-s-requires
-advance-s-requires c =
-    let l = c.loop-s in record { turn_ok = turn-asks l.invariant.2 l.invariant.3 c.loop-s-test.true l.invariant.1; peaked = l.invariant.4; n_in_bounds = omega (arith, c.requires.n_in_bounds, l.invariant.9.len); rows_past = c.requires.rows_past }
+pub advance-requires : goal.advance-requires
+advance-requires c =
+    let l = c.turns in record { turn_ok = turn-asks l.invariant.1 l.invariant.2 c.turns-test.true (omega arith); peaked = l.invariant.3; n_in_bounds = omega (arith, c.requires.n_in_bounds, l.invariant.4.len); rows_past = c.requires.rows_past }
 
-pub loop-s-smaller : goal.loop-s-smaller
-loop-s-smaller c =
+pub turns-smaller : goal.turns-smaller
+turns-smaller c =
     let ok = c.requires.walk_ok in
-    omega (arith, (c.advance-s.ensures.by_index ok.aboves ok.loaded).on, c.loop-s-test)
+    let e = c.advance.ensures.by_index ok.aboves ok.loaded in
+    omega (arith, e.on, e.to, c.turns-test.true, made c.advance.new.s.tried c.args.n c.if-advance.true)
 
-pub loop-s-preserved : goal.loop-s-preserved
-loop-s-preserved c =
+pub turns-preserved : goal.turns-preserved
+turns-preserved c =
     let ok = c.requires.walk_ok in
-    let l = c.loop-s in
-    let turned = c.advance-s.ensures in
-    let lengths = c.advance-s.auto in
-    let e = turned.by_index ok.aboves ok.loaded in (
-      e.to,
-      e.tried-to,
-      l.invariant.2,
-      λ aboves loaded. going_more refl refl refl refl refl (l.invariant.3 aboves loaded) (turned.by_index aboves loaded),
+    let l = c.turns in
+    let turned = c.advance.ensures in
+    let e = turned.by_index ok.aboves ok.loaded in
+    let one = made c.advance.new.s.tried c.args.n c.if-advance.true in (
+      omega (arith, e.to, one),
+      l.invariant.1,
+      λ aboves loaded. going-at one (going_more refl refl refl refl refl (l.invariant.2 aboves loaded) (turned.by_index aboves loaded)),
       turned.peaked_2,
-      omega (arith, l.invariant, lengths),
-      omega (arith, l.invariant, lengths),
-      omega (arith, l.invariant, lengths),
-      omega (arith, l.invariant, lengths),
-      kept_then l.invariant.9 turned.kept,
+      kept_then l.invariant.4 turned.kept,
     )
 
 pub rewind-t-requires : goal.rewind-t-requires
 rewind-t-requires c =
-    let l = c.loop-s in end-asks l.invariant.2 l.invariant.3 l.invariant.0 l.invariant.1
-
-pub shape_of-counts : goal.shape_of-counts
-shape_of-counts c =
-    omega (arith, c.loop-s.invariant, c.rewind-t.auto)
-
-pub shape_of-visited : goal.shape_of-visited
-shape_of-visited c =
-    omega (arith, c.loop-s.invariant, c.rewind-t.auto)
-
-pub shape_of-gains : goal.shape_of-gains
-shape_of-gains c =
-    omega (arith, c.loop-s.invariant, c.rewind-t.auto)
-
-pub shape_of-index : goal.shape_of-index
-shape_of-index c =
-    omega (arith, c.loop-s.invariant, c.rewind-t.auto)
+    elim c.turns-test.branch [
+      | then-turns-test+else-advance w ↦
+          let l = c.turns in
+          let e = w.advance.ensures.by_index c.requires.walk_ok.aboves c.requires.walk_ok.loaded in
+          rw (w.counts-is, w.visited-is, w.gains-is, w.blocks-is, w.loads-is, w.movers-is, w.origins-is, w.s-is)
+          (end-asks l.invariant.1 (λ aboves loaded. going_more refl refl refl refl refl (l.invariant.2 aboves loaded) (w.advance.ensures.by_index aboves loaded)) e.to e.tried-to)
+      | else-turns-test w ↦
+          let l = c.turns in
+          rw (w.counts-is, w.visited-is, w.gains-is, w.blocks-is, w.loads-is, w.movers-is, w.origins-is, w.s-is)
+          (end-asks l.invariant.1 l.invariant.2 l.invariant.0 (omega arith))
+    ]
 
 pub returns : goal.returns
 returns c =
@@ -100,13 +93,24 @@ returns c =
     let ok = c.requires.walk_ok in
     let one = c.mark_vertex.ensures in
     let two = c.mark_vertex-2.ensures in
-    let fit = length-replicate {A = ℕ} 1024 0 in record {
-      by_index = λ aboves loaded. walks-all refl refl refl refl refl
-          (started a.u a.v one.0 two.0 one.1 two.1 _ ok.u-in ok.u-on ok.v-in ok.v-on fit fit refl c.heaviest.ensures)
-          (c.loop-s.invariant.3 aboves loaded) c.loop-s-test.false (c.rewind-t.ensures aboves loaded);
-      kept = c.loop-s.invariant.9;
-    }
-
-pub shape_of-blocks : goal.shape_of-blocks
-shape_of-blocks c =
-    omega (arith, c.loop-s.invariant, c.rewind-t.auto)
+    let fit = length-replicate {A = ℕ} 1024 0 in
+    let l = c.turns in
+    elim c.turns-test.branch [
+      | then-turns-test+else-advance w ↦
+          let e = w.advance.ensures in
+          let back = rw (w.counts-is, w.visited-is, w.gains-is, w.blocks-is, w.loads-is, w.movers-is, w.origins-is, w.s-is) at c.rewind-t.ensures in
+          let over = ap (λ (b : Bool). cond b w.advance.new.s.tried a.n) w.if-advance.false in
+          rw (w.index-is, w.s-is)
+          (record {
+            by_index = λ aboves loaded. walks-all refl refl refl refl refl (started a.u a.v one.0 two.0 one.1 two.1 _ ok.u-in ok.u-on ok.v-in ok.v-on fit fit refl c.heaviest.ensures)
+                (going-at over (going_more refl refl refl refl refl (l.invariant.2 aboves loaded) (e.by_index aboves loaded))) (whole a.n) (back aboves loaded);
+            kept = kept_then l.invariant.4 e.kept;
+          })
+      | else-turns-test w ↦
+          let back = rw (w.counts-is, w.visited-is, w.gains-is, w.blocks-is, w.loads-is, w.movers-is, w.origins-is, w.s-is) at c.rewind-t.ensures in
+          rw (w.index-is, w.s-is)
+          (record {
+            by_index = λ aboves loaded. walks-all refl refl refl refl refl (started a.u a.v one.0 two.0 one.1 two.1 _ ok.u-in ok.u-on ok.v-in ok.v-on fit fit refl c.heaviest.ensures) (l.invariant.2 aboves loaded) w.turns-test.false (back aboves loaded);
+            kept = l.invariant.4;
+          })
+    ]
