@@ -1,6 +1,5 @@
 // One call of any kind on the tables of a running sale, answered as the report prints it.
 #![tactic(auto)]
 
-mod answering;
 pub mod kinds;
 pub mod performing;

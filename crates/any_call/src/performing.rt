@@ -1,6 +1,8 @@
 // One call of any kind: what it leaves of the stack, the journal and the metric, and its answer.
-ghost use Rattle.std.specs.Prelude.{ℕ, ◌*◌, ◌≤◌, List, [], length};
+ghost use Rattle.std.specs.Prelude.{ℕ, ◌*◌, ◌≤◌, List, [], length, MatchResult};
+ghost use Rattle.refusal.specs.Number.{number_of};
 ghost use Rattle.model.specs.Catalogue.{Hypergraph};
+ghost use Rattle.model.specs.Machine.{says_no};
 ghost use Rattle.model.specs.Lent.{Two, two, stack_of};
 ghost use Rattle.guarantees.specs.Caps.{CeilingIs};
 ghost use Rattle.index.specs.Indexed.{KeepsRight};
@@ -13,17 +15,18 @@ ghost use Rattle.search_calls.specs.Cycling.{AverageIs, ReadyA};
 ghost use Rattle.report.specs.Meaning.{answer_of};
 ghost use Rattle.any_call.specs.Kinds.{contracting_call, moving_call, any_call};
 
-use crate::answering::answer;
 use crate::kinds::{is_contracting, is_moving};
 use edit_calls::contracting::{call_join, call_split};
 use edit_calls::moving::{call_back, call_move};
 use fixed::starting::fixed_in;
 use operations::pairs::{Journal, Stack};
 use operations::size::Size;
+use refusal::Refusal;
 use report::answers::Answer;
 use search_calls::cycling::call_all;
 use search_calls::searching::{call_polish, call_walk};
 
+// What a call that is not refused leaves of the stack, the journal and the metric, and its answer.
 #[derive(Clone, Copy)]
 pub struct Turn {
     pub stack: Stack,
@@ -64,19 +67,22 @@ fn moving(
     letter: u32,
     x: usize,
     y: usize,
-) -> MovingTurn
+) -> Result<MovingTurn, Refusal>
     requires ready_w { ReadyW
         (lent counts.old visited.old gains.old blocks.old loads.old presentpins.now presentsizes.now bits.now weights.now netweights.now firsts.now n m k total)
         (two journal.vertices journal.blocks journal.len) fixedmarks }
     requires n_in_bounds { 16 * n ≤ length index.old }
-    ensures by_index { (aboves loadedsizes : List ℕ) (S : Two) (h : Hypergraph) (ceiling : ℕ → ℕ) → CeilingIs ceilings.now h ceiling → FixedIs fixedmarks h (stack_of S.xs S.ys S.len) → Called h ceiling
-        (lent counts.old visited.old gains.old blocks.old loads.old presentpins.now presentsizes.now bits.now weights.now netweights.now firsts.now n m k total aboves loadedsizes)
-        (lent counts.new visited.new gains.new blocks.new loads.new presentpins.now presentsizes.now bits.now weights.now netweights.now firsts.now n m k result.total aboves loadedsizes)
-        S S (two journal.vertices journal.blocks journal.len) (two result.journal.vertices result.journal.blocks result.journal.len) (moving_call letter x y) (answer_of result.answer) }
+    ensures by_index { (aboves loadedsizes : List ℕ) (S : Two) (h : Hypergraph) (ceiling : ℕ → ℕ) →
+        let before = lent counts.old visited.old gains.old blocks.old loads.old presentpins.now presentsizes.now bits.now weights.now netweights.now firsts.now n m k total aboves loadedsizes in
+        let after = λ (after : ℕ). lent counts.new visited.new gains.new blocks.new loads.new presentpins.now presentsizes.now bits.now weights.now netweights.now firsts.now n m k after aboves loadedsizes in
+        let moves = two journal.vertices journal.blocks journal.len in
+        CeilingIs ceilings.now h ceiling → FixedIs fixedmarks h (stack_of S.xs S.ys S.len) → MatchResult result
+        (λ t. Called h ceiling before (after t.total) S S moves (two t.journal.vertices t.journal.blocks t.journal.len) (moving_call letter x y) (answer_of t.answer))
+        (λ e. Called h ceiling before (after total) S S moves moves (moving_call letter x y) (says_no (number_of e))) }
     ensures keeps_right { KeepsRight gains.old blocks.old gains.new blocks.new n k index.old index.new }
 {
     if letter == text::letters::M {
-        let t = call_move(
+        let moved = call_move(
             counts,
             visited,
             gains,
@@ -98,23 +104,19 @@ fn moving(
             journal,
             x,
             y,
-        );
-        let after = t.journal;
-        return MovingTurn {
-            journal: after,
-            total: t.total,
-            answer: answer(
-                t.no,
-                Answer::Moved {
-                    freed: t.halves.freed,
-                    drawn: t.halves.drawn,
-                    total: t.total,
-                },
-            ),
-        };
+        )?;
+        return Ok(MovingTurn {
+            journal: moved.journal,
+            total: moved.total,
+            answer: Answer::Moved {
+                freed: moved.halves.freed,
+                drawn: moved.halves.drawn,
+                total: moved.total,
+            },
+        });
     }
     if letter == text::letters::B {
-        let t = call_back(
+        let reversed = call_back(
             counts,
             visited,
             gains,
@@ -132,23 +134,19 @@ fn moving(
             k,
             total,
             journal,
-        );
-        let after = t.journal;
-        return MovingTurn {
-            journal: after,
-            total: t.total,
-            answer: answer(
-                t.no,
-                Answer::Reversed {
-                    vertex: t.vertex,
-                    block: t.block,
-                    total: t.total,
-                },
-            ),
-        };
+        )?;
+        return Ok(MovingTurn {
+            journal: reversed.journal,
+            total: reversed.total,
+            answer: Answer::Reversed {
+                vertex: reversed.vertex,
+                block: reversed.block,
+                total: reversed.total,
+            },
+        });
     }
     if letter == text::letters::W {
-        let t = call_walk(
+        let walked = call_walk(
             counts,
             visited,
             gains,
@@ -170,22 +168,18 @@ fn moving(
             journal,
             x,
             y,
-        );
-        let after = t.journal;
-        return MovingTurn {
-            journal: after,
-            total: t.total,
-            answer: answer(
-                t.no,
-                Answer::Walked {
-                    tried: t.tried,
-                    kept: t.kept,
-                    total: t.total,
-                },
-            ),
-        };
+        )?;
+        return Ok(MovingTurn {
+            journal: walked.journal,
+            total: walked.total,
+            answer: Answer::Walked {
+                tried: walked.tried,
+                kept: walked.kept,
+                total: walked.total,
+            },
+        });
     }
-    let t = call_polish(
+    let polished = call_polish(
         counts,
         visited,
         gains,
@@ -206,15 +200,14 @@ fn moving(
         total,
         journal,
     );
-    let after = t.journal;
-    MovingTurn {
-        journal: after,
-        total: t.total,
+    Ok(MovingTurn {
+        journal: polished.journal,
+        total: polished.total,
         answer: Answer::Polished {
-            moves: t.moves,
-            total: t.total,
+            moves: polished.moves,
+            total: polished.total,
         },
-    }
+    })
 }
 
 // J, or S.
@@ -241,19 +234,23 @@ fn contracting(
     letter: u32,
     x: usize,
     y: usize,
-) -> Turn
+) -> Result<Turn, Refusal>
     requires ready_s { ReadyS
         (λ loads. tables counts.old visited.old gains.old presentpins.old presentsizes.old bits.old blocks.old weights.old aboves.old loads netweights.now firsts.now loadedsizes.now n m k total)
         (two stack.into stack.gone stack.len) (two journal.vertices journal.blocks journal.len) }
     requires n_in_bounds { 16 * n ≤ length index.old }
-    ensures by_index { (loads : List ℕ) (h : Hypergraph) (ceiling : ℕ → ℕ) → Called h ceiling
-        (tables counts.old visited.old gains.old presentpins.old presentsizes.old bits.old blocks.old weights.old aboves.old loads netweights.now firsts.now loadedsizes.now n m k total)
-        (tables counts.new visited.new gains.new presentpins.new presentsizes.new bits.new blocks.new weights.new aboves.new loads netweights.now firsts.now loadedsizes.now n m k result.total)
-        (two stack.into stack.gone stack.len) (two result.stack.into result.stack.gone result.stack.len) (two journal.vertices journal.blocks journal.len) (two result.journal.vertices result.journal.blocks result.journal.len) (contracting_call letter x y) (answer_of result.answer) }
+    ensures by_index { (loads : List ℕ) (h : Hypergraph) (ceiling : ℕ → ℕ) →
+        let before = tables counts.old visited.old gains.old presentpins.old presentsizes.old bits.old blocks.old weights.old aboves.old loads netweights.now firsts.now loadedsizes.now n m k total in
+        let after = λ (after : ℕ). tables counts.new visited.new gains.new presentpins.new presentsizes.new bits.new blocks.new weights.new aboves.new loads netweights.now firsts.now loadedsizes.now n m k after in
+        let joins = two stack.into stack.gone stack.len in
+        let moves = two journal.vertices journal.blocks journal.len in
+        MatchResult result
+        (λ t. Called h ceiling before (after t.total) joins (two t.stack.into t.stack.gone t.stack.len) moves (two t.journal.vertices t.journal.blocks t.journal.len) (contracting_call letter x y) (answer_of t.answer))
+        (λ e. Called h ceiling before (after total) joins joins moves moves (contracting_call letter x y) (says_no (number_of e))) }
     ensures keeps_right { KeepsRight gains.old blocks.old gains.new blocks.new n k index.old index.new }
 {
     if letter == text::letters::J {
-        let t = call_join(
+        let joined = call_join(
             counts,
             visited,
             gains,
@@ -274,17 +271,17 @@ fn contracting(
             journal,
             x,
             y,
-        );
-        let joins = t.stack;
-        let after = t.journal;
-        return Turn {
-            stack: joins,
-            journal: after,
-            total: total,
-            answer: answer(t.no, Answer::Contracted { weight: t.weight }),
-        };
+        )?;
+        return Ok(Turn {
+            stack: joined.stack,
+            journal: joined.journal,
+            total,
+            answer: Answer::Contracted {
+                weight: joined.weight,
+            },
+        });
     }
-    let t = call_split(
+    let parted = call_split(
         counts,
         visited,
         gains,
@@ -304,21 +301,16 @@ fn contracting(
         total,
         stack,
         journal,
-    );
-    let joins = t.stack;
-    let after = t.journal;
-    Turn {
-        stack: joins,
-        journal: after,
-        total: total,
-        answer: answer(
-            t.no,
-            Answer::Uncontracted {
-                into: t.into,
-                gone: t.gone,
-            },
-        ),
-    }
+    )?;
+    Ok(Turn {
+        stack: parted.stack,
+        journal: parted.journal,
+        total,
+        answer: Answer::Uncontracted {
+            into: parted.into,
+            gone: parted.gone,
+        },
+    })
 }
 
 // Any call: its letter's byte and its two numbers.
@@ -346,15 +338,19 @@ pub fn perform(
     letter: u32,
     x: usize,
     y: usize,
-) -> Turn
+) -> Result<Turn, Refusal>
     requires ready_a { ReadyA
         (tables counts.old visited.old gains.old presentpins.old presentsizes.old bits.old blocks.old weights.old aboves.old loads.old netweights.now firsts.now loadedsizes.now size.n size.m size.k total)
         (two stack.into stack.gone stack.len) (two journal.vertices journal.blocks journal.len) size.average fixedmarks }
     requires n_in_bounds { 16 * size.n ≤ length index.old }
-    ensures called { (h : Hypergraph) (ceiling : ℕ → ℕ) → AverageIs size.average h → CeilingIs ceilings.now h ceiling → FixedIs fixedmarks h [] → Called h ceiling
-        (tables counts.old visited.old gains.old presentpins.old presentsizes.old bits.old blocks.old weights.old aboves.old loads.old netweights.now firsts.now loadedsizes.now size.n size.m size.k total)
-        (tables counts.new visited.new gains.new presentpins.new presentsizes.new bits.new blocks.new weights.new aboves.new loads.new netweights.now firsts.now loadedsizes.now size.n size.m size.k result.total)
-        (two stack.into stack.gone stack.len) (two result.stack.into result.stack.gone result.stack.len) (two journal.vertices journal.blocks journal.len) (two result.journal.vertices result.journal.blocks result.journal.len) (any_call letter x y) (answer_of result.answer) }
+    ensures called { (h : Hypergraph) (ceiling : ℕ → ℕ) →
+        let before = tables counts.old visited.old gains.old presentpins.old presentsizes.old bits.old blocks.old weights.old aboves.old loads.old netweights.now firsts.now loadedsizes.now size.n size.m size.k total in
+        let after = λ (after : ℕ). tables counts.new visited.new gains.new presentpins.new presentsizes.new bits.new blocks.new weights.new aboves.new loads.new netweights.now firsts.now loadedsizes.now size.n size.m size.k after in
+        let joins = two stack.into stack.gone stack.len in
+        let moves = two journal.vertices journal.blocks journal.len in
+        AverageIs size.average h → CeilingIs ceilings.now h ceiling → FixedIs fixedmarks h [] → MatchResult result
+        (λ t. Called h ceiling before (after t.total) joins (two t.stack.into t.stack.gone t.stack.len) moves (two t.journal.vertices t.journal.blocks t.journal.len) (any_call letter x y) (answer_of t.answer))
+        (λ e. Called h ceiling before (after total) joins joins moves moves (any_call letter x y) (says_no (number_of e))) }
     ensures keeps_right { KeepsRight gains.old blocks.old gains.new blocks.new size.n size.k index.old index.new }
 {
     if is_contracting(letter) {
@@ -387,7 +383,7 @@ pub fn perform(
         let into = stack.into;
         let gone = stack.gone;
         let marks = fixed_in(fixedmarks, &into, &gone, stack.len);
-        let t = moving(
+        let moved = moving(
             counts,
             visited,
             gains,
@@ -410,17 +406,15 @@ pub fn perform(
             letter,
             x,
             y,
-        );
-        let after = t.journal;
-        let says = t.answer;
-        return Turn {
-            stack: stack,
-            journal: after,
-            total: t.total,
-            answer: says,
-        };
+        )?;
+        return Ok(Turn {
+            stack,
+            journal: moved.journal,
+            total: moved.total,
+            answer: moved.answer,
+        });
     }
-    let t = call_all(
+    let cycled = call_all(
         counts,
         visited,
         gains,
@@ -441,22 +435,17 @@ pub fn perform(
         total,
         stack,
         journal,
-    );
-    let joins = t.stack;
-    let after = t.journal;
-    Turn {
-        stack: joins,
-        journal: after,
-        total: t.total,
-        answer: answer(
-            t.no,
-            Answer::Cycled {
-                contractions: t.joins,
-                tried: t.tried,
-                kept: t.kept,
-                moves: t.moves,
-                total: t.total,
-            },
-        ),
-    }
+    )?;
+    Ok(Turn {
+        stack,
+        journal: cycled.journal,
+        total: cycled.total,
+        answer: Answer::Cycled {
+            contractions: cycled.joins,
+            tried: cycled.tried,
+            kept: cycled.kept,
+            moves: cycled.moves,
+            total: cycled.total,
+        },
+    })
 }

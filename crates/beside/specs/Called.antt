@@ -10,6 +10,9 @@ use borrow.Author.Tests.{eq-eqb, ne_eqb, eqb-true, leb-true, not-true, not-false
 use Rattle.std.proofs.Math.Dec.{leb}
 use Rattle.std.proofs.Math.ListN.{get_or}
 use Rattle.laws.specs.Choice.{and_left, and_right, cond_yes, cond_no}
+use Rattle.refusal.specs.Number.{number_of, number-some, only-14}
+use Rattle.refusal.specs.declared.Refusal.{Refusal}
+use Rattle.refusal.specs.declared.Refusal.TheVariants.{AboveCap}
 use Rattle.model.specs.Catalogue.{Hypergraph, vertices, is_vertex, is_block, capacity, capacities}
 use Rattle.model.specs.Measure.{Contraction, above, on_board, weight, block_weight, has_room}
 use Rattle.model.specs.Machine.{Call, call_j, call_s, call_m, call_b, call_w, call_p, call_a, Answer, says_no, Move, State, Step}
@@ -267,6 +270,39 @@ module _ (letter : ℕ) (a : Answer) {q : ℕ} (m : letter ≡ letter_m) (e : q 
   pub relay-25 : (room : Bool) {r : Bool} → r ≡ room → not r ≡ false → q ≡ 14 → says_no 25 ≡ relayed_m letter room a
   unfolding by_limit
   relay-25 room {r} p z y = sym (cond_yes letter letter_m (by_limit room a) a m ∙ ap₂ (λ (t u : Bool). cond (t && u) (says_no 25) a) (eq-eqb (refusal a) 14 (sym e ∙ y)) (sym p ∙ not-false r z))
+
+-- what is not refused for want of room stays
+pub relay-done : (letter : ℕ) (room : Bool) (a : Answer) → (refusal a ≡ 14 → ⊥) → a ≡ relayed_m letter room a
+relay-done letter room a n = go (ℕ_discrete letter letter_m)
+  where
+    go : Dec (letter ≡ letter_m) → a ≡ relayed_m letter room a
+    go (yes m) = relay-else letter a m refl room n
+    go (no m) = relay-other letter room a m
+
+-- the arms of the test of an M's refusal
+pub relay-over : (letter : ℕ) (room : Bool) (e : Refusal) → e ≡ AboveCap → letter ≡ letter_m → room ≡ true → says_no 25 ≡ relayed_m letter room (says_no (number_of e))
+unfolding by_limit refusal
+relay-over letter room e q m r = sym (cond_yes letter letter_m (by_limit room (says_no (number_of e))) (says_no (number_of e)) m ∙ rw (q, r) refl)
+
+pub relay-full : (letter : ℕ) (room : Bool) (e : Refusal) → room ≡ false → says_no (number_of e) ≡ relayed_m letter room (says_no (number_of e))
+relay-full letter room e r = go (ℕ_discrete letter letter_m)
+  where
+    go : Dec (letter ≡ letter_m) → says_no (number_of e) ≡ relayed_m letter room (says_no (number_of e))
+    go (yes m) = relay-14 letter (says_no (number_of e)) m refl room {r = false} (sym r) refl
+    go (no m) = relay-other letter room (says_no (number_of e)) m
+
+pub relay-more : (letter : ℕ) (room : Bool) (e : Refusal) → (e ≡ AboveCap → ⊥) → says_no (number_of e) ≡ relayed_m letter room (says_no (number_of e))
+unfolding refusal
+relay-more letter room e n = relay-done letter room (says_no (number_of e)) (λ q. n (only-14 e q))
+
+-- by the number of B's refusal it passes the limit
+pub over-yes : (b : Bool) (e : Refusal) → number_of e ≡ cond b 25 0 → (b ≡ true) × (number_of e ≡ 25)
+over-yes true e q = (refl, q)
+over-yes false e q = absurd (number-some e q)
+
+pub over-no : (b : Bool) → ◌≡◌ {A = ℕ} 0 (cond b 25 0) → b ≡ false
+over-no true q = absurd (omega (arith, q))
+over-no false q = refl
 
 module _ (loads weights : List ℕ) (cap n k u t : ℕ) {r : Bool} (e : r ≡ known n u) where
   pub under-no : not r ≡ true → false ≡ under_cap loads weights cap n k u t

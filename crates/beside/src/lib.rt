@@ -1,4 +1,4 @@
-// A call of one catalogue of a hall, beside the others: under both limits, with 25 for an M or a B above the hall's.
+// A call of one catalogue of a hall, beside the others: under both limits, with AboveHallLimit for an M or a B above the hall's.
 #![tactic(auto)]
 
 mod limits;

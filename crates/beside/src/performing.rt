@@ -1,6 +1,8 @@
 // One call of one catalogue beside the others.
-ghost use Rattle.std.specs.Prelude.{ℕ, ◌*◌, ◌≤◌, [], length};
+ghost use Rattle.std.specs.Prelude.{ℕ, ◌*◌, ◌≤◌, [], length, MatchResult};
+ghost use Rattle.refusal.specs.Number.{number_of};
 ghost use Rattle.model.specs.Catalogue.{Hypergraph};
+ghost use Rattle.model.specs.Machine.{says_no};
 ghost use Rattle.model.specs.Lent.{two};
 ghost use Rattle.index.specs.Indexed.{KeepsRight};
 ghost use Rattle.fixed.specs.Starting.{FixedIs};
@@ -15,7 +17,7 @@ use crate::limits::{refuses_back, relay};
 use any_call::performing::{Turn, perform};
 use operations::pairs::{Journal, Stack};
 use operations::size::Size;
-use report::answers::Answer;
+use refusal::Refusal;
 
 // Any call: its letter's byte and its two numbers. `ceilings` is what both limits leave in each session, `rooms` what the hall's leaves, `cap` the cap.
 pub fn perform_beside(
@@ -44,26 +46,23 @@ pub fn perform_beside(
     letter: u32,
     x: usize,
     y: usize,
-) -> Turn
+) -> Result<Turn, Refusal>
     requires ready_a { ReadyA
         (tables counts.old visited.old gains.old presentpins.old presentsizes.old bits.old blocks.old weights.old aboves.old loads.old netweights.now firsts.now loadedsizes.now size.n size.m size.k total)
         (two stack.into stack.gone stack.len) (two journal.vertices journal.blocks journal.len) size.average fixedmarks }
     requires n_in_bounds { 16 * size.n ≤ length index.old }
-    ensures beside_called { (o : Beside) (h : Hypergraph) → AverageIs size.average h → RoomsAre ceilings.now rooms.now cap o h → FixedIs fixedmarks h [] → BesideCalled o h
-        (tables counts.old visited.old gains.old presentpins.old presentsizes.old bits.old blocks.old weights.old aboves.old loads.old netweights.now firsts.now loadedsizes.now size.n size.m size.k total)
-        (tables counts.new visited.new gains.new presentpins.new presentsizes.new bits.new blocks.new weights.new aboves.new loads.new netweights.now firsts.now loadedsizes.now size.n size.m size.k result.total)
-        (two stack.into stack.gone stack.len) (two result.stack.into result.stack.gone result.stack.len) (two journal.vertices journal.blocks journal.len) (two result.journal.vertices result.journal.blocks result.journal.len) (any_call letter x y) (answer_of result.answer) }
+    ensures beside_called { (o : Beside) (h : Hypergraph) →
+        let before = tables counts.old visited.old gains.old presentpins.old presentsizes.old bits.old blocks.old weights.old aboves.old loads.old netweights.now firsts.now loadedsizes.now size.n size.m size.k total in
+        let after = λ (after : ℕ). tables counts.new visited.new gains.new presentpins.new presentsizes.new bits.new blocks.new weights.new aboves.new loads.new netweights.now firsts.now loadedsizes.now size.n size.m size.k after in
+        let joins = two stack.into stack.gone stack.len in
+        let moves = two journal.vertices journal.blocks journal.len in
+        AverageIs size.average h → RoomsAre ceilings.now rooms.now cap o h → FixedIs fixedmarks h [] → MatchResult result
+        (λ t. BesideCalled o h before (after t.total) joins (two t.stack.into t.stack.gone t.stack.len) moves (two t.journal.vertices t.journal.blocks t.journal.len) (any_call letter x y) (answer_of t.answer))
+        (λ e. BesideCalled o h before (after total) joins joins moves moves (any_call letter x y) (says_no (number_of e))) }
     ensures keeps_right { KeepsRight gains.old blocks.old gains.new blocks.new size.n size.k index.old index.new }
 {
-    if refuses_back(loads, weights, rooms, journal, letter) {
-        return Turn {
-            stack: stack,
-            journal: journal,
-            total: total,
-            answer: Answer::Refused { number: 25 },
-        };
-    }
-    let t = perform(
+    refuses_back(loads, weights, rooms, journal, letter)?;
+    match perform(
         counts,
         visited,
         gains,
@@ -87,15 +86,8 @@ pub fn perform_beside(
         letter,
         x,
         y,
-    );
-    let joins = t.stack;
-    let moves = t.journal;
-    let says = t.answer;
-    let told = relay(loads, weights, cap, size.n, size.k, letter, x, y, says);
-    Turn {
-        stack: joins,
-        journal: moves,
-        total: t.total,
-        answer: told,
+    ) {
+        Ok(turn) => Ok(turn),
+        Err(refusal) => Err(relay(loads, weights, cap, size.n, size.k, letter, x, y, refusal)),
     }
 }

@@ -3,6 +3,8 @@
 use Rattle.std.specs.Prelude.{ℕ, zero, suc, ◌+◌, ◌*◌, ◌-◌, ◌%◌, ◌<◌, ◌≤◌, ◌≡◌, refl, Bool, true, false, cond, ◌&&◌, List, [], ◌∷◌, ltb, length, get_or, ℤ}
 use Rattle.std.proofs.Math.Decide.{dec_lt}
 use Rattle.std.proofs.Common.{arith, sym, ap, ◌∙◌, subst, ⊎_elim, lt-ltb, le-ltb}
+use Rattle.refusal.specs.Number.{number_of, number-above}
+use Rattle.refusal.specs.declared.Refusal.{Refusal}
 use Rattle.model.specs.Catalogue.{Limits, Hypergraph, vertices, in_sale, capacities}
 use Rattle.model.specs.Machine.{Answer, says_j, says_s, says_m, says_b, says_w, says_p, says_a, says_x, says_n, says_no}
 use Rattle.model.specs.Sale.{Request, call_x, call_n, Sale, Turn, space_of, turned, turn_under, turn, does_x, does_n, number_for, put, added, changed_at, refuses_x, refuses_n}
@@ -75,13 +77,13 @@ unfolding refusal
 refusal-told zero x e = e
 refusal-told (suc q) x e = refl
 
-refusal-turned : (q : ℕ) (a : Sale) (done : Turn) → refusal done.answer ≡ 0 → refusal (turned q a done).answer ≡ q
+pub refusal-turned : (q : ℕ) (a : Sale) (done : Turn) → refusal done.answer ≡ 0 → refusal (turned q a done).answer ≡ q
 unfolding turned refusal
 refusal-turned zero a done e = e
 refusal-turned (suc q) a done e = refl
 
 -- by the number of its refusal the turn leaves the sale, or what the accepted call does
-turned-refused : (q : ℕ) (a : Sale) (done : Turn) → 1 ≤ q → (turned q a done).sale ≡ a
+pub turned-refused : (q : ℕ) (a : Sale) (done : Turn) → 1 ≤ q → (turned q a done).sale ≡ a
 unfolding turned
 turned-refused zero a done l = absurd (omega arith)
 turned-refused (suc q) a done l = refl
@@ -158,6 +160,31 @@ unfolding turn_under does_n refusal
 went-add {limits} {a} {bales = bales} {session} {buyers = buyers} {out} {out'} {at} {at'} g d e w = record {
   goes = goes-changed g (refuses_n (space_of limits) a.graph (capacities a.graph) a.state bales session buyers) (does_n a bales session buyers) refl refl d;
   wrote = subst (λ (y : Answer). Wrote out out' at (answer_row y) at') (e ∙ d.turns.says) w;
+}
+
+-- a refused one leaves what stands for the sale, and the turn leaves the sale
+kept-refused : {limits : Limits} {a : Sale} {old : MemoryTables} {p : Point} {K : Stock} (q : ℕ) (done : Turn) (e : Refusal) → GoesOn limits a old p → refusal done.answer ≡ 0 → says_no (number_of e) ≡ (turned q a done).answer → K ≡ p.stock
+    → GoesOn limits (turned q a done).sale old (record { stock = K; stack = p.stack; fixedmarks = p.fixedmarks })
+unfolding refusal
+kept-refused {a = a} q done e g r says k =
+    let number : number_of e ≡ q = ap refusal says ∙ refusal-turned q a done r in
+    rw (turned-refused q a done (omega (arith, number, number-above e)), k) g
+
+pub refused-withdraw : {limits : Limits} {a : Sale} {old : MemoryTables} {p : Point} {K : Stock} {v : ℕ} {out out' : List ℕ} {at at' : ℕ} → GoesOn limits a old p → (e : Refusal) → Turns limits (turn limits a (call_x v)) p.stack K (says_no (number_of e)) → K ≡ p.stock
+    → Wrote out out' at (answer_row (says_no (number_of e))) at' → Went limits a old (call_x v) (record { stock = K; stack = p.stack; fixedmarks = p.fixedmarks }) out out' at at'
+unfolding turn_under does_x refusal
+refused-withdraw {a = a} {v = v} {out = out} {out'} {at} {at'} g e t k w = record {
+  goes = kept-refused (refuses_x a.graph a.state v) (does_x a v) e g refl t.says k;
+  wrote = subst (λ (y : Answer). Wrote out out' at (answer_row y) at') t.says w;
+}
+
+pub refused-add : {limits : Limits} {a : Sale} {old : MemoryTables} {p : Point} {K : Stock} {bales session : ℕ} {buyers out out' : List ℕ} {at at' : ℕ} → GoesOn limits a old p → (e : Refusal)
+    → Turns limits (turn limits a (call_n bales session buyers)) p.stack K (says_no (number_of e)) → K ≡ p.stock
+    → Wrote out out' at (answer_row (says_no (number_of e))) at' → Went limits a old (call_n bales session buyers) (record { stock = K; stack = p.stack; fixedmarks = p.fixedmarks }) out out' at at'
+unfolding turn_under does_n refusal
+refused-add {limits} {a} {bales = bales} {session} {buyers = buyers} {out} {out'} {at} {at'} g e t k w = record {
+  goes = kept-refused (refuses_n (space_of limits) a.graph (capacities a.graph) a.state bales session buyers) (does_n a bales session buyers) e g refl t.says k;
+  wrote = subst (λ (y : Answer). Wrote out out' at (answer_row y) at') t.says w;
 }
 
 -- N at the entry's limit of lots

@@ -39,13 +39,13 @@ pub fn begin(fixed: &[u16], n: usize, marks: usize, total: u32) -> Course
     let free = Free::new();
     let fixedmarks = mark_fixed(fixed, n);
     Course {
-        stack: stack,
-        journal: journal,
-        free: free,
-        fixedmarks: fixedmarks,
-        n: n,
-        marks: marks,
-        total: total,
+        stack,
+        journal,
+        free,
+        fixedmarks,
+        n,
+        marks,
+        total,
         at: 0,
     }
 }

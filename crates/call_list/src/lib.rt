@@ -15,14 +15,7 @@ pub mod stepping;
 use course::{Course, Frame};
 use stepping::{add, run_machine, withdraw};
 
-// A number of a call as code works with it.
-pub fn wide(x: u32) -> usize
-    ensures { result ≡ x }
-{
-    x as usize
-}
-
-// The bales, the session and the buyers of an N whose numbers are `y` operands from `x` on.
+// The bales of an N whose numbers are the operands from `x` on.
 pub fn bales_of(operands: &[u32], x: usize) -> u32
     requires { x < length operands.now }
     ensures { result ≡ get_or operands.now x 0 }
@@ -30,13 +23,15 @@ pub fn bales_of(operands: &[u32], x: usize) -> u32
     operands[x]
 }
 
+// Its session.
 pub fn session_of(operands: &[u32], x: usize) -> usize
     requires { x + 1 < length operands.now }
     ensures { result ≡ get_or operands.now (x + 1) 0 }
 {
-    wide(operands[x + 1])
+    operands[x + 1] as usize
 }
 
+// Its buyers: `y` numbers in all.
 pub fn buyers_of(operands: &[u32], x: usize, y: usize) -> &[u32]
     requires { (2 ≤ y) × (x + y ≤ length operands.now) }
     ensures { result.now ≡ take (y - 2) (drop (x + 2) operands.now) }
@@ -260,8 +255,7 @@ pub fn run_calls(
         output.old output.new result.at }
 {
     let mut course = start;
-    let mut i = 0;
-    while i < count {
+    for i in 0..count {
         let at = 3 * i;
         course = step(
             output,
@@ -286,10 +280,9 @@ pub fn run_calls(
             frame,
             course,
             calls[at],
-            wide(calls[at + 1]),
-            wide(calls[at + 2]),
+            calls[at + 1] as usize,
+            calls[at + 2] as usize,
         );
-        i += 1;
     }
     course
 }

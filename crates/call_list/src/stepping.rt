@@ -1,9 +1,6 @@
 // One call line of a list: a call of the machine, X or N; the line of its answer goes to the output.
-ghost use Rattle.std.specs.Prelude.{◌+◌, ◌-◌, ◌≤◌, ◌≡◌, length, get_or, take, drop};
-ghost use Rattle.model.specs.Machine.{says_x, says_n};
+ghost use Rattle.std.specs.Prelude.{length};
 ghost use Rattle.model.specs.Sale.{runs, call_x, call_n};
-ghost use Rattle.edit_calls.specs.Steps.{told};
-ghost use Rattle.report.specs.Meaning.{answer_of};
 ghost use Rattle.any_call.specs.Kinds.{any_call};
 ghost use Rattle.call_list.specs.Point.{point_of, CanStep, Steps};
 
@@ -54,11 +51,7 @@ pub fn run_machine(
         k: frame.k,
         average: frame.average,
     };
-    let stack = course.stack;
-    let journal = course.journal;
-    let free = course.free;
-    let fixedmarks = course.fixedmarks;
-    let t = perform(
+    match perform(
         counts,
         visited,
         gains,
@@ -74,39 +67,30 @@ pub fn run_machine(
         firsts,
         loadedsizes,
         ceilings,
-        fixedmarks,
+        course.fixedmarks,
         size,
         course.total,
-        stack,
-        journal,
+        course.stack,
+        course.journal,
         letter,
         x,
         y,
-    );
-    let joins = t.stack;
-    let moved = t.journal;
-    let says = t.answer;
-    let end = put_answer(output, course.at, says);
-    Course {
-        stack: joins,
-        journal: moved,
-        free: free,
-        fixedmarks: fixedmarks,
-        n: course.n,
-        marks: course.marks,
-        total: t.total,
-        at: end,
+    ) {
+        Ok(turn) => {
+            let end = put_answer(output, course.at, Ok(turn.answer));
+            Course {
+                stack: turn.stack,
+                journal: turn.journal,
+                total: turn.total,
+                at: end,
+                ..course
+            }
+        }
+        Err(refusal) => Course {
+            at: put_answer(output, course.at, Err(refusal.number())),
+            ..course
+        },
     }
-}
-
-// X's answer, by its refusal.
-fn withdrawn(no: u32, total: u32) -> Answer
-    ensures { answer_of result ≡ told no (says_x total) }
-{
-    if no == 0 {
-        return Answer::Withdrawn { total: total };
-    }
-    Answer::Refused { number: no }
 }
 
 // X.
@@ -140,11 +124,7 @@ pub fn withdraw(
         (point_of counts.new visited.new gains.new index.new presentpins.new presentsizes.new bits.new blocks.new weights.new aboves.new fixed.new loads.new loadedpins.new firsts.new loadedsizes.new netweights.now frame.m frame.k result)
         output.old output.new course.at result.at }
 {
-    let stack = course.stack;
-    let journal = course.journal;
-    let free = course.free;
-    let joins = stack.len;
-    let t = call_withdraw(
+    match call_withdraw(
         counts,
         visited,
         gains,
@@ -166,39 +146,33 @@ pub fn withdraw(
         frame.k,
         course.total,
         course.marks,
-        joins,
-        free,
-        journal,
+        course.stack.len,
+        course.free,
+        course.journal,
         v,
-    );
-    let end = put_answer(output, course.at, withdrawn(t.no, t.total));
-    let fixedmarks = mark_fixed(fixed, course.n);
-    let left = t.free;
-    let moves = t.journal;
-    Course {
-        stack: stack,
-        journal: moves,
-        free: left,
-        fixedmarks: fixedmarks,
-        n: course.n,
-        marks: t.marks,
-        total: t.total,
-        at: end,
+    ) {
+        Ok(turn) => {
+            let end = put_answer(
+                output,
+                course.at,
+                Ok(Answer::Withdrawn { total: turn.total }),
+            );
+            let fixedmarks = mark_fixed(fixed, course.n);
+            Course {
+                journal: turn.journal,
+                free: turn.free,
+                fixedmarks,
+                marks: turn.marks,
+                total: turn.total,
+                at: end,
+                ..course
+            }
+        }
+        Err(refusal) => Course {
+            at: put_answer(output, course.at, Err(refusal.number())),
+            ..course
+        },
     }
-}
-
-// N's answer, by its refusal.
-pub fn added(no: u32, lot: usize, total: u32) -> Answer
-    requires { no ≡ 0 → lot ≤ 1025 }
-    ensures { answer_of result ≡ told no (says_n lot total) }
-{
-    if no == 0 {
-        return Answer::Added {
-            lot: (lot % 4294967296) as u32,
-            total: total,
-        };
-    }
-    Answer::Refused { number: no }
 }
 
 // N.
@@ -234,11 +208,7 @@ pub fn add(
         (point_of counts.new visited.new gains.new index.new presentpins.new presentsizes.new bits.new blocks.new weights.new aboves.new fixed.new loads.new loadedpins.new firsts.new loadedsizes.new netweights.now frame.m frame.k result)
         output.old output.new course.at result.at }
 {
-    let stack = course.stack;
-    let journal = course.journal;
-    let free = course.free;
-    let joins = stack.len;
-    let t = call_add(
+    match call_add(
         counts,
         visited,
         gains,
@@ -262,26 +232,39 @@ pub fn add(
         frame.k,
         course.total,
         course.marks,
-        joins,
+        course.stack.len,
         frame.lots,
         8192,
-        free,
-        journal,
+        course.free,
+        course.journal,
         bales,
         session,
-    );
-    let end = put_answer(output, course.at, added(t.no, t.lot, t.total));
-    let fixedmarks = mark_fixed(fixed, t.n);
-    let left = t.free;
-    let moves = t.journal;
-    Course {
-        stack: stack,
-        journal: moves,
-        free: left,
-        fixedmarks: fixedmarks,
-        n: t.n,
-        marks: t.marks,
-        total: t.total,
-        at: end,
+    ) {
+        Ok(turn) => {
+            let lot = turn.lot as u32;
+            let end = put_answer(
+                output,
+                course.at,
+                Ok(Answer::Added {
+                    lot,
+                    total: turn.total,
+                }),
+            );
+            let fixedmarks = mark_fixed(fixed, turn.n);
+            Course {
+                journal: turn.journal,
+                free: turn.free,
+                fixedmarks,
+                n: turn.n,
+                marks: turn.marks,
+                total: turn.total,
+                at: end,
+                ..course
+            }
+        }
+        Err(refusal) => Course {
+            at: put_answer(output, course.at, Err(refusal.number())),
+            ..course
+        },
     }
 }

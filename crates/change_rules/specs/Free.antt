@@ -1,7 +1,7 @@
 -- The numbers withdrawn and still free as an array and a length, the latest last: one more, the latest one taken, and the number of the next lot. Rests on
 -- operations's Pairs. Assumes nothing.
-use Rattle.std.specs.Prelude.{ℕ, zero, suc, ◌+◌, ◌-◌, ◌≤◌, ◌<◌, ◌≡◌, refl, cond, List, [], ◌∷◌, eqb, length, get_or, set, drop}
-use Rattle.std.proofs.Common.{arith, sym, ap, ◌∙◌}
+use Rattle.std.specs.Prelude.{ℕ, zero, suc, ◌+◌, ◌-◌, ◌≤◌, ◌<◌, ◌≡◌, refl, cond, List, [], ◌∷◌, eqb, length, get_or, set, drop, Option, Some, None}
+use Rattle.std.proofs.Common.{arith, sub-one, sym, ap, ◌∙◌}
 use Rattle.laws.specs.Choice.{cond_yes, cond_no}
 use Rattle.model.specs.Catalogue.{Hypergraph, vertices}
 use Rattle.model.specs.Lent.{pairs}
@@ -26,6 +26,11 @@ unfolding pairs
 free-less numbers zero = refl
 free-less numbers (suc len) = ap (free_of numbers) (let z : suc len - 1 ≡ len = omega arith in z)
 
+-- the latest, where there is one
+abbrev pub latest_of : List ℕ → ℕ → Option ℕ
+latest_of numbers zero = None
+latest_of numbers (suc len) = Some (get_or numbers len 0)
+
 -- N's number: the latest, or the one behind n
 unfoldable pub next_of : List ℕ → ℕ → ℕ → ℕ
 next_of numbers len n = cond (eqb len 0) (n + 1) (get_or numbers (len - 1) 0)
@@ -46,3 +51,13 @@ next-first numbers len n e = sym (cond_yes len 0 (n + 1) (get_or numbers (len - 
 pub next-latest : (numbers : List ℕ) (len n : ℕ) → (len ≡ 0 → ⊥) → get_or numbers (len - 1) 0 ≡ next_of numbers len n
 unfolding next_of
 next-latest numbers len n e = sym (cond_no len 0 (n + 1) (get_or numbers (len - 1) 0) e)
+
+pub next_some : (numbers : List ℕ) (len n v : ℕ) → Some v ≡ latest_of numbers len → v ≡ next_of numbers len n
+next_some numbers zero n v e = absurd cc
+next_some numbers (suc len) n v e =
+    let same : v ≡ get_or numbers (suc len - 1) 0 = rw sub-one cc in
+    same ∙ next-latest numbers (suc len) n (λ z. omega arith)
+
+pub next_none : (numbers : List ℕ) (len n : ℕ) → None ≡ latest_of numbers len → n + 1 ≡ next_of numbers len n
+next_none numbers zero n e = next-first numbers 0 n refl
+next_none numbers (suc len) n e = absurd cc

@@ -1,6 +1,7 @@
 -- The buyers that N names: whether all are known, one after the other; a table of 0 and 1 by buyer, and whether one is named twice; how many marks there
 -- are with one more for each that is named. Assumes nothing.
 use Rattle.std.specs.Prelude.{ℕ, zero, suc, ◌+◌, ◌*◌, ◌-◌, ◌<◌, ◌≤◌, ◌≡◌, refl, Bool, true, false, not, ◌&&◌, ◌||◌, List, [], ◌∷◌, ◌++◌, eqb, leb, length, get_or, take, drop, set, replicate}
+use Rattle.std.specs.List.{list_all}
 use Rattle.std.proofs.Math.Decide.{ℕ_discrete}
 use Rattle.std.proofs.Common.{add-one, arith, sym, ap, ap₂, ◌∙◌, true≢false, eq-eqb, ne_eqb, leb-true, length-set, take-append-drop, take-suc, drop-cons, take_all, get_or-set_same, get_or-set_other}
 use Rattle.std.proofs.lemmas.Bool.{not-true, not-false}
@@ -32,6 +33,12 @@ drop-end (x ∷ l) (suc i) q = drop-end l i (omega arith)
 pub all_done : (l : List ℕ) (p : ℕ → Bool) (i : ℕ) → length l ≤ i → all l p ≡ all (drop i l) p → true ≡ all l p
 unfolding all
 all_done l p i q e = sym (e ∙ ap (λ (r : List ℕ). all r p) (drop-end l i q))
+
+-- the library's word for it
+pub all-list : (l : List ℕ) (p : ℕ → Bool) → list_all p l ≡ all l p
+unfolding all
+all-list [] p = refl
+all-list (x ∷ l) p = ap (λ (b : Bool). p x && b) (all-list l p)
 
 -- each of them, where all are
 pub all-each : (l : List ℕ) (m : ℕ) → all l (known m) ≡ true → (i : ℕ) → i < length l → (1 ≤ get_or l i 0) × (get_or l i 0 ≤ m)

@@ -1,6 +1,6 @@
 // The numbers withdrawn and still free, the latest last: a struct by value, whose methods return the new state. A list has at most 512 calls.
 ghost use Rattle.std.specs.Prelude.{◌+◌, ◌-◌, ◌<◌, ◌≤◌, ◌≡◌, length, set};
-ghost use Rattle.change_rules.specs.Free.{next_of};
+ghost use Rattle.change_rules.specs.Free.{latest_of, next_of};
 
 #[derive(Clone, Copy)]
 pub struct Free {
@@ -13,10 +13,7 @@ impl Free {
         ensures { (length result.numbers ≡ 512) × (result.len ≡ 0) }
     {
         let numbers = [0u16; 512];
-        Free {
-            numbers: numbers,
-            len: 0,
-        }
+        Free { numbers, len: 0 }
     }
 
     // With `v` as the latest.
@@ -42,16 +39,22 @@ impl Free {
         s
     }
 
+    // The latest, where there is one.
+    pub fn latest(self) -> Option<u16>
+        requires { (self.len ≤ 512) × (length self.numbers ≡ 512) }
+        ensures { result ≡ latest_of self.numbers self.len }
+    {
+        self.numbers[..self.len].last().copied()
+    }
+
     // The number of the next lot that is added: the latest, or the one behind the `n` that are known.
     pub fn next(self, n: usize) -> usize
         requires { (self.len ≤ 512) × (length self.numbers ≡ 512) × (n ≤ 1024) }
         ensures { result ≡ next_of self.numbers self.len n }
     {
-        let len = self.len;
-        if len == 0 {
-            return n + 1;
+        match self.latest() {
+            Some(number) => usize::from(number),
+            None => n + 1,
         }
-        let at = len - 1;
-        self.numbers[at] as usize
     }
 }

@@ -1,5 +1,5 @@
 // The buyers that N names.
-ghost use Rattle.std.specs.Prelude.{ℕ, ◌+◌, ◌≤◌, ◌<◌, ◌≡◌, false, length, get_or, replicate};
+ghost use Rattle.std.specs.Prelude.{ℕ, ◌≤◌, ◌<◌, ◌≡◌, false, length, get_or, replicate};
 ghost use Rattle.laws.specs.Fold.{all};
 ghost use Rattle.model.specs.Sale.{named_twice};
 ghost use Rattle.edit_calls.specs.Refusal.{known};
@@ -8,26 +8,11 @@ ghost use Rattle.change_rules.specs.Named.{Named};
 
 use edit_calls::refusals::is_known;
 
-// A number of a call as code works with it.
-pub fn wide(x: u32) -> usize
-    ensures { result ≡ x }
-{
-    x as usize
-}
-
 // Is each a number from 1 to `m`.
 pub fn all_known(buyers: &[u32], m: usize) -> bool
     ensures { result ≡ all buyers.now (known m) }
 {
-    let count = buyers.len();
-    let mut i = 0;
-    while i < count {
-        if !is_known(m, wide(buyers[i])) {
-            return false;
-        }
-        i += 1;
-    }
-    true
+    buyers.iter().all(|buyer| is_known(m, *buyer as usize))
 }
 
 // Puts a 1 for each into a table of zeros, up to the first that is named twice; is there one.
@@ -35,24 +20,14 @@ pub fn mark_buyers(named: &mut [u16; 1024], buyers: &[u32]) -> bool
     requires { (named.old ≡ replicate 1024 0) × ((i : ℕ) → i < length buyers.now → (1 ≤ get_or buyers.now i 0) × (get_or buyers.now i 0 ≤ 1024)) }
     ensures { (result ≡ named_twice buyers.now) × (result ≡ false → Named named.new buyers.now) }
 {
-    let count = buyers.len();
-    let mut i = 0;
-    while i < count {
-        let at = wide(buyers[i]) - 1;
+    for buyer in buyers {
+        let at = (*buyer as usize) - 1;
         if named[at] == 1 {
             return true;
         }
         named[at] = 1;
-        i += 1;
     }
     false
-}
-
-// A buyer's marks and one more where it is named.
-fn both(size: u16, named: u16) -> usize
-    ensures { (result ≡ size + named) × (result ≤ 131070) }
-{
-    (size as usize) + (named as usize)
 }
 
 // How many marks `m` buyers have with one more for each that is named.
@@ -61,10 +36,8 @@ pub fn total_with(loadedsizes: &[u16], named: &[u16; 1024], m: usize) -> usize
     ensures { result ≡ total_with named.now loadedsizes.now m }
 {
     let mut t: usize = 0;
-    let mut e = 0;
-    while e < m {
-        t += both(loadedsizes[e], named[e]);
-        e += 1;
+    for e in 0..m {
+        t += usize::from(loadedsizes[e]) + usize::from(named[e]);
     }
     t
 }

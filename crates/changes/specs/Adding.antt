@@ -1,7 +1,7 @@
 -- The call N, refused and accepted. Rests on Stands, Named and Refusal. Assumes nothing.
-use Rattle.std.specs.Prelude.{ℕ, suc, ◌+◌, ◌*◌, ◌-◌, ◌<◌, ◌≤◌, ◌≡◌, refl, Bool, true, false, not, cond, ◌&&◌, eqb, ltb, get_or, drop, ℤ}
+use Rattle.std.specs.Prelude.{ℕ, suc, ◌+◌, ◌*◌, ◌-◌, ◌<◌, ◌≤◌, ◌≡◌, refl, Bool, true, false, not, cond, ◌&&◌, eqb, ltb, max, get_or, drop, ℤ}
 use Rattle.std.proofs.Math.Decide.{dec_lt}
-use Rattle.std.proofs.Common.{arith, ◌∙◌}
+use Rattle.std.proofs.Common.{arith, ◌∙◌, lt-ltb, le-ltb}
 use Rattle.std.proofs.Math.Path.{sym, ap, subst}
 use mathlib.Core.List.{List, [], ◌∷◌, ◌++◌}
 use borrow.Author.Tests.{lt-ltb, le-ltb, leb-true, not-false}
@@ -257,3 +257,11 @@ module _ {limits : Limits} {a : Sale} {S : Two} {ceiling : ℕ → ℕ} {joins :
           stands = subst (λ (b : Turn). Stands limits b.sale S K') (sym t) k;
           says = ap (λ (y : ℕ). says_n y K'.tables.total) e ∙ ap (says_n (number_for a.graph a.free)) k.runs.sound.total-is ∙ sym (ap (λ (b : Turn). b.answer) t);
         }
+
+-- the larger of two, by the test that the sale makes
+pub larger : (n v : ℕ) → max n v ≡ cond (ltb n v) v n
+larger n v = go (dec_lt n v)
+  where
+    go : Dec (n < v) → max n v ≡ cond (ltb n v) v n
+    go (yes l) = let m : max n v ≡ v = omega (arith, l) in m ∙ sym (ap (λ (b : Bool). cond b v n) (lt-ltb n v l))
+    go (no l) = let m : max n v ≡ n = omega (arith, l) in m ∙ sym (ap (λ (b : Bool). cond b v n) (le-ltb n v (omega (arith, l))))

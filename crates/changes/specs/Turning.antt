@@ -4,6 +4,8 @@ use Rattle.std.proofs.Common.{arith, ◌∙◌}
 use Rattle.std.proofs.Math.Path.{sym, ap, subst}
 use mathlib.Core.List.{List, [], ◌∷◌}
 use Rattle.std.proofs.Math.ListN.{length, length-set}
+use Rattle.refusal.specs.Number.{number_of, number-some}
+use Rattle.refusal.specs.declared.Refusal.{Refusal}
 use Rattle.model.specs.Catalogue.{Limits, Net, Hypergraph, vertices}
 use Rattle.model.specs.Machine.{Answer, says_x, says_no, State, fresh}
 use Rattle.model.specs.Memory.{no_net, all_pins}
@@ -15,7 +17,7 @@ use Rattle.guarantees.specs.Changes.{without-length}
 use Rattle.guarantees.specs.Reached.{Valid, accepts-X, X-told}
 use Rattle.levels.specs.Running.{net_at}
 use Rattle.operations.specs.Tables.{Tables, tables, Sound}
-use Rattle.edit_calls.specs.Steps.{Whole, Runs, told}
+use Rattle.edit_calls.specs.Steps.{Whole, Runs, told, told_no}
 use Rattle.edit_calls.specs.Start.{Empty}
 use Rattle.renewal.specs.Nets.{Stored, Holding, changed-weight}
 use Rattle.renewal.specs.Nets.{nets_without as taken_nets}
@@ -163,6 +165,13 @@ pub turned-yes : (q : ℕ) (a : Sale) (done : Turn) → q ≡ 0 → turned q a d
 unfolding turned
 turned-yes zero a done e = refl
 turned-yes (suc q) a done e = absurd (omega arith)
+
+-- by a refusal the answer is its number
+pub turns_refused : {limits : Limits} {t : Turn} {S : Two} {K : Stock} (e : Refusal) (x : Answer) → Turns limits t S K (told (number_of e) x) → Turns limits t S K (says_no (number_of e))
+turns_refused e x t = record { stands = t.stands; says = sym (told_no (number_of e) x (number-some e)) ∙ t.says }
+
+pub turns_told : {limits : Limits} {t : Turn} {S : Two} {K : Stock} (e : Refusal) (x : Answer) → Turns limits t S K (says_no (number_of e)) → Turns limits t S K (told (number_of e) x)
+turns_told e x t = record { stands = t.stands; says = told_no (number_of e) x (number-some e) ∙ t.says }
 
 module _ {limits : Limits} {a : Sale} {S : Two} {K : Stock} (w : Stands limits a S K) {joins : ℕ} (e : joins ≡ S.len) {no : ℕ} (v : ℕ) (r : no ≡ refusal_x K.tables.blocks K.tables.n joins v) where
   same-no : no ≡ refuses_x a.graph a.state v

@@ -1,12 +1,12 @@
 // The call N: a lot added.
-ghost use Rattle.std.specs.Prelude.{ℕ, ◌≤◌, ◌≡◌, cond, ltb};
+ghost use Rattle.std.specs.Prelude.{ℕ, ◌≤◌, ◌≡◌, MatchResult, IfOk, IfErr};
+ghost use Rattle.refusal.specs.Number.{number_of};
 ghost use Rattle.model.specs.Catalogue.{Limits};
-ghost use Rattle.model.specs.Machine.{says_n};
+ghost use Rattle.model.specs.Machine.{says_n, says_no};
 ghost use Rattle.model.specs.Sale.{Sale, call_n, turn_under};
 ghost use Rattle.model.specs.Lent.{Two, two};
 ghost use Rattle.index.specs.Indexed.{AllRight};
 ghost use Rattle.operations.specs.Tables.{tables};
-ghost use Rattle.edit_calls.specs.Steps.{told};
 ghost use Rattle.changes.specs.Spared.{Spared};
 ghost use Rattle.changes.specs.Stands.{stock, Turns};
 ghost use Rattle.changes.specs.Adding.{CanPlace, Placing, AskN, CanAdd};
@@ -15,14 +15,14 @@ use crate::renewing::renew;
 use crate::withdrawing::Rest;
 use change_rules::free::Free;
 use change_rules::lot::set_lot;
-use change_rules::naming::{total_with, wide};
+use change_rules::naming::total_with;
 use change_rules::refusals::refuses_add;
 use incidence::numbers::narrow;
 use operations::pairs::Journal;
+use refusal::Refusal;
 use renewal::put_in;
 
-// What N leaves of the free numbers, the record, how many lots are known, the number of marks and the metric; its lot, 0 where it is refused, and its
-// refusal or 0.
+// What N leaves of the free numbers, the record, how many lots are known, the number of marks and the metric, and its lot.
 #[derive(Clone, Copy)]
 pub struct AddTurn {
     pub free: Free,
@@ -31,14 +31,6 @@ pub struct AddTurn {
     pub marks: usize,
     pub total: u32,
     pub lot: usize,
-    pub no: u32,
-}
-
-// How many lots are known with the number `v`.
-fn larger(n: usize, v: usize) -> usize
-    ensures { result ≡ cond (ltb n v) v n }
-{
-    if n < v { v } else { n }
 }
 
 // The lot `v` put into all tables, when N is not refused; `n` lots are known with it.
@@ -99,10 +91,7 @@ fn place(
         k,
         marks,
     );
-    Rest {
-        marks: marks,
-        total: total,
-    }
+    Rest { marks, total }
 }
 
 // N,bales,session,buyers, with `joins` contractions on the stack, where there may be `lotroom` lots and `markroom` marks.
@@ -137,29 +126,20 @@ pub fn call_add(
     journal: Journal,
     bales: u32,
     session: usize,
-) -> AddTurn
+) -> Result<AddTurn, Refusal>
     requires { CanAdd joins ceilings.now buyers.now lotroom markroom (stock
         (tables counts.old visited.old gains.old presentpins.old presentsizes.old bits.old blocks.old weights.old aboves.old loads.old netweights.now firsts.old loadedsizes.old n m k total)
         fixed.old index.old loadedpins.old free.numbers free.len marks (two journal.vertices journal.blocks journal.len)) }
-    ensures turns { (limits : Limits) (a : Sale) (S : Two) (ceiling : ℕ → ℕ) → AskN limits a S ceiling joins ceilings.now buyers.now lotroom markroom (stock
-        (tables counts.old visited.old gains.old presentpins.old presentsizes.old bits.old blocks.old weights.old aboves.old loads.old netweights.now firsts.old loadedsizes.old n m k total)
-        fixed.old index.old loadedpins.old free.numbers free.len marks (two journal.vertices journal.blocks journal.len)) → Turns limits (turn_under (record { lots = lotroom; marks = markroom }) ceiling a (call_n bales session buyers.now)) S (stock
-        (tables counts.new visited.new gains.new presentpins.new presentsizes.new bits.new blocks.new weights.new aboves.new loads.new netweights.now firsts.new loadedsizes.new result.n m k result.total)
-        fixed.new index.new loadedpins.new result.free.numbers result.free.len result.marks (two result.journal.vertices result.journal.blocks result.journal.len)) (told result.no (says_n result.lot result.total)) }
-    ensures len_after { 1 ≤ result.no → stock
-        (tables counts.new visited.new gains.new presentpins.new presentsizes.new bits.new blocks.new weights.new aboves.new loads.new netweights.now firsts.new loadedsizes.new result.n m k result.total)
-        fixed.new index.new loadedpins.new result.free.numbers result.free.len result.marks (two result.journal.vertices result.journal.blocks result.journal.len) ≡ stock
-        (tables counts.old visited.old gains.old presentpins.old presentsizes.old bits.old blocks.old weights.old aboves.old loads.old netweights.now firsts.old loadedsizes.old n m k total)
-        fixed.old index.old loadedpins.old free.numbers free.len marks (two journal.vertices journal.blocks journal.len) }
-    ensures all_right { AllRight gains.old blocks.old n k index.old → AllRight gains.new blocks.new result.n k index.new }
-    ensures spared { result.no ≡ 0 → Spared result.marks
-        (tables counts.old visited.old gains.old presentpins.old presentsizes.old bits.old blocks.old weights.old aboves.old loads.old netweights.now firsts.old loadedsizes.old n m k total)
-        (tables counts.new visited.new gains.new presentpins.new presentsizes.new bits.new blocks.new weights.new aboves.new loads.new netweights.now firsts.new loadedsizes.new result.n m k result.total)
-        fixed.old fixed.new index.old index.new loadedpins.old loadedpins.new }
+    ensures turns { (limits : Limits) (a : Sale) (S : Two) (ceiling : ℕ → ℕ) → AskN limits a S ceiling joins ceilings.now buyers.now lotroom markroom (stock (tables counts.old visited.old gains.old presentpins.old presentsizes.old bits.old blocks.old weights.old aboves.old loads.old netweights.now firsts.old loadedsizes.old n m k total) fixed.old index.old loadedpins.old free.numbers free.len marks (two journal.vertices journal.blocks journal.len)) → MatchResult result
+        (λ t. Turns limits (turn_under (record { lots = lotroom; marks = markroom }) ceiling a (call_n bales session buyers.now)) S (stock (tables counts.new visited.new gains.new presentpins.new presentsizes.new bits.new blocks.new weights.new aboves.new loads.new netweights.now firsts.new loadedsizes.new t.n m k t.total) fixed.new index.new loadedpins.new t.free.numbers t.free.len t.marks (two t.journal.vertices t.journal.blocks t.journal.len)) (says_n t.lot t.total))
+        (λ e. Turns limits (turn_under (record { lots = lotroom; marks = markroom }) ceiling a (call_n bales session buyers.now)) S (stock (tables counts.new visited.new gains.new presentpins.new presentsizes.new bits.new blocks.new weights.new aboves.new loads.new netweights.now firsts.new loadedsizes.new n m k total) fixed.new index.new loadedpins.new free.numbers free.len marks (two journal.vertices journal.blocks journal.len)) (says_no (number_of e))) }
+    ensures len_after { IfErr result (λ _. stock (tables counts.new visited.new gains.new presentpins.new presentsizes.new bits.new blocks.new weights.new aboves.new loads.new netweights.now firsts.new loadedsizes.new n m k total) fixed.new index.new loadedpins.new free.numbers free.len marks (two journal.vertices journal.blocks journal.len) ≡ stock (tables counts.old visited.old gains.old presentpins.old presentsizes.old bits.old blocks.old weights.old aboves.old loads.old netweights.now firsts.old loadedsizes.old n m k total) fixed.old index.old loadedpins.old free.numbers free.len marks (two journal.vertices journal.blocks journal.len)) }
+    ensures all_right { AllRight gains.old blocks.old n k index.old → MatchResult result (λ t. AllRight gains.new blocks.new t.n k index.new) (λ _. AllRight gains.new blocks.new n k index.new) }
+    ensures spared { IfOk result (λ t. Spared t.marks (tables counts.old visited.old gains.old presentpins.old presentsizes.old bits.old blocks.old weights.old aboves.old loads.old netweights.now firsts.old loadedsizes.old n m k total) (tables counts.new visited.new gains.new presentpins.new presentsizes.new bits.new blocks.new weights.new aboves.new loads.new netweights.now firsts.new loadedsizes.new t.n m k t.total) fixed.old fixed.new index.old index.new loadedpins.old loadedpins.new) }
 {
     let mut named = [0u16; 1024];
     let len = free.len;
-    let no = refuses_add(
+    refuses_add(
         &mut named,
         loads,
         ceilings,
@@ -171,22 +151,11 @@ pub fn call_add(
         lotroom,
         marks,
         markroom,
-        wide(bales),
+        bales as usize,
         session,
-    );
-    if no != 0 {
-        return AddTurn {
-            free: free,
-            journal: journal,
-            n: n,
-            marks: marks,
-            total: total,
-            lot: 0,
-            no: no,
-        };
-    }
+    )?;
     let v = free.next(n);
-    let known = larger(n, v);
+    let known = n.max(v);
     let rest = place(
         counts,
         visited,
@@ -214,13 +183,12 @@ pub fn call_add(
     );
     let left = free.pop();
     let cleared = journal.clear();
-    AddTurn {
+    Ok(AddTurn {
         free: left,
         journal: cleared,
         n: known,
         marks: rest.marks,
         total: rest.total,
         lot: v,
-        no: 0,
-    }
+    })
 }

@@ -31,7 +31,7 @@ use Rattle.changes.specs.Adding.{AskN}
 use Rattle.beside.specs.Under.{least}
 use Rattle.call_list.specs.Point.{Point, GoesOn, Under}
 use Rattle.call_list.specs.Point.{CanStep as CanStepAlone, Steps as StepsAlone}
-use Rattle.call_list.specs.Late.{Changes, goes-changed, no-N, lot-told, lots-turned}
+use Rattle.call_list.specs.Late.{Changes, goes-changed, no-N, lot-told, lots-turned, turned-refused}
 use Rattle.desk_calls.specs.Desk.{Numbers, Stays, CanStep, Went, Steps}
 
 -- ---- X
@@ -125,6 +125,18 @@ module _ (loads : List ℕ) (cap k bales session : ℕ) where
   pub room-left : 1 ≤ session → session ≤ k → bales ≤ cap → leb (get_or loads (session - 1) 0) (cap - bales) ≡ room_for loads cap k bales session
   room-left l u q = room-some (get_or loads (session - 1) 0) bales cap q ∙ sym (room_at l u)
 
+-- by the test that the session is known
+pub room-no : (loads : List ℕ) (cap k bales session : ℕ) {r : Bool} → r ≡ known k session → r ≡ false → false ≡ room_for loads cap k bales session
+unfolding room_for
+room-no loads cap k bales session e z = sym (ap (λ (b : Bool). b && leb (get_or loads (session - 1) 0 + bales) cap) (sym e ∙ z))
+
+pub room-yes : (loads : List ℕ) (cap k bales session : ℕ) {r t : Bool} → r ≡ known k session → r ≡ true → t ≡ leb (get_or loads (session - 1) 0 + bales) cap → t ≡ room_for loads cap k bales session
+unfolding room_for
+room-yes loads cap k bales session e z f = f ∙ sym (ap (λ (b : Bool). b && leb (get_or loads (session - 1) 0 + bales) cap) (sym e ∙ z))
+
+pub known-session : (k session : ℕ) {r : Bool} → r ≡ known k session → r ≡ true → (1 ≤ session) × (session ≤ k)
+known-session k session e z = let y = sym e ∙ z in (leb-true 1 session (and_left _ _ y), leb-true session k (and_right (leb 1 session) _ y))
+
 pub by-not : (room : Bool) (q : ℕ) → (q ≡ 14 → ⊥) → q ≡ by_room room q
 by-not room q n = sym (by-other room q n)
 
@@ -137,7 +149,7 @@ unfolding by_room
 by-14 room q e z n = sym (ap₂ (λ (a b : Bool). cond (a && b) 25 q) (eq-eqb q 14 n) (sym e ∙ z) ∙ n)
 
 -- ---- N: its turn
-by-none : (room : Bool) → by_room room 0 ≡ 0
+pub by-none : (room : Bool) → by_room room 0 ≡ 0
 unfolding by_room
 by-none room = refl
 
@@ -286,5 +298,16 @@ module _ {o : Beside} {a : Sale} {old : MemoryTables} {N : Numbers} {p : Point} 
         right = right;
         marks = marks;
       }));
+      wrote = subst (λ (z : Answer). Wrote out out' at (answer_row z) at') (e ∙ add-says) w;
+    }
+
+    -- a refused one leaves what stands for the sale
+    pub refused-add : {x : Answer} {out out' : List ℕ} {at at' : ℕ} → 1 ≤ num → x ≡ told (by_room test num) (says_n lot total) → Wrote out out' at (answer_row x) at'
+        → Went o a old (call_n bales session buyers) (record { stock = K; stack = p.stack; fixedmarks = p.fixedmarks }) out out' at at'
+    unfolding does_n refusal
+    refused-add {x} {out} {out'} {at} {at'} l e w = record {
+      goes = subst (λ (z : Turn). GoesOn main_limits z.sale old (record { stock = K; stack = p.stack; fixedmarks = p.fixedmarks })) beside-is
+          (subst (λ (b : Sale). GoesOn main_limits b old (record { stock = K; stack = p.stack; fixedmarks = p.fixedmarks })) (sym (turned-refused (by_room test q) a done (some-by test q (omega (arith, l, number)))))
+          (subst (λ (k : Stock). GoesOn main_limits a old (record { stock = k; stack = p.stack; fixedmarks = p.fixedmarks })) (sym (same l)) y.goes));
       wrote = subst (λ (z : Answer). Wrote out out' at (answer_row z) at') (e ∙ add-says) w;
     }

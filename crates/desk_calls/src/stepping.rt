@@ -1,5 +1,6 @@
 // One call line of a catalogue beside the others of a hall: a call of the machine, X or N; the line of its answer goes to the output.
 ghost use Rattle.std.specs.Prelude.{◌≤◌, ◌≡◌, length};
+ghost use Rattle.refusal.specs.Number.{number_of};
 ghost use Rattle.model.specs.Sale.{runs, call_x, call_n};
 ghost use Rattle.any_call.specs.Kinds.{any_call};
 ghost use Rattle.call_list.specs.Point.{point_of};
@@ -8,11 +9,13 @@ ghost use Rattle.desk_calls.specs.Late.{room_for, by_room};
 
 use beside::performing::perform_beside;
 use call_list::course::{Course, Frame};
-use call_list::stepping::{added, withdraw};
+use call_list::stepping::withdraw;
 use changes::adding::call_add;
+use edit_calls::refusals::{fits, is_known};
 use fixed::starting::mark_fixed;
 use operations::size::Size;
-use report::answers::put_answer;
+use refusal::Refusal;
+use report::answers::{Answer, put_answer};
 
 // A call of the machine.
 pub fn run_machine(
@@ -50,17 +53,13 @@ pub fn run_machine(
         (point_of counts.new visited.new gains.new index.new presentpins.new presentsizes.new bits.new blocks.new weights.new aboves.new fixed.new loads.new loadedpins.new firsts.new loadedsizes.new netweights.now frame.m frame.k result)
         output.old output.new course.at result.at }
 {
-    let stack = course.stack;
-    let journal = course.journal;
-    let free = course.free;
-    let fixedmarks = course.fixedmarks;
     let size = Size {
         n: course.n,
         m: frame.m,
         k: frame.k,
         average: frame.average,
     };
-    let t = perform_beside(
+    match perform_beside(
         counts,
         visited,
         gains,
@@ -78,28 +77,29 @@ pub fn run_machine(
         ceilings,
         rooms,
         cap,
-        fixedmarks,
+        course.fixedmarks,
         size,
         course.total,
-        stack,
-        journal,
+        course.stack,
+        course.journal,
         letter,
         x,
         y,
-    );
-    let joins = t.stack;
-    let moved = t.journal;
-    let says = t.answer;
-    let end = put_answer(output, course.at, says);
-    Course {
-        stack: joins,
-        journal: moved,
-        free: free,
-        fixedmarks: fixedmarks,
-        n: course.n,
-        marks: course.marks,
-        total: t.total,
-        at: end,
+    ) {
+        Ok(turn) => {
+            let end = put_answer(output, course.at, Ok(turn.answer));
+            Course {
+                stack: turn.stack,
+                journal: turn.journal,
+                total: turn.total,
+                at: end,
+                ..course
+            }
+        }
+        Err(refusal) => Course {
+            at: put_answer(output, course.at, Err(refusal.number())),
+            ..course
+        },
     }
 }
 
@@ -139,10 +139,8 @@ pub fn take_out(
 {
     let caps = [cap; 16];
     let alone = Frame {
-        m: frame.m,
-        k: frame.k,
-        average: frame.average,
         lots: 1024,
+        ..frame
     };
     withdraw(
         output,
@@ -174,32 +172,34 @@ fn has_space(loads: &[u64; 16], cap: u64, k: usize, bales: u32, session: usize) 
     requires { (k ≤ 16) × (length loads.now ≡ 16) }
     ensures { result ≡ room_for loads.now cap k bales session }
 {
-    if session < 1 {
+    if !is_known(k, session) {
         return false;
     }
-    if k < session {
-        return false;
-    }
-    let w = bales as u64;
-    if cap < w {
-        return false;
-    }
-    loads[session - 1] <= cap - w
+    fits(loads[session - 1], u64::from(bales), cap)
 }
 
-// The number of an N's refusal under both limits: 14 where there is space under the cap is the hall's 25.
-fn relay(loads: &[u64; 16], cap: u64, k: usize, no: u32, bales: u32, session: usize) -> u32
+// The refusal of an N under both limits: AboveCap, where there is space under the cap, is the hall's AboveHallLimit.
+fn relay(
+    loads: &[u64; 16],
+    cap: u64,
+    k: usize,
+    refusal: Refusal,
+    bales: u32,
+    session: usize,
+) -> Refusal
     requires { (k ≤ 16) × (length loads.now ≡ 16) }
-    ensures { result ≡ by_room (room_for loads.now cap k bales session) no }
+    ensures { number_of result ≡ by_room (room_for loads.now cap k bales session) (number_of refusal) }
 {
-    let room = has_space(loads, cap, k, bales, session);
-    if no != 14 {
-        return no;
+    match refusal {
+        Refusal::AboveCap => {
+            if has_space(loads, cap, k, bales, session) {
+                Refusal::AboveHallLimit
+            } else {
+                refusal
+            }
+        }
+        _ => refusal,
     }
-    if room {
-        return 25;
-    }
-    14
 }
 
 // N.
@@ -238,11 +238,7 @@ pub fn put_lot(
         (point_of counts.new visited.new gains.new index.new presentpins.new presentsizes.new bits.new blocks.new weights.new aboves.new fixed.new loads.new loadedpins.new firsts.new loadedsizes.new netweights.now frame.m frame.k result)
         output.old output.new course.at result.at }
 {
-    let stack = course.stack;
-    let journal = course.journal;
-    let free = course.free;
-    let joins = stack.len;
-    let t = call_add(
+    match call_add(
         counts,
         visited,
         gains,
@@ -266,27 +262,42 @@ pub fn put_lot(
         frame.k,
         course.total,
         course.marks,
-        joins,
+        course.stack.len,
         frame.lots,
         markroom,
-        free,
-        journal,
+        course.free,
+        course.journal,
         bales,
         session,
-    );
-    let no = relay(loads, cap, frame.k, t.no, bales, session);
-    let end = put_answer(output, course.at, added(no, t.lot, t.total));
-    let fixedmarks = mark_fixed(fixed, t.n);
-    let left = t.free;
-    let moves = t.journal;
-    Course {
-        stack: stack,
-        journal: moves,
-        free: left,
-        fixedmarks: fixedmarks,
-        n: t.n,
-        marks: t.marks,
-        total: t.total,
-        at: end,
+    ) {
+        Ok(turn) => {
+            let lot = turn.lot as u32;
+            let end = put_answer(
+                output,
+                course.at,
+                Ok(Answer::Added {
+                    lot,
+                    total: turn.total,
+                }),
+            );
+            let fixedmarks = mark_fixed(fixed, turn.n);
+            Course {
+                journal: turn.journal,
+                free: turn.free,
+                fixedmarks,
+                n: turn.n,
+                marks: turn.marks,
+                total: turn.total,
+                at: end,
+                ..course
+            }
+        }
+        Err(refusal) => {
+            let told = relay(loads, cap, frame.k, refusal, bales, session);
+            Course {
+                at: put_answer(output, course.at, Err(told.number())),
+                ..course
+            }
+        }
     }
 }

@@ -1,7 +1,7 @@
 -- Zeros behind the last pin, up to the 8,192nd place: a vertex taken out or put in, with nothing left of the pins that stood there. Rests on Taking and
 -- Putting. Assumes nothing.
-use Rattle.std.specs.Prelude.{ℕ, ◌≤◌, ◌<◌, ◌≡◌, refl, List, length, get_or, take}
-use Rattle.std.proofs.Common.{arith, sym, ap, ◌∙◌, ext_get_or, get_or-take, length-take-le}
+use Rattle.std.specs.Prelude.{ℕ, ◌≤◌, ◌<◌, ◌≡◌, List, length, get_or, take}
+use Rattle.std.proofs.Common.{arith, sym, ◌∙◌, ext_get_or, get_or-take, length-take-le}
 use Rattle.model.specs.Catalogue.{Net}
 use Rattle.model.specs.Memory.{all_pins}
 use Rattle.renewal.specs.Nets.{nets_without, nets_with, Stored, Holding, pins-fit}

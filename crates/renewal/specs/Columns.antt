@@ -1,7 +1,7 @@
 -- A table written entry by entry, from the front or from the back. Assumes nothing.
 use Rattle.std.specs.Prelude.{ℕ, ◌+◌, ◌≤◌, ◌<◌, ◌≡◌, refl, List, length, get_or, set}
 use Rattle.std.proofs.Math.Decide.{ℕ_discrete}
-use Rattle.std.proofs.Common.{arith, ap, sym, ◌∙◌, length-set, get_or-set_same, get_or-set_other}
+use Rattle.std.proofs.Common.{arith, ◌∙◌, length-set, get_or-set_same, get_or-set_other}
 
 -- the entries from `low` to before `high` are told, and the others stand as they stood
 pub record Wrote (low high : ℕ) (value : ℕ → ℕ) (old new : List ℕ) : Type 0 where

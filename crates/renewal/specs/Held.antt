@@ -1,10 +1,10 @@
 -- The tables that hold nets, in document 01's words: every place of the loaded pins, first places, sizes; there and back. And the number of pins with a
 -- vertex put in is the old one and one for each net that is named. Rests on Nets and Putting. Assumes nothing.
-use Rattle.std.specs.Prelude.{ℕ, zero, suc, ◌+◌, ◌-◌, ◌≤◌, ◌<◌, ◌≡◌, refl, List, length, get_or, take}
+use Rattle.std.specs.Prelude.{ℕ, zero, suc, ◌+◌, ◌-◌, ◌≤◌, ◌<◌, ◌≡◌, List, length, get_or, take}
 use Rattle.std.proofs.Common.{arith, sym, ap, ◌∙◌, ext_get_or, get_or-take, length-take-le, add-one}
 use Rattle.laws.specs.Sum.{sum, sum-add, sum-zero, sum_step}
 use Rattle.model.specs.Catalogue.{Net, Hypergraph}
-use Rattle.model.specs.Memory.{no_net, net, all_pins, first_place}
+use Rattle.model.specs.Memory.{net, all_pins, first_place}
 use Rattle.renewal.specs.Nets.{net_at, first_of, first-none, first_more, first-all, first-place, Stored}
 use Rattle.renewal.specs.Putting.{total_with}
 

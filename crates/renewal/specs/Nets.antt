@@ -3,7 +3,6 @@
 use Rattle.std.specs.Prelude.{ℕ, zero, suc, ◌+◌, ◌-◌, ◌≤◌, ◌<◌, ◌≡◌, refl, Bool, true, false, cond, List, [], ◌∷◌, ◌++◌, eqb, length, get_or, take, drop}
 use Rattle.std.proofs.Math.Decide.{dec_lt}
 use Rattle.std.proofs.Common.{add-one, arith, sym, ap, ap₂, ◌∙◌, append_assoc, append-nil, length-append, length-take, take-append-drop, take-suc, drop-cons, take_at, drop_at, take_all}
-use Rattle.std.proofs.lemmas.List.{drop-append-le}
 use Rattle.laws.specs.Sum.{sum_to, sum_to-suc, sum_to-nil}
 use Rattle.model.specs.Catalogue.{Net, Hypergraph}
 use Rattle.model.specs.Memory.{no_net, net, all_pins, first_place}

@@ -1,13 +1,13 @@
 -- A vertex put into the table of loaded pins: one net's stretch moved up with the vertex behind it, then all of them, the last first, so that
 -- nothing is written over before it is read. Rests on Nets and Columns. Assumes nothing.
-use Rattle.std.specs.Prelude.{ℕ, zero, suc, ◌+◌, ◌-◌, ◌≤◌, ◌<◌, ◌≡◌, refl, cond, List, [], ◌∷◌, ◌++◌, eqb, length, get_or, take, drop, set}
-use Rattle.std.proofs.Common.{add-one, arith, sym, ap, ap₂, ◌∙◌, subst, append_assoc, length-append, length-take, length-drop, length-set, drop_of_length-le, take-take, take-add, drop_at, take_at, take_all, get_or-take, get_or-drop, drop-cons, drop-set-lt, length-take-le, get_or-set_same}
+use Rattle.std.specs.Prelude.{ℕ, zero, suc, ◌+◌, ◌-◌, ◌≤◌, ◌<◌, ◌≡◌, refl, List, [], ◌∷◌, ◌++◌, length, get_or, take, drop, set}
+use Rattle.std.proofs.Common.{add-one, arith, sym, ap, ap₂, ◌∙◌, subst, append_assoc, length-append, length-take, length-drop, length-set, drop_of_length-le, take-take, take-add, drop_at, take_at, get_or-take, get_or-drop, drop-cons, drop-set-lt, length-take-le, get_or-set_same}
 use Rattle.std.proofs.lemmas.List.{take-set-le}
 use Rattle.laws.specs.Choice.{cond_yes, cond_no}
 use Rattle.laws.specs.Sum.{sum, sum-zero, sum_step}
 use Rattle.model.specs.Catalogue.{Net}
 use Rattle.model.specs.Memory.{all_pins}
-use Rattle.renewal.specs.Nets.{tail, tail-length, net_at, nets_with, changed-length, changed-pins, pins-none, pins-from, first_of, first-none, first-all, first-le, first-less, first_more, Stored, Holding, pins-fit, stretch-fit, stretch-is}
+use Rattle.renewal.specs.Nets.{tail, tail-length, net_at, nets_with, changed-length, changed-pins, pins-none, pins-from, first_of, first-none, first-all, first-le, first-less, first_more, Stored, Holding, pins-fit, stretch-is}
 use Rattle.renewal.specs.Columns.{Wrote, wrote_none, wrote-down}
 
 -- ---- what stands before a place

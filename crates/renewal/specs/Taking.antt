@@ -1,5 +1,5 @@
 -- A vertex taken out of the table of loaded pins: one net's stretch closed up, then all of them in one pass. Rests on Nets and Columns. Assumes nothing.
-use Rattle.std.specs.Prelude.{ℕ, zero, suc, ◌+◌, ◌-◌, ◌≤◌, ◌<◌, ◌≡◌, refl, Bool, true, false, cond, List, [], ◌∷◌, ◌++◌, eqb, length, get_or, take, drop, set}
+use Rattle.std.specs.Prelude.{ℕ, suc, ◌+◌, ◌-◌, ◌≤◌, ◌<◌, ◌≡◌, refl, Bool, true, false, cond, List, [], ◌∷◌, ◌++◌, eqb, length, get_or, take, drop, set}
 use Rattle.std.proofs.Common.{add-one, arith, sym, ap, ap₂, ◌∙◌, append_assoc, append-nil, length-append, length-take, length-drop, length-set, take-suc, take-suc-set, drop-set-lt, get_or-drop, drop-drop, take_all}
 use Rattle.std.proofs.lemmas.List.{take-set-le}
 use Rattle.model.specs.Catalogue.{Net}

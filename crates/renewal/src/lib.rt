@@ -8,7 +8,7 @@ ghost use Rattle.renewal.specs.Taking.{Squeezed, ClosedUp};
 ghost use Rattle.renewal.specs.Putting.{Ended, Raised, Grown, CanPut, Spread};
 ghost use Rattle.renewal.specs.Clearing.{TakenOut, PutIn};
 
-use incidence::numbers::{index, narrow};
+use incidence::numbers::narrow;
 
 // The next place to write, after the pin `x` was written at `j`: the same where `x` goes out.
 fn next(j: usize, x: u16, v: u16) -> usize
@@ -24,12 +24,10 @@ fn squeeze(pins: &mut [u16], from: usize, p: usize, to: usize, v: u16) -> usize
     ensures { Squeezed v from p to pins.old pins.new result }
 {
     let mut j = 0;
-    let mut i = 0;
-    while i < p {
+    for i in 0..p {
         let x = pins[from + i];
         pins[to + j] = x;
         j = next(j, x, v);
-        i += 1;
     }
     j
 }
@@ -39,11 +37,7 @@ pub fn clear_from(pins: &mut [u16], from: usize)
     requires { (from ≤ 8192) × (8192 ≤ length pins.old) }
     ensures { Wrote from 8192 (λ _. 0) pins.old pins.new }
 {
-    let mut i = from;
-    while i < 8192 {
-        pins[i] = 0;
-        i += 1;
-    }
+    pins[from..8192].fill(0);
 }
 
 // Takes the vertex `v` out of each of `m` nets, and closes up what is left; the answer is how many pins there are.
@@ -58,15 +52,13 @@ fn close_up(
     ensures { ClosedUp v m result loadedpins.old loadedpins.new firsts.old firsts.new loadedsizes.old loadedsizes.new }
 {
     let mut t = 0;
-    let mut e = 0;
-    while e < m {
-        let from = index(firsts[e]);
-        let p = index(loadedsizes[e]);
+    for e in 0..m {
+        let from = usize::from(firsts[e]);
+        let p = usize::from(loadedsizes[e]);
         let r = squeeze(loadedpins, from, p, t, v);
         firsts[e] = narrow(t);
         loadedsizes[e] = narrow(r);
         t += r;
-        e += 1;
     }
     t
 }
@@ -103,11 +95,7 @@ fn raise(pins: &mut [u16], from: usize, p: usize, to: usize)
     requires { (from ≤ to) × (to + p ≤ length pins.old) }
     ensures { Raised from p to 0 pins.old pins.new }
 {
-    let mut i = p;
-    while i > 0 {
-        i -= 1;
-        pins[to + i] = pins[from + i];
-    }
+    pins.copy_within(from..from + p, to);
 }
 
 // A net's `p` pins from `from` on moved to `to` on, and `v` behind them where `b` is 1.
@@ -133,13 +121,11 @@ fn spread(
     ensures { Spread named.now v m total loadedpins.old loadedpins.new firsts.old firsts.new loadedsizes.old loadedsizes.new }
 {
     let mut t = total;
-    let mut e = m;
-    while e > 0 {
-        e -= 1;
-        let from = index(firsts[e]);
-        let p = index(loadedsizes[e]);
+    for e in (0..m).rev() {
+        let from = usize::from(firsts[e]);
+        let p = usize::from(loadedsizes[e]);
         let b = named[e];
-        let q = p + index(b);
+        let q = p + usize::from(b);
         t -= q;
         grow(loadedpins, from, p, t, v, b);
         firsts[e] = narrow(t);
@@ -169,11 +155,7 @@ pub fn copy(from: &[u16], to: &mut [u16], n: usize)
     requires { (n ≤ length from.now) × (n ≤ length to.old) }
     ensures { Wrote 0 n (λ i. get_or from.now i 0) to.old to.new }
 {
-    let mut i = 0;
-    while i < n {
-        to[i] = from[i];
-        i += 1;
-    }
+    to[..n].copy_from_slice(&from[..n]);
 }
 
 // The first `n` words become 0.
@@ -181,9 +163,5 @@ pub fn blank(bits: &mut [u64], n: usize)
     requires { n ≤ length bits.old }
     ensures { Wrote 0 n (λ _. 0) bits.old bits.new }
 {
-    let mut i = 0;
-    while i < n {
-        bits[i] = 0;
-        i += 1;
-    }
+    bits[..n].fill(0);
 }

@@ -53,21 +53,11 @@ bounds-calls-at-in-loop-i-2 c =
 pub step-course-requires : goal.step-course-requires
 step-course-requires c =
     let run = c.requires.can_run in
-    let done = c.loop-i.invariant.0 run.limits run.h run.old run.begins in record { can_step = can-step run.begins _ c.loop-i-test.true done _ _ c.wide.ensures c.wide-in-loop-i.ensures; le_y = stretch run.begins _ c.loop-i-test.true done _ _ c.wide.ensures c.wide-in-loop-i.ensures }
-
-pub overflow_add-i : goal.overflow_add-i
-overflow_add-i c =
-    let b = c.requires.can_run.begins.listed in
-    omega (arith, b.count-le, b.calls-fit, c.loop-i-test.true)
-
-pub loop-i-smaller : goal.loop-i-smaller
-loop-i-smaller c =
-    let b = c.requires.can_run.begins.listed in
-    omega (arith, b.count-le, b.calls-fit, c.loop-i-test.true)
+    let done = c.loop-i.invariant.0 run.limits run.h run.old run.begins in record { can_step = can-step run.begins _ c.loop-i-test.true done _ _ refl refl; le_y = stretch run.begins _ c.loop-i-test.true done _ _ refl refl }
 
 pub loop-i-preserved : goal.loop-i-preserved
 loop-i-preserved c =
-    (λ limits h old b. done_more b _ c.loop-i-test.true (c.loop-i.invariant.0 limits h old b) _ _ c.wide.ensures c.wide-in-loop-i.ensures c.step-course.ensures, omega (arith, c.loop-i.invariant, c.step-course.auto), omega (arith, c.loop-i.invariant, c.step-course.auto), omega (arith, c.loop-i.invariant, c.step-course.auto), omega (arith, c.loop-i.invariant, c.step-course.auto), omega (arith, c.loop-i.invariant, c.step-course.auto), omega (arith, c.loop-i.invariant, c.step-course.auto), omega (arith, c.loop-i.invariant, c.step-course.auto), omega (arith, c.loop-i.invariant, c.step-course.auto), omega (arith, c.loop-i.invariant, c.step-course.auto), omega (arith, c.loop-i.invariant, c.step-course.auto), omega (arith, c.loop-i.invariant, c.step-course.auto), omega (arith, c.loop-i.invariant, c.step-course.auto), omega (arith, c.loop-i.invariant, c.step-course.auto), omega (arith, c.loop-i.invariant, c.step-course.auto), omega (arith, c.loop-i.invariant, c.step-course.auto), omega (arith, c.loop-i-test.true))
+    (λ limits h old b. done_more b _ c.loop-i-test.true (c.loop-i.invariant.0 limits h old b) _ _ refl refl c.step-course.ensures, omega (arith, c.loop-i.invariant, c.step-course.auto), omega (arith, c.loop-i.invariant, c.step-course.auto), omega (arith, c.loop-i.invariant, c.step-course.auto), omega (arith, c.loop-i.invariant, c.step-course.auto), omega (arith, c.loop-i.invariant, c.step-course.auto), omega (arith, c.loop-i.invariant, c.step-course.auto), omega (arith, c.loop-i.invariant, c.step-course.auto), omega (arith, c.loop-i.invariant, c.step-course.auto), omega (arith, c.loop-i.invariant, c.step-course.auto), omega (arith, c.loop-i.invariant, c.step-course.auto), omega (arith, c.loop-i.invariant, c.step-course.auto), omega (arith, c.loop-i.invariant, c.step-course.auto), omega (arith, c.loop-i.invariant, c.step-course.auto), omega (arith, c.loop-i.invariant, c.step-course.auto), omega (arith, c.loop-i.invariant, c.step-course.auto), omega (arith, c.loop-i-test.true))
 
 pub returns : goal.returns
 returns c = λ limits h old b. done_all (omega (arith, c.loop-i-test.false, c.loop-i.invariant.16)) (c.loop-i.invariant.0 limits h old b)

@@ -13,7 +13,3 @@ invariant-loop-i l =
     (point_of l.counts l.visited l.gains l.index l.presentpins l.presentsizes l.bits l.blocks l.weights l.aboves l.fixed l.loads l.loadedpins l.firsts l.loadedsizes l.netweights l.frame.m l.frame.k l.course)
     l.initial.output l.output l.course.at)
     × (length l.output ≡ length l.initial.output) × (length l.counts ≡ length l.initial.counts) × (length l.visited ≡ length l.initial.visited) × (length l.gains ≡ length l.initial.gains) × (length l.index ≡ length l.initial.index) × (length l.presentpins ≡ length l.initial.presentpins) × (length l.presentsizes ≡ length l.initial.presentsizes) × (length l.bits ≡ length l.initial.bits) × (length l.blocks ≡ length l.initial.blocks) × (length l.weights ≡ length l.initial.weights) × (length l.aboves ≡ length l.initial.aboves) × (length l.fixed ≡ length l.initial.fixed) × (length l.loadedpins ≡ length l.initial.loadedpins) × (length l.firsts ≡ length l.initial.firsts) × (length l.loadedsizes ≡ length l.initial.loadedsizes) × (l.i ≤ l.count)
-
-abbrev pub decreases-loop-i : goal.decreases-loop-i
-decreases-loop-i l =
-    l.count - l.i

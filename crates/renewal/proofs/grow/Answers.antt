@@ -1,5 +1,5 @@
 -- `grow` meets its contract: the vertex is put, then the pins before it are moved.
-use Rattle.std.proofs.Common.{arith, rules}
+use Rattle.std.proofs.Common.{arith}
 use Rattle.renewal.specs.Putting.{grown}
 use Rattle.renewal.proofs.grow.Goals as goal
 

@@ -1,18 +1,9 @@
-use Rattle.std.proofs.Common.{◌≤◌, ◌-◌, arith, refl}
-use Rattle.renewal.specs.Taking.{Squeezed, squeezed-none, squeezed-more, squeezed-all, written-le}
+use Rattle.std.proofs.Common.{arith, refl}
+use Rattle.renewal.specs.Taking.{squeezed-none, squeezed-more, written-le}
 use Rattle.renewal.proofs.squeeze.Goals as goal
 
 pub loop-i-init : goal.loop-i-init
 loop-i-init c = (omega arith, squeezed-none _ _ _ _)
-
-pub bounds-pins-from : goal.bounds-pins-from
-bounds-pins-from c = omega (arith, c.loop-i.invariant.1.len)
-
-pub overflow_add-pins : goal.overflow_add-pins
-overflow_add-pins c = omega (arith, written-le c.loop-i.invariant.1)
-
-pub offset_bounds-pins-to : goal.offset_bounds-pins-to
-offset_bounds-pins-to c = omega (arith, written-le c.loop-i.invariant.1)
 
 pub bounds-pins-to : goal.bounds-pins-to
 bounds-pins-to c = omega (arith, written-le c.loop-i.invariant.1, c.loop-i.invariant.1.len)
@@ -23,9 +14,3 @@ next-j-requires c = omega (arith, written-le c.loop-i.invariant.1)
 pub loop-i-preserved : goal.loop-i-preserved
 loop-i-preserved c =
     (omega arith, squeezed-more c.loop-i.invariant.1 (omega arith) (omega arith) refl c.next-j.ensures)
-
-pub shape_of-pins : goal.shape_of-pins
-shape_of-pins c = c.loop-i.invariant.1.len
-
-pub returns : goal.returns
-returns c = squeezed-all (omega arith) c.loop-i.invariant.1

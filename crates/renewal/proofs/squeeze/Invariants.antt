@@ -1,10 +1,7 @@
 -- `squeeze` meets its contract: the first i pins of the stretch are closed up, and what is written lies before what is read.
-use Rattle.std.proofs.Common.{◌≤◌, ◌-◌, arith, refl}
-use Rattle.renewal.specs.Taking.{Squeezed, squeezed-none, squeezed-more, squeezed-all, written-le}
+use Rattle.std.proofs.Common.{◌≤◌}
+use Rattle.renewal.specs.Taking.{Squeezed}
 use Rattle.renewal.proofs.squeeze.Given as goal
 
 abbrev pub invariant-loop-i : goal.invariant-loop-i
 invariant-loop-i l = (l.i ≤ l.p) × Squeezed l.v l.from l.i l.to l.initial.pins l.pins l.j
-
-abbrev pub decreases-loop-i : goal.decreases-loop-i
-decreases-loop-i l = l.p - l.i

@@ -1,5 +1,5 @@
 -- `take_out` meets its contract: `close_up`, then zeros behind the last pin.
-use Rattle.std.proofs.Common.{arith, rules}
+use Rattle.std.proofs.Common.{arith}
 use Rattle.renewal.specs.Clearing.{taken-few, taken_out}
 use Rattle.renewal.proofs.take_out.Goals as goal
 

@@ -1,16 +1,17 @@
-use Rattle.std.proofs.Common.{not, ap}
-use Rattle.report.specs.Meaning.{answer_of}
-use Rattle.beside.specs.Called.{under_cap, relay-other, relay-else, relay-14, relay-25}
+use Rattle.beside.specs.Called.{relay-other, relay-over, relay-full, relay-more}
+use Rattle.beside.proofs.limits.relay.Goals.{else-letter-eq-M-via-then-letter-eq-M+else-under_cap, else-letter-eq-M-via-else-letter-eq-M}
 use Rattle.beside.proofs.limits.relay.Goals as goal
+use Rattle.std.proofs.Common.{sym, ◌∙◌}
 
-pub returns-then-letter-ne-M : goal.returns-then-letter-ne-M
-returns-then-letter-ne-M c = relay-other c.args.letter (under_cap c.args.loads.now c.args.weights.now c.args.cap c.args.n c.args.k c.args.u c.args.t) (answer_of c.args.says) c.if-letter-ne-M.true
+pub returns-then-under_cap : goal.returns-then-under_cap
+returns-then-under_cap c = relay-over c.args.letter _ c.args.refusal c.in-AboveCap.is c.if-letter-eq-M.true (sym c.under_cap.ensures ∙ c.if-under_cap.true)
 
-pub returns-then-q-ne14 : goal.returns-then-q-ne14
-returns-then-q-ne14 c = relay-else c.args.letter (answer_of c.args.says) c.if-letter-ne-M.false c.refusal_of-q.ensures (under_cap c.args.loads.now c.args.weights.now c.args.cap c.args.n c.args.k c.args.u c.args.t) c.if-q-ne14.true
+pub returns-else-letter-eq-M : goal.returns-else-letter-eq-M
+returns-else-letter-eq-M c =
+    elim c.else-letter-eq-M.branch [
+      | else-letter-eq-M-via-then-letter-eq-M+else-under_cap w ↦ relay-full c.args.letter _ c.args.refusal (sym w.under_cap.ensures ∙ w.if-under_cap.false)
+      | else-letter-eq-M-via-else-letter-eq-M w ↦ relay-other c.args.letter _ _ w.if-letter-eq-M.false
+    ]
 
-pub returns-then-not-room : goal.returns-then-not-room
-returns-then-not-room c = relay-14 c.args.letter (answer_of c.args.says) c.if-letter-ne-M.false c.refusal_of-q.ensures (under_cap c.args.loads.now c.args.weights.now c.args.cap c.args.n c.args.k c.args.u c.args.t) c.under_cap-room.ensures (ap not c.if-not-room.true)
-
-pub returns : goal.returns
-returns c = relay-25 c.args.letter (answer_of c.args.says) c.if-letter-ne-M.false c.refusal_of-q.ensures (under_cap c.args.loads.now c.args.weights.now c.args.cap c.args.n c.args.k c.args.u c.args.t) c.under_cap-room.ensures (ap not c.if-not-room.false) c.if-q-ne14.false
+pub returns-in_default : goal.returns-in_default
+returns-in_default c = relay-more c.args.letter _ c.args.refusal c.in_default.not-AboveCap

@@ -14,7 +14,7 @@ bounds-named-e c =
 pub loop-e-preserved : goal.loop-e-preserved
 loop-e-preserved c =
     let a = c.args in let l = c.loop-e in
-    (omega arith, omega (arith, l.invariant.1, c.both-t.ensures.0, sum_step l.e (λ d. get_or a.loadedsizes.now d 0 + get_or a.named.now d 0)), omega (arith, l.invariant.2, c.both-t.ensures.1))
+    (omega arith, omega (arith, l.invariant.1, c.from.ensures, c.from-in-loop-e.ensures, sum_step l.e (λ d. get_or a.loadedsizes.now d 0 + get_or a.named.now d 0)), omega (arith, l.invariant.2, c.from.ensures, c.from-in-loop-e.ensures))
 
 pub returns : goal.returns
 returns c =

@@ -6,6 +6,3 @@ use Rattle.change_rules.proofs.naming.total_with.Given as goal
 
 abbrev pub invariant-loop-e : goal.invariant-loop-e
 invariant-loop-e l = (l.e ≤ l.m) × (l.t ≡ total_with l.named l.loadedsizes l.e) × (l.t ≤ l.e * 131072)
-
-abbrev pub decreases-loop-e : goal.decreases-loop-e
-decreases-loop-e l = l.m - l.e

@@ -1,8 +1,11 @@
 -- `call_add` meets its contract: a refused N leaves all as it was, an accepted one is what `place` makes of the tables, with the number that is next.
 use Rattle.std.proofs.Common.{arith, ◌≡◌, refl, sym, ap, ◌∙◌, rules, length}
+use Rattle.refusal.specs.Number.{number-some, handed_on}
+use Rattle.model.specs.Machine.{says_n}
 use Rattle.change_rules.specs.Free.{next-is}
 use Rattle.changes.specs.Stands.{all-lots}
-use Rattle.changes.specs.Adding.{put-spares, lots-are, accepted-N, refused-N, done-N, put-stands}
+use Rattle.changes.specs.Turning.{turns_refused}
+use Rattle.changes.specs.Adding.{larger, put-spares, lots-are, accepted-N, refused-N, done-N, put-stands}
 use Rattle.changes.proofs.adding.call_add.Goals as goal
 
 pub overflow_sub-n : goal.overflow_sub-n
@@ -11,19 +14,23 @@ overflow_sub-n c =
     let a = c.args in
     omega (arith, lots-are g)
 
-pub refuses_add-no-requires : goal.refuses_add-no-requires
-refuses_add-no-requires c =
+pub refuses_add-requires : goal.refuses_add-requires
+refuses_add-requires c =
     let g = c.requires.asks in
     let a = c.args in
     let s = g.stands.runs.sound in
     (refl, s.follows.world.frame.few-nets, s.follows.world.frame.few, s.loads-fit, c.requires.ceilings-whole)
 
-pub returns-then-no-ne0 : goal.returns-then-no-ne0
-returns-then-no-ne0 c =
+pub returns-in_err-refuses_add : goal.returns-in_err-refuses_add
+returns-in_err-refuses_add c =
     let a = c.args in
-    let no = c.refuses_add-no.ensures.0 in
-    let some = c.if-no-ne0.true in
-    let wb = c.wide.ensures in record { turns = λ limits sale S ceiling g. refused-N g a.bales a.session wb refl no some _; len_after = λ _. refl; all_right = λ right. right; spared = λ none. absurd (some none) }
+    let no = c.in_err-refuses_add.ensures.0 in
+    let same = handed_on _ _ c.from_residual.ensures.1 in record {
+      turns = λ limits sale S ceiling g. rw same (turns_refused _ (says_n 0 0) (refused-N g a.bales a.session refl refl no (number-some _) (says_n 0 0)));
+      len_after = rw same refl;
+      all_right = λ right. rw same right;
+      spared = rw same tt;
+    }
 
 pub next-v-requires : goal.next-v-requires
 next-v-requires c =
@@ -36,7 +43,6 @@ place-rest-requires c =
     let g = c.requires.asks in
     let a = c.args in
     let w = g.stands in
-    let none = c.if-no-ne0.false in
     record {
       limits = c.requires.limits;
       a = c.requires.a;
@@ -49,10 +55,10 @@ place-rest-requires c =
       J = _;
       buyers = a.buyers.now;
       stands = w;
-      accepted = accepted-N g a.bales a.session c.wide.ensures refl c.refuses_add-no.ensures.0 none;
-      told = c.refuses_add-no.ensures.1 none;
+      accepted = accepted-N g a.bales a.session refl refl c.in_ok-refuses_add.ensures.0 refl;
+      told = c.in_ok-refuses_add.ensures.1 refl;
       number_is = c.next-v.ensures ∙ next-is c.requires.a.graph a.free.numbers a.free.len a.n c.requires.a.free (all-lots w) w.free-is;
-      known_is = c.larger-known.ensures;
+      known_is = (c.max-known.ensures ∙ larger _ _);
     }
 
 pub shape_of-counts : goal.shape_of-counts
@@ -114,23 +120,21 @@ shape_of-loadedsizes c =
 pub returns : goal.returns
 returns c =
     let a = c.args in
-    let no = c.refuses_add-no.ensures.0 in
-    let none = c.if-no-ne0.false in
-    let wb = c.wide.ensures in
-    let told = c.refuses_add-no.ensures.1 none in
+    let no = c.in_ok-refuses_add.ensures.0 in
+    let told = c.in_ok-refuses_add.ensures.1 refl in
     let next = c.next-v.ensures in
     let v = c.next-v.result in
-    let known = c.larger-known.ensures in
+    let known = (c.max-known.ensures ∙ larger _ _) in
     let t = c.place-rest.ensures in
     let popped = c.pop-left.ensures in
     let cleared = c.clear-cleared.ensures in record {
       turns = λ limits sale S ceiling g.
           let w = g.stands in
           let number = next ∙ next-is sale.graph a.free.numbers a.free.len a.n sale.free (all-lots w) w.free-is in
-          done-N g a.bales a.session wb refl no none v number
-          (put-stands w a.bales a.session a.buyers.now (accepted-N g a.bales a.session wb refl no none) v number told t.sum_is t.seat-is t.lot t.number_is t.into known t.renewed popped.0 popped.1
+          done-N g a.bales a.session refl refl no refl v number
+          (put-stands w a.bales a.session a.buyers.now (accepted-N g a.bales a.session refl refl no refl) v number told t.sum_is t.seat-is t.lot t.number_is t.into known t.renewed popped.0 popped.1
           (record { whole = record { xs-whole = ap length cleared.0 ∙ w.runs.journal-whole.xs-whole; ys-whole = ap length cleared.1 ∙ w.runs.journal-whole.ys-whole; short = omega (arith, cleared.2) }; none = cleared.2 }));
-      len_after = λ some. absurd (omega arith);
+      len_after = tt;
       all_right = λ _. t.renewed.indexed.rows;
-      spared = λ _. let g = c.requires.asks in let w = g.stands in put-spares w a.bales a.session a.buyers.now (accepted-N g a.bales a.session wb refl no none) v (next ∙ next-is c.requires.a.graph a.free.numbers a.free.len a.n c.requires.a.free (all-lots w) w.free-is) told t.sum_is t.seat-is t.lot t.number_is t.into known t.renewed;
+      spared = let g = c.requires.asks in let w = g.stands in put-spares w a.bales a.session a.buyers.now (accepted-N g a.bales a.session refl refl no refl) v (next ∙ next-is c.requires.a.graph a.free.numbers a.free.len a.n c.requires.a.free (all-lots w) w.free-is) told t.sum_is t.seat-is t.lot t.number_is t.into known t.renewed;
     }

@@ -1,18 +1,24 @@
 -- `call_withdraw` meets its contract: a refused X leaves all as it was, an accepted one is what `withdraw` makes of the tables.
 use Rattle.std.proofs.Common.{arith, rules, ◌+◌, refl, sym, ap, ◌∙◌, length, set}
-use Rattle.changes.specs.Turning.{take-spares, lot-in, take-stands, accepted-X, refused-X, done-X}
+use Rattle.refusal.specs.Number.{number-some, handed_on}
+use Rattle.model.specs.Machine.{says_x}
+use Rattle.changes.specs.Turning.{turns_refused, take-spares, lot-in, take-stands, accepted-X, refused-X, done-X}
 use Rattle.changes.proofs.withdrawing.call_withdraw.Goals as goal
 
-pub returns-then-no-ne0 : goal.returns-then-no-ne0
-returns-then-no-ne0 c =
-    let v = c.args.v in
-    let no = c.refuses_withdraw-no.ensures in
-    let some = c.if-no-ne0.true in record { turns = λ limits a S space ceiling e w. refused-X w e v no some space ceiling _; len_after = λ _. refl; all_right = λ right. right; spared = λ none. absurd (some none) }
+pub returns-in_err-refuses_withdraw : goal.returns-in_err-refuses_withdraw
+returns-in_err-refuses_withdraw c =
+    let no = c.in_err-refuses_withdraw.ensures in
+    let same = handed_on _ _ c.from_residual.ensures.1 in record {
+      turns = λ limits a S space ceiling e w. rw same (turns_refused _ (says_x 0) (refused-X w e c.args.v no (number-some _) space ceiling (says_x 0)));
+      len_after = rw same refl;
+      all_right = λ right. right;
+      spared = rw same tt;
+    }
 
 pub narrow-requires : goal.narrow-requires
 narrow-requires c =
     let g = c.requires in
-    omega (arith, lot-in g.stands c.args.v (accepted-X g.stands g.joins-are c.args.v c.refuses_withdraw-no.ensures c.if-no-ne0.false))
+    omega (arith, lot-in g.stands c.args.v (accepted-X g.stands g.joins-are c.args.v c.in_ok-refuses_withdraw.ensures refl))
 
 pub push-freed-requires : goal.push-freed-requires
 push-freed-requires c =
@@ -21,7 +27,7 @@ push-freed-requires c =
 pub withdraw-rest-requires : goal.withdraw-rest-requires
 withdraw-rest-requires c =
     let g = c.requires in
-    record { limits = g.limits; a = g.a; S = g.S; total = _; numbers = _; len = _; marks = _; J = _; stands = g.stands; accepted = accepted-X g.stands g.joins-are c.args.v c.refuses_withdraw-no.ensures c.if-no-ne0.false }
+    record { limits = g.limits; a = g.a; S = g.S; total = _; numbers = _; len = _; marks = _; J = _; stands = g.stands; accepted = accepted-X g.stands g.joins-are c.args.v c.in_ok-refuses_withdraw.ensures refl }
 
 pub shape_of-counts : goal.shape_of-counts
 shape_of-counts c =
@@ -81,17 +87,16 @@ shape_of-loadedsizes c =
 
 pub returns : goal.returns
 returns c =
-    let no = c.refuses_withdraw-no.ensures in
-    let none = c.if-no-ne0.false in
+    let no = c.in_ok-refuses_withdraw.ensures in
     let t = c.withdraw-rest.ensures in
     let v = c.args.v in
     let free = c.args.free in
     let pushed = c.push-freed.ensures in
     let cleared = c.clear-cleared.ensures in record {
       turns = λ limits a S space ceiling e w.
-          done-X w e v no none (take-stands w v (accepted-X w e v no none) t.lot t.number_is t.out t.renewed (pushed.0 ∙ ap (set free.numbers free.len) c.narrow.ensures) pushed.1 c.requires.room
+          done-X w e v no refl (take-stands w v (accepted-X w e v no refl) t.lot t.number_is t.out t.renewed (pushed.0 ∙ ap (set free.numbers free.len) c.narrow.ensures) pushed.1 c.requires.room
           (record { whole = record { xs-whole = ap length cleared.0 ∙ w.runs.journal-whole.xs-whole; ys-whole = ap length cleared.1 ∙ w.runs.journal-whole.ys-whole; short = omega (arith, cleared.2) }; none = cleared.2 })) space ceiling;
-      len_after = λ some. absurd (omega arith);
+      len_after = tt;
       all_right = λ _. t.renewed.indexed.rows;
-      spared = λ _. take-spares c.requires.stands v (accepted-X c.requires.stands c.requires.joins-are v no none) t.lot t.number_is t.out t.renewed;
+      spared = take-spares c.requires.stands v (accepted-X c.requires.stands c.requires.joins-are v no refl) t.lot t.number_is t.out t.renewed;
     }

@@ -1,18 +1,19 @@
-use Rattle.std.proofs.Common.{arith}
-use Rattle.desk_calls.specs.Late.{room-low, room-past, room-over, room-left}
+use Rattle.std.proofs.Common.{arith, ap, not}
+use Rattle.std.proofs.lemmas.Bool.{not-true, not-false}
+use Rattle.desk_calls.specs.Late.{room-no, room-yes, known-session}
 use Rattle.desk_calls.proofs.stepping.has_space.Goals as goal
 
-pub returns-then-session-lt1 : goal.returns-then-session-lt1
-returns-then-session-lt1 c = let a = c.args in room-low a.loads.now a.cap a.k a.bales a.session c.if-session-lt1.true
+pub returns-then-not-is_known : goal.returns-then-not-is_known
+returns-then-not-is_known c = let a = c.args in room-no a.loads.now a.cap a.k a.bales a.session c.is_known.ensures (not-true _ (ap not c.if-not-is_known.true))
 
-pub returns-then-k-session : goal.returns-then-k-session
-returns-then-k-session c = let a = c.args in room-past a.loads.now a.cap a.k a.bales a.session (omega (arith, c.if-session-lt1.false)) c.if-k-session.true
-
-pub returns-then-cap-w : goal.returns-then-cap-w
-returns-then-cap-w c = let a = c.args in room-over a.loads.now a.cap a.k a.bales a.session (omega (arith, c.if-session-lt1.false)) (omega (arith, c.if-k-session.false)) c.if-cap-w.true
+pub overflow_sub-session : goal.overflow_sub-session
+overflow_sub-session c = omega (arith, known-session c.args.k c.args.session c.is_known.ensures (not-false _ (ap not c.if-not-is_known.false)))
 
 pub bounds-loads-session : goal.bounds-loads-session
-bounds-loads-session c = omega (arith, c.if-session-lt1.false, c.if-k-session.false, c.requires)
+bounds-loads-session c = omega (arith, c.requires, known-session c.args.k c.args.session c.is_known.ensures (not-false _ (ap not c.if-not-is_known.false)))
+
+pub offset_bounds-loads-session : goal.offset_bounds-loads-session
+offset_bounds-loads-session c = omega (arith, c.requires, known-session c.args.k c.args.session c.is_known.ensures (not-false _ (ap not c.if-not-is_known.false)))
 
 pub returns : goal.returns
-returns c = let a = c.args in room-left a.loads.now a.cap a.k a.bales a.session (omega (arith, c.if-session-lt1.false)) (omega (arith, c.if-k-session.false)) (omega (arith, c.if-cap-w.false))
+returns c = let a = c.args in room-yes a.loads.now a.cap a.k a.bales a.session c.is_known.ensures (not-false _ (ap not c.if-not-is_known.false)) (rw c.from.ensures at c.fits.ensures)
