@@ -13,20 +13,7 @@ use Rattle.guarantees.specs.Splits.{AllInside}
 use Rattle.levels.specs.Running.{net_at}
 use Rattle.model.specs.Lent.{stack_of}
 use Rattle.operations.specs.Tables.{tables, Sound}
-
--- the first n entries are the vertices above: 0 on the board, else one of the vertices 1..n
-pub record Aboves (cs : List Contraction) (n : ℕ) (aboves : List ℕ) : Type 0 where
-  pub fits : n ≤ length aboves
-  pub is : (y : ℕ) → y < n → get_or aboves y 0 ≡ above cs (y + 1)
-  pub known : (y : ℕ) → y < n → get_or aboves y 0 ≤ n
-
--- v is a vertex of some stack that the table shows
-pub record Climbable (aboves : List ℕ) (v : ℕ) : Type 0 where
-  pub stack : List Contraction
-  pub n : ℕ
-  pub hangs : Aboves stack n aboves
-  pub low : 1 ≤ v
-  pub high : v ≤ n
+pub use Rattle.climbs.specs.Above.{Aboves, Climbable}
 
 -- the vertices' blocks and the vertices above are those of the state; the first `depth` entries of `gone` are the vertices that its joins took
 -- off the board, the latest last

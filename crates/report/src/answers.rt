@@ -2,11 +2,11 @@
 ghost use Rattle.std.specs.Prelude.{[], ◌∷◌, ◌+◌, ◌≤◌, length};
 ghost use Rattle.model.specs.Report.{digits, row, answer_row};
 ghost use Rattle.fields.specs.Wrote.{Wrote};
-ghost use Rattle.report.specs.Meaning.{answer_of};
+ghost use Rattle.report.specs.Meaning.{answer_of, said};
 
 use fields::put_row;
 
-// The answer to a call, with the numbers that its line prints. A total is the metric after the call; a refusal's number is document 01's.
+// The answer to a call that is not refused, with the numbers that its line prints. A total is the metric after the call.
 #[derive(Clone, Copy)]
 pub enum Answer {
     // J
@@ -58,14 +58,10 @@ pub enum Answer {
         lot: u32,
         total: u32,
     },
-    // NO
-    Refused {
-        number: u32,
-    },
 }
 
-// Writes the line of an answer.
-pub fn put_answer(out: &mut [u8], at: usize, a: Answer) -> usize
+// Writes the line of a call that is not refused.
+fn put_done(out: &mut [u8], at: usize, a: Answer) -> usize
     requires { at + length (answer_row (answer_of a)) ≤ length out.old }
     ensures { Wrote out.old out.new at (answer_row (answer_of a)) result }
 {
@@ -93,7 +89,17 @@ pub fn put_answer(out: &mut [u8], at: usize, a: Answer) -> usize
         } => { put_row(out, at, b"A", &[contractions, tried, kept, moves, total]) }
         Answer::Withdrawn { total } => put_row(out, at, b"X", &[total]),
         Answer::Added { lot, total } => put_row(out, at, b"N", &[lot, total]),
-        Answer::Refused { number } => put_row(out, at, b"NO", &[number]),
+    }
+}
+
+// Writes the line of an answer, or of a call's refusal by its number.
+pub fn put_answer(out: &mut [u8], at: usize, answer: Result<Answer, u32>) -> usize
+    requires { at + length (answer_row (said answer)) ≤ length out.old }
+    ensures { Wrote out.old out.new at (answer_row (said answer)) result }
+{
+    match answer {
+        Ok(done) => put_done(out, at, done),
+        Err(number) => put_row(out, at, b"NO", &[number]),
     }
 }
 

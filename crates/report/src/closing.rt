@@ -3,24 +3,16 @@ ghost use Rattle.std.specs.Prelude.{◌≡◌, List, [], ◌∷◌, ℕ, ◌+◌
 ghost use Rattle.laws.specs.Sum.{sum};
 ghost use Rattle.laws.specs.Bit.{bit};
 ghost use Rattle.model.specs.Catalogue.{Hypergraph};
-ghost use Rattle.model.specs.Measure.{Contraction, climb, representative as stands_for};
+ghost use Rattle.model.specs.Measure.{representative as stands_for};
 ghost use Rattle.model.specs.Machine.{State};
 ghost use Rattle.model.specs.Report.{digits, row, lot_rows, buy_rows, closing};
 ghost use Rattle.model.specs.Lent.{stack_of};
 ghost use Rattle.fields.specs.Wrote.{Wrote};
 ghost use Rattle.report.specs.Place.{join_place};
-ghost use Rattle.report.specs.Closing.{lot_line, Aboves, Climbable, Vertices, VertexIn, VerticesFit, Nets, NetsFit, Ended, ClosingFits};
+ghost use Rattle.report.specs.Closing.{lot_line, Vertices, VertexIn, VerticesFit, Nets, NetsFit, Ended, ClosingFits};
 
+use climbs::representative;
 use fields::put_row;
-use incidence::numbers::{index, wide};
-
-// The number from 1 of what stands at place `i`.
-fn number(i: usize) -> u32
-    requires { i < 1024 }
-    ensures { result ≡ i + 1 }
-{
-    (i + 1) as u32
-}
 
 // The place of the join of `v` on the stack, whose latest join has place 1. The first `depth` entries of `gone` are the vertices that were joined
 // into others, the latest last. For a vertex on the board it is `depth`.
@@ -28,29 +20,12 @@ fn join_place(gone: &[u16; 512], depth: usize, v: usize) -> usize
     requires { depth ≤ 512 }
     ensures { (into : List ℕ) → result ≡ join_place (stack_of into gone.now depth) v }
 {
-    let mut i = depth;
-    while 0 < i {
-        if index(gone[i - 1]) == v {
-            return depth - i + 1;
+    for i in (0..depth).rev() {
+        if usize::from(gone[i]) == v {
+            return depth - i;
         }
-        i -= 1;
     }
     depth
-}
-
-// The vertex that stands for `v`, by a climb of at most `steps` contractions.
-fn representative(aboves: &[u16], v: usize, steps: usize) -> usize
-    requires { Climbable aboves.now v }
-    ensures { (cs : List Contraction) (n : ℕ) → Aboves cs n aboves.now → v ≤ n → result ≡ climb steps cs v }
-{
-    if steps == 0 {
-        return v;
-    }
-    let above = index(aboves[v - 1]);
-    if above == 0 {
-        return v;
-    }
-    representative(aboves, above, steps - 1)
 }
 
 // The block of the vertex that stands for `v`. Each vertex above another was joined later, so the place of its join bounds the climb.
@@ -61,7 +36,7 @@ fn block_of(blocks: &[u16], aboves: &[u16], gone: &[u16; 512], v: usize, depth: 
 {
     let place = join_place(gone, depth, v);
     let r = representative(aboves, v, place);
-    wide(blocks[r - 1])
+    u32::from(blocks[r - 1])
 }
 
 // Writes the line of the vertex at place `i`.
@@ -69,8 +44,7 @@ fn put_lot(out: &mut [u8], at: usize, i: usize, block: u32) -> usize
     requires { (i < 1024) × (at + length (row "LOT" (digits (i + 1) ∷ digits block ∷ [])) ≤ length out.old) }
     ensures { Wrote out.old out.new at (row "LOT" (digits (i + 1) ∷ digits block ∷ [])) result }
 {
-    let v = number(i);
-    put_row(out, at, b"LOT", &[v, block])
+    put_row(out, at, b"LOT", &[i as u32 + 1, block])
 }
 
 // Writes the line of the vertex at place `i`, unless it is withdrawn: its representative is in no block then.
@@ -99,20 +73,11 @@ fn put_lots(
         → Wrote out.old out.new at (lot_rows h s) result }
 {
     let mut p = at;
-    let mut i = 0;
-    while i < n {
+    for i in 0..n {
         let block = block_of(blocks, aboves, gone, i + 1, depth);
         p = put_present(out, p, i, block);
-        i += 1;
     }
     p
-}
-
-// How many bits of a connectivity set are set.
-pub fn set_bits(mask: u16) -> u32
-    ensures { result ≡ sum 16 (bit mask) }
-{
-    u16::count_ones(mask)
 }
 
 // Writes the line of the net at place `i`.
@@ -120,9 +85,7 @@ fn put_net(out: &mut [u8], at: usize, i: usize, mask: u16) -> usize
     requires { (i < 1024) × (at + length (row "BUY" (digits (i + 1) ∷ digits (sum 16 (bit mask)) ∷ [])) ≤ length out.old) }
     ensures { Wrote out.old out.new at (row "BUY" (digits (i + 1) ∷ digits (sum 16 (bit mask)) ∷ [])) result }
 {
-    let e = number(i);
-    let connectivity = set_bits(mask);
-    put_row(out, at, b"BUY", &[e, connectivity])
+    put_row(out, at, b"BUY", &[i as u32 + 1, mask.count_ones()])
 }
 
 // Writes the lines of all nets.
@@ -131,10 +94,8 @@ fn put_nets(out: &mut [u8], at: usize, visited: &[u16], m: usize) -> usize
     ensures { (h : Hypergraph) (s : State) → Nets h s visited.now m → Wrote out.old out.new at (buy_rows h s 1 h.nets) result }
 {
     let mut p = at;
-    let mut i = 0;
-    while i < m {
+    for i in 0..m {
         p = put_net(out, p, i, visited[i]);
-        i += 1;
     }
     p
 }

@@ -3,7 +3,7 @@ use Rattle.std.specs.Prelude.{ℕ, ◌+◌, ◌<◌, ◌≤◌, ◌≡◌, true,
 use Rattle.laws.specs.Sum.{sum}
 use Rattle.laws.specs.Bit.{bit}
 use Rattle.model.specs.Catalogue.{Limits, Hypergraph, vertices}
-use Rattle.model.specs.Measure.{Contraction, above, representative, connectivity}
+use Rattle.model.specs.Measure.{representative, connectivity}
 use Rattle.model.specs.Machine.{State}
 use Rattle.model.specs.Sale.{Sale}
 use Rattle.model.specs.Memory.{Tables, long_tables, block_entry, net, Holds}
@@ -11,23 +11,10 @@ use Rattle.model.specs.Sheets.{ats, sheet_rows, sheets}
 use Rattle.guarantees.specs.Climbs.{Sound}
 use Rattle.guarantees.specs.Splits.{AllInside}
 use Rattle.guarantees.specs.Reached.{Valid}
+pub use Rattle.climbs.specs.Above.{Aboves, Climbable}
 use Rattle.sheet_rows.specs.Order.{Known, InOrder, Ranked, entry_of, is_in, printed_of, sheet_text}
 
 -- ---- lots
--- the first n entries are the lots above: 0 for a lot under no other, else one of the lots 1..n
-pub record Aboves (cs : List Contraction) (n : ℕ) (aboves : List ℕ) : Type 0 where
-  pub fits : n ≤ length aboves
-  pub is : (y : ℕ) → y < n → get_or aboves y 0 ≡ above cs (y + 1)
-  pub known : (y : ℕ) → y < n → get_or aboves y 0 ≤ n
-
--- v is a lot of some stack that the table shows
-pub record Climbable (aboves : List ℕ) (v : ℕ) : Type 0 where
-  pub stack : List Contraction
-  pub n : ℕ
-  pub hangs : Aboves stack n aboves
-  pub low : 1 ≤ v
-  pub high : v ≤ n
-
 -- what the table says of the session of a lot's stand
 unfoldable pub seat : Hypergraph → State → ℕ → ℕ
 seat h s v = block_entry h s.stack s.block (representative s.stack v)

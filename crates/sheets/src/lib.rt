@@ -10,7 +10,7 @@ ghost use Rattle.sheets.specs.Left.{Left, CanHandOver};
 
 use engine::columns_entry::run_columns;
 use fields::put_word;
-use sheet_rows::put_sale;
+use sheet_rows::{Tables, put_sale};
 
 // The answer: 0 or the number of the refusal, 1 to 8 or 21, and the bytes written.
 #[repr(C)]
@@ -34,35 +34,17 @@ fn hand_over(
     code: u32,
     written: usize,
     report: &[u8],
-    blocks: &[u16],
-    aboves: &[u16],
-    loadedpins: &[u16],
-    firsts: &[u16],
-    loadedsizes: &[u16],
-    visited: &[u16],
+    tables: &Tables,
 ) -> SheetsRan
-    requires { CanHandOver (length output.old) code written report.now blocks.now aboves.now loadedpins.now firsts.now loadedsizes.now visited.now }
-    ensures { (file : List ℕ) → Left file code written report.now blocks.now aboves.now loadedpins.now firsts.now loadedsizes.now visited.now
+    requires { CanHandOver (length output.old) code written report.now tables.now.blocks.now tables.now.aboves.now tables.now.loadedpins.now tables.now.firsts.now tables.now.loadedsizes.now tables.now.visited.now }
+    ensures { (file : List ℕ) → Left file code written report.now tables.now.blocks.now tables.now.aboves.now tables.now.loadedpins.now tables.now.firsts.now tables.now.loadedsizes.now tables.now.visited.now
         → Printed (sheets_of main_limits file) output.old output.new result.code result.written }
 {
     if code != 0 {
         let end = copy_line(output, report, written);
-        return SheetsRan {
-            code: code,
-            written: end,
-        };
+        return SheetsRan { code, written: end };
     }
-    let end = put_sale(
-        output,
-        0,
-        b"",
-        blocks,
-        aboves,
-        loadedpins,
-        firsts,
-        loadedsizes,
-        visited,
-    );
+    let end = put_sale(output, 0, b"", tables);
     SheetsRan {
         code: 0,
         written: end,
@@ -106,18 +88,15 @@ fn print_sheets(file: &[u8], output: &mut [u8]) -> SheetsRan
         &mut index,
         &mut visited,
     );
-    hand_over(
-        output,
-        ran.code,
-        ran.written,
-        &report,
-        &blocks,
-        &aboves,
-        &loadedpins,
-        &firsts,
-        &loadedsizes,
-        &visited,
-    )
+    let tables = Tables {
+        blocks: &blocks,
+        aboves: &aboves,
+        loadedpins: &loadedpins,
+        firsts: &firsts,
+        loadedsizes: &loadedsizes,
+        visited: &visited,
+    };
+    hand_over(output, ran.code, ran.written, &report, &tables)
 }
 
 // A sale file and a lent output of 122,880 bytes, enough for every sale; a shorter one is 8, tested first.

@@ -26,4 +26,4 @@ bounds-blocks-r c =
 
 pub returns : goal.returns
 returns c =
-    λ h s n t u. c.wide.ensures ∙ block-is t c.args.v c.requires.low u c.representative-r.result _ c.join_place-place.ensures (c.representative-r.ensures s.stack n t.hangs u)
+    λ h s n t u. c.from.ensures ∙ block-is t c.args.v c.requires.low u c.representative-r.result _ c.join_place-place.ensures (c.representative-r.ensures s.stack n t.hangs u)

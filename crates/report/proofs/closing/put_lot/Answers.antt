@@ -5,8 +5,8 @@ use Rattle.report.proofs.closing.put_lot.Goals as goal
 
 pub put_row-requires : goal.put_row-requires
 unfolding row bytes
-put_row-requires c = rw c.number-v.ensures c.requires.1
+put_row-requires c = c.requires.1
 
 pub returns : goal.returns
 unfolding row bytes
-returns c = rw c.number-v.ensures at c.put_row.ensures
+returns c = c.put_row.ensures

@@ -24,10 +24,6 @@ put_present-p-requires c =
     let more = lots-room k.h k.s i c.block_of-block.result (omega (arith, k.shown.all)) (c.block_of-block.ensures k.h k.s c.args.n k.shown (omega arith)) (sale-stands k.h k.s k.shown.sound k.shown.inside k.shown.placed (i + 1) (omega arith) (omega (arith, k.shown.all))) in
     (omega (arith, k.shown.few), omega (arith, w.ends, k.fits, c.loop-i.invariant.1))
 
-pub overflow_add-i-in-loop-i : goal.overflow_add-i-in-loop-i
-overflow_add-i-in-loop-i c =
-    omega (arith, c.requires.shown.few)
-
 pub loop-i-preserved : goal.loop-i-preserved
 loop-i-preserved c =
     let k = c.requires in

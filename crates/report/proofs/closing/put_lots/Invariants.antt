@@ -9,6 +9,3 @@ use Rattle.report.proofs.closing.put_lots.Given as goal
 
 abbrev pub invariant-loop-i : goal.invariant-loop-i
 invariant-loop-i l = (l.i ≤ l.n) × (length l.out ≡ length l.initial.out) × ((h : Hypergraph) (s : State) → Vertices h s l.blocks l.aboves l.gone l.n l.depth → Wrote l.initial.out l.out l.at (lots_to h s l.i) l.p)
-
-abbrev pub decreases-loop-i : goal.decreases-loop-i
-decreases-loop-i l = l.n - l.i
