@@ -1,4 +1,4 @@
-// The engine with the lots as four tables, which the entry over records and the program share: 8 is tested first, then the file is
+// The engine with the lots as four tables, which the entry over records and the program share: short memory is tested first, then the file is
 // loaded, and worked to its end or turned down.
 #![tactic(auto)]
 
@@ -8,6 +8,7 @@ ghost use Rattle.columns.specs.Entry.{ServesLots};
 
 use lengths::is_long;
 use lines::Limits;
+use refusal::Refusal;
 use sale_file::{Served, work_file};
 
 // A sale file, the limits of an entry and lent memory: the lots' bales, sessions, lots above and whether each is kept, one for each lot of the limit; marks as
@@ -55,7 +56,7 @@ pub fn serve(
         visited,
     ) {
         return Served {
-            code: 8,
+            code: Refusal::MemoryTooShort.number(),
             written: 0,
             lots: 0,
         };

@@ -1,22 +1,24 @@
-// The second entry: a catalogue's bytes and a list of calls apart from each other. 8 is tested first, then the list.
+// The second entry: a catalogue's bytes and a list of calls apart from each other. short memory is tested first, then the list.
 ghost use Rattle.std.specs.Prelude.{◌≡◌};
 ghost use Rattle.model.specs.Catalogue.{main_limits};
 ghost use Rattle.model.specs.Lent.{lists, lent, memory, two};
+ghost use Rattle.refusal.specs.Number.{number_of};
 ghost use Rattle.model.specs.ListEntry.{returned, Idle, ListServes};
 
 use lengths::is_long;
 use lines::Limits;
 use operations::pairs::{LongJournal, LongStack};
-use sale_list::{ListRan, list_refusal, work_list};
+use refusal::Refusal;
+use sale_list::{ListRan, check_list, work_list};
 
 // A list that is refused, and short memory, touch nothing.
-fn refused_list(code: u32) -> ListRan
-    ensures { (result.code ≡ code) × (result.written ≡ 0) × Idle (returned result.code result.written result.total (two result.stack.into result.stack.gone result.stack.len) (two result.journal.vertices result.journal.blocks result.journal.len)) }
+fn refused_list(refusal: Refusal) -> ListRan
+    ensures { (result.code ≡ number_of refusal) × (result.written ≡ 0) × Idle (returned result.code result.written result.total (two result.stack.into result.stack.gone result.stack.len) (two result.journal.vertices result.journal.blocks result.journal.len)) }
 {
     let none = LongStack::new();
     let unmoved = LongJournal::new();
     ListRan {
-        code: code,
+        code: refusal.number(),
         written: 0,
         total: 0,
         stack: none,
@@ -66,11 +68,10 @@ pub fn kapokdrill_list(
         index,
         visited,
     ) {
-        return refused_list(8);
+        return refused_list(Refusal::MemoryTooShort);
     }
-    let no = list_refusal(list, operands);
-    if no != 0 {
-        return refused_list(no);
+    if let Err(q) = check_list(list, operands) {
+        return refused_list(q);
     }
     let limits = Limits {
         lots: 1024,

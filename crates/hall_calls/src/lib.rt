@@ -6,7 +6,6 @@ ghost use Rattle.hall_step.specs.Sets.{sets};
 ghost use Rattle.hall_calls.specs.Course.{CanRun, Ran};
 
 use call_list::course::Course;
-use call_list::wide;
 use hall_led::{LedTurn, Terms, led};
 
 // The first `lines` led call lines of the table, four numbers each: the catalogue, the letter's byte and two numbers, which for N are a stretch of the
@@ -43,8 +42,7 @@ pub fn run_hall(
 {
     let mut courses = start;
     let mut end: usize = 0;
-    let mut i: usize = 0;
-    while i < lines {
+    for i in 0..lines {
         let at = 4 * i;
         let t = led(
             output,
@@ -73,15 +71,11 @@ pub fn run_hall(
             end,
             calls[at],
             calls[at + 1],
-            wide(calls[at + 2]),
-            wide(calls[at + 3]),
+            calls[at + 2] as usize,
+            calls[at + 3] as usize,
         );
         courses = t.courses;
         end = t.at;
-        i += 1;
     }
-    LedTurn {
-        courses: courses,
-        at: end,
-    }
+    LedTurn { courses, at: end }
 }

@@ -63,8 +63,7 @@ pub fn close_sets(
     ensures { (hs : List Hypergraph) (ds : List Sale) → Close count hs ds blocks.now aboves.now visited.now courses sizes drafts → Wrote output.old output.new at (closings hs ds) result }
 {
     let mut p = at;
-    let mut c: usize = 0;
-    while c < count {
+    for c in 0..count {
         let course = courses[c];
         let z = sizes[c];
         let draft = drafts[c];
@@ -79,7 +78,6 @@ pub fn close_sets(
             z.nets as usize,
             draft,
         );
-        c += 1;
     }
     p
 }

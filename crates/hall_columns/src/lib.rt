@@ -1,4 +1,4 @@
-// The hall's entry with the lots as four tables, which the entry over records and the program share: 8 is tested first, then the file is loaded, and worked
+// The hall's entry with the lots as four tables, which the entry over records and the program share: short memory is tested first, then the file is loaded, and worked
 // to its end or turned down. Each table is lent as a slice of arrays, one array for each catalogue. Rests on lengths and hall_file.
 #![tactic(auto)]
 
@@ -14,8 +14,9 @@ ghost use Rattle.hall_columns.specs.Entry.{ServesHall};
 
 use hall_file::{HallRan, work_hall};
 use lengths::is_long;
+use refusal::Refusal;
 
-// There are four arrays of each table.
+// There are four arrays of each table. One test after another: joined by `&&` the thirteen were tried, and the proof didn't close.
 fn has_four(
     weights: &[[u32; 1024]],
     blocks: &[[u16; 1024]],
@@ -148,8 +149,7 @@ fn is_hall_long(
     ) {
         return false;
     }
-    let mut c: usize = 0;
-    while c < 4 {
+    for c in 0..4 {
         if !is_set_long(
             output,
             weights,
@@ -169,7 +169,6 @@ fn is_hall_long(
         ) {
             return false;
         }
-        c += 1;
     }
     true
 }
@@ -212,7 +211,7 @@ pub fn serve_hall(
         visited,
     ) {
         return HallRan {
-            code: 8,
+            code: Refusal::MemoryTooShort.number(),
             written: 0,
             lots: [0; 4],
         };

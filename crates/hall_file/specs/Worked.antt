@@ -37,8 +37,10 @@ use Rattle.hall_led.specs.Others.{no_course}
 use Rattle.hall_led.specs.Desks.{no_terms, DeskStands}
 use Rattle.hall_closing.specs.Closings.{EndedIn, goes-ended, Close, CanCloseSets}
 use Rattle.hall_loader.specs.Sets.{Set as LoaderSet, Sets as LoaderSets, set_of as loader_set}
-use Rattle.hall_loader.specs.declared.HallAnswer.{HallAnswer}
-use Rattle.hall_loader.specs.declared.HallAnswer.TheVariants.{Accepted, Refused}
+use Rattle.std.specs.Prelude.{Result, Ok, Err}
+use Rattle.refusal.specs.declared.Refused.{Refused}
+use Rattle.refusal.specs.Number.{number_of}
+use Rattle.hall_loader.specs.declared.HallLoaded.{HallLoaded}
 use Rattle.hall_loader.specs.Books.{no_sizes}
 use Rattle.hall_loader.specs.HallFile.{hall_seen, HallLoads}
 use Rattle.model.specs.HallLent.{HallTables, tables_of, hall_memory}
@@ -225,22 +227,28 @@ pub own-four : (x : List ℕ) → 4 ≤ length (replicate 4 x)
 own-four x = omega (arith, length-replicate {A = List ℕ} 4 x)
 
 -- ---- the two answers of the loader
-module _ {file : List ℕ} {r : HallAnswer} {zs : List Sizes} {old : LoaderSets} (T : HallTables) {netweights lows : List (List ℕ)} {calls ops : List ℕ}
-    (l : HallLoads file r zs old (loaded_in T netweights lows) calls ops) {count limit lines : ℕ} (e : r ≡ Accepted count limit lines) where
+module _ {file : List ℕ} {r : Result HallLoaded Refused} {old : LoaderSets} (T : HallTables) {netweights lows : List (List ℕ)} {calls ops : List ℕ}
+    (l : HallLoads file r old (loaded_in T netweights lows) calls ops) {a : HallLoaded} (e : r ≡ Ok a) where
   pub catalogued : {out : List ℕ} → ((c : ℕ) → c < 4 → Long main_limits out (loader_set c old).lists (get_or T.counts c []) (get_or T.gains c []) (get_or T.index c []) (get_or T.visited c [])) → Four T → 4 ≤ length netweights → 2048 ≤ length calls
-      → HallCatalogued file l.estimated count limit lines zs old lows T netweights calls ops out
+      → HallCatalogued file l.estimated a.count a.limit a.calls a.sizes old lows T netweights calls ops out
   catalogued {out} long four nw many = record {
-    says = ap (λ (x : HallAnswer). hall_seen l.estimated x zs (loaded_in T netweights lows) calls ops) (sym e) ∙ l.says;
-    accepts = l.accepts count limit lines e;
+    says = ap (λ (x : Result HallLoaded Refused). hall_seen l.estimated x (loaded_in T netweights lows) calls ops) (sym e) ∙ l.says;
+    accepts = l.accepts a e;
     long = long;
     four = four;
     netweights-four = nw;
     calls-long = many;
   }
 
-module _ {file : List ℕ} {r : HallAnswer} {zs : List Sizes} {old new : LoaderSets} {calls ops : List ℕ} (l : HallLoads file r zs old new calls ops) {q n : ℕ} (e : r ≡ Refused q n) where
+module _ {file : List ℕ} {r : Result HallLoaded Refused} {old new : LoaderSets} {calls ops : List ℕ} (l : HallLoads file r old new calls ops) {x : Refused} (e : r ≡ Err x) where
+  abbrev q : ℕ
+  q = number_of x.refusal
+
+  abbrev n : ℕ
+  n = x.line
+
   stops : hall_stopped q n ≡ parse_hall file
-  stops = ap (λ (x : HallAnswer). hall_seen l.estimated x zs new calls ops) (sym e) ∙ l.says
+  stops = ap (λ (x : Result HallLoaded Refused). hall_seen l.estimated x new calls ops) (sym e) ∙ l.says
 
   pub small : (q ≤ 24) × (n ≤ 60001)
   small = let b = hall-refused-in file q n (sym stops) in (b.1, b.2)

@@ -1,5 +1,6 @@
 // A hall's file in memory that is long enough: its catalogues are loaded into four sets of tables, which are opened, and its calls are run, or it is turned down.
-// Each table is lent as a slice of arrays, one array for each catalogue. Rests on hall_loader, hall_opening, hall_calls and hall_closing.
+// Each table is lent as a slice of arrays, one array for each catalogue. Rests on hall_loader, hall_opening, hall_led,
+// hall_calls, hall_closing and sale.
 #![tactic(auto)]
 
 ghost use Rattle.std.specs.Prelude.{ℕ, ◌<◌, ◌≤◌, ◌≡◌, Bool, List, length, get_or};
@@ -17,7 +18,7 @@ use call_list::course::{Course, Frame};
 use hall_calls::run_hall;
 use hall_closing::close_sets;
 use hall_led::Terms;
-use hall_loader::{HallAnswer, load_hall};
+use hall_loader::load_hall;
 use hall_opening::open_sets;
 use loader::Sizes;
 use sale::closing::refuse;
@@ -105,11 +106,9 @@ fn lots_known(courses: [Course; 4], count: usize) -> [usize; 4]
     ensures { ((c : ℕ) → c < count → get_or result c 0 ≡ (get_or courses c no_course).n) × ((c : ℕ) → count ≤ c → get_or result c 0 ≡ 0) }
 {
     let mut lots = [0usize; 4];
-    let mut c: usize = 0;
-    while c < count {
+    for c in 0..count {
         let course = courses[c];
         lots[c] = course.n;
-        c += 1;
     }
     lots
 }
@@ -193,8 +192,8 @@ fn sell_hall(
     );
     let courses = end.courses;
     HallSale {
-        courses: courses,
-        drafts: drafts,
+        courses,
+        drafts,
         at: end.at,
     }
 }
@@ -302,19 +301,13 @@ pub fn work_hall(
         &mut calls,
         &mut operands,
     );
-    let sizes = loaded.sizes;
-    let answer = loaded.answer;
-    match answer {
-        HallAnswer::Refused(q, line) => {
-            let end = refuse(output, q, line);
-            let number = q as u32;
-            HallRan {
-                code: number,
-                written: end,
-                lots: [0; 4],
-            }
-        }
-        HallAnswer::Accepted(count, limit, lines) => {
+    match loaded {
+        Err(q) => HallRan {
+            code: q.refusal.number(),
+            written: refuse(output, q),
+            lots: [0; 4],
+        },
+        Ok(hall) => {
             let end = report_hall(
                 output,
                 weights,
@@ -333,16 +326,16 @@ pub fn work_hall(
                 &netweights,
                 &calls,
                 &operands,
-                lines,
-                limit,
-                count as usize,
-                sizes,
+                hall.calls,
+                hall.limit,
+                hall.count as usize,
+                hall.sizes,
             );
             let lots = end.lots;
             HallRan {
                 code: 0,
                 written: end.at,
-                lots: lots,
+                lots,
             }
         }
     }

@@ -87,10 +87,6 @@ pub fn led(
     let marks = marks_left(courses, count, c);
     let here = put_lead(output, at, desk);
     let course = courses[c];
-    let stack = course.stack;
-    let journal = course.journal;
-    let free = course.free;
-    let fixedmarks = course.fixedmarks;
     let after = step_on(
         output,
         counts,
@@ -114,22 +110,8 @@ pub fn led(
         cap,
         marks,
         operands,
-        Frame {
-            m: frame.m,
-            k: frame.k,
-            average: frame.average,
-            lots: lots,
-        },
-        Course {
-            stack: stack,
-            journal: journal,
-            free: free,
-            fixedmarks: fixedmarks,
-            n: course.n,
-            marks: course.marks,
-            total: course.total,
-            at: here,
-        },
+        Frame { lots, ..frame },
+        Course { at: here, ..course },
         c,
         letter,
         x,

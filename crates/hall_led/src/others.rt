@@ -5,21 +5,11 @@ ghost use Rattle.hall_led.specs.Others.{lots_beside, marks_beside, Few};
 
 use call_list::course::Course;
 
-// Their difference, or 0.
-fn less(a: usize, b: usize) -> usize
-    ensures { result ≡ a - b }
-{
-    if a < b { 0 } else { a - b }
-}
-
 // A catalogue's part of what the others have: none of c itself.
 fn share(of: usize, d: usize, c: usize) -> usize
     ensures { result ≡ besides c d of }
 {
-    if d == c {
-        return 0;
-    }
-    of
+    if d == c { 0 } else { of }
 }
 
 // What all catalogues but c leave of lots.
@@ -27,15 +17,13 @@ pub fn lots_left(courses: [Course; 4], count: usize, c: usize) -> usize
     requires { (count ≤ 4) × (length courses ≡ 4) × Few courses count }
     ensures { result ≡ 1024 - lots_beside courses count c }
 {
-    let mut d: usize = 0;
     let mut all: usize = 0;
-    while d < count {
+    for d in 0..count {
         let one = courses[d];
         let free = one.free;
-        all += share(less(one.n, free.len), d, c);
-        d += 1;
+        all += share(one.n.saturating_sub(free.len), d, c);
     }
-    less(1024, all)
+    1024_usize.saturating_sub(all)
 }
 
 // What they leave of marks.
@@ -43,12 +31,10 @@ pub fn marks_left(courses: [Course; 4], count: usize, c: usize) -> usize
     requires { (count ≤ 4) × (length courses ≡ 4) × Few courses count }
     ensures { result ≡ 8192 - marks_beside courses count c }
 {
-    let mut d: usize = 0;
     let mut all: usize = 0;
-    while d < count {
+    for d in 0..count {
         let one = courses[d];
         all += share(one.marks, d, c);
-        d += 1;
     }
-    less(8192, all)
+    8192_usize.saturating_sub(all)
 }

@@ -114,8 +114,7 @@ pub fn open_sets(
     ensures { OpensSets count sizes (fills counts.old visited.old gains.old index.old bits.old loads.old) (fills counts.new visited.new gains.new index.new bits.new loads.new) (reads presentpins.now presentsizes.now blocks.now weights.now fixed.now firsts.now netweights.now) result }
 {
     let mut courses = [begin(&fixed[0], 0, 0, 0); 4];
-    let mut c: usize = 0;
-    while c < count {
+    for c in 0..count {
         let z = sizes[c];
         courses[c] = open_set(
             counts,
@@ -134,7 +133,6 @@ pub fn open_sets(
             c,
             z,
         );
-        c += 1;
     }
     courses
 }

@@ -5,6 +5,7 @@ ghost use Rattle.hall_records.specs.Entry.{HallAnswers};
 use crate::gathering::gather;
 use hall_columns::serve_hall;
 use records::Lot;
+use refusal::Refusal;
 
 // The engine's answer, and the first n records with their places: those to write.
 #[derive(Clone, Copy)]
@@ -46,7 +47,7 @@ pub fn core(
             n: 0,
             places: nowhere,
             lots: none,
-            code: 8,
+            code: Refusal::MemoryTooShort.number(),
             written: 0,
         };
     }

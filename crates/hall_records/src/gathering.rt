@@ -60,20 +60,18 @@ pub fn gather(
     let mut places = [0usize; 4096];
     let mut lots = [blank; 4096];
     let mut n: usize = 0;
-    let mut k: usize = 0;
-    while k < 4096 {
+    for k in 0..4096 {
         let c = k / 1024;
         let i = k % 1024;
         places[n] = k;
         lots[n] = lot_of(&weights[c], &blocks[c], &aboves[c], &fixed[c], i);
         n += used(counts, k);
-        k += 1;
     }
     HallAnswer {
-        n: n,
-        places: places,
-        lots: lots,
-        code: code,
-        written: written,
+        n,
+        places,
+        lots,
+        code,
+        written,
     }
 }

@@ -14,10 +14,8 @@ pub fn write_at(lots: &mut [Lot], n: usize, places: [usize; 4096], new: [Lot; 40
     requires { (n ≤ 4096) × ((i : ℕ) → i < n → get_or places i 0 < length lots.old) }
     ensures { lots.new ≡ placed n places new lots.old }
 {
-    let mut i: usize = 0;
-    while i < n {
+    for i in 0..n {
         let p = places[i];
         lots[p] = new[i];
-        i += 1;
     }
 }

@@ -32,20 +32,11 @@ fn others_bear(loads: &[[u64; 16]], ks: [usize; 4], count: usize, c: usize, t: u
     requires { (count ≤ 4) × (4 ≤ length loads.now) × (length ks ≡ 4) × (t < 16) × FewBales loads.now ks count t }
     ensures { result ≡ sum count (λ d. besides c d (bearing (get_or loads.now d []) (get_or ks d 0) t)) }
 {
-    let mut d: usize = 0;
     let mut all: u64 = 0;
-    while d < count {
+    for d in 0..count {
         all += counted(&loads[d], ks[d], t, d, c);
-        d += 1;
     }
     all
-}
-
-// Their difference, or 0.
-fn less(a: u64, b: u64) -> u64
-    ensures { result ≡ a - b }
-{
-    if a < b { 0 } else { a - b }
 }
 
 // What the limit leaves to the catalogue c in each block.
@@ -54,18 +45,10 @@ pub fn rooms(loads: &[[u64; 16]], ks: [usize; 4], count: usize, c: usize, limit:
     ensures { Leaves limit loads.now ks count c 16 result }
 {
     let mut row = [0u64; 16];
-    let mut t: usize = 0;
-    while t < 16 {
-        row[t] = less(limit, others_bear(loads, ks, count, c, t));
-        t += 1;
+    for t in 0..16 {
+        row[t] = limit.saturating_sub(others_bear(loads, ks, count, c, t));
     }
     row
-}
-
-fn lesser(a: u64, b: u64) -> u64
-    ensures { result ≡ cond (leb a b) a b }
-{
-    if a <= b { a } else { b }
 }
 
 // The lesser of the cap and what the limit leaves, in each block.
@@ -73,10 +56,8 @@ pub fn ceilings(rooms: &[u64; 16], cap: u64) -> [u64; 16]
     ensures { Least cap rooms.now 16 result }
 {
     let mut row = [0u64; 16];
-    let mut t: usize = 0;
-    while t < 16 {
-        row[t] = lesser(cap, rooms[t]);
-        t += 1;
+    for t in 0..16 {
+        row[t] = cap.min(rooms[t]);
     }
     row
 }

@@ -10,7 +10,7 @@ ghost use Rattle.fields.specs.Wrote.{Wrote};
 ghost use Rattle.sheet_rows.specs.Tables.{Ended};
 ghost use Rattle.hall_rows.specs.Desks.{Catalogues, DeskFits, HallEnded, DesksFit, HallFits};
 
-use sheet_rows::put_sale;
+use sheet_rows::{Tables, put_sale};
 
 // The digit of the number of the catalogue at place `c`.
 fn digit(c: usize) -> u8
@@ -20,57 +20,27 @@ fn digit(c: usize) -> u8
     49 + c as u8
 }
 
-// The lot above the first lot.
-fn first_above(aboves: &[u16]) -> u16
-    requires { 1 ≤ length aboves.now }
-    ensures { result ≡ get_or aboves.now 0 0 }
-{
-    aboves[0]
-}
-
 // How many catalogues there are, where the lots above of the sets without one hold 65,535.
 fn catalogues(aboves: &[[u16; 1024]]) -> usize
     ensures { (count : ℕ) → Catalogues count aboves.now → result ≡ count }
 {
-    let mut c = 0;
-    while c < aboves.len() {
-        if first_above(&aboves[c]) == 65535 {
+    for (c, table) in aboves.iter().enumerate() {
+        if table[0] == 65535 {
             return c;
         }
-        c += 1;
     }
-    c
+    aboves.len()
 }
 
 // Writes the sheets of the catalogue at place `c`.
-fn put_desk(
-    out: &mut [u8],
-    at: usize,
-    c: usize,
-    blocks: &[u16],
-    aboves: &[u16],
-    loadedpins: &[u16],
-    firsts: &[u16],
-    loadedsizes: &[u16],
-    visited: &[u16],
-) -> usize
-    requires { DeskFits (length out.old) at c blocks.now aboves.now loadedpins.now firsts.now loadedsizes.now visited.now }
-    ensures { (a : Sale) → Ended a blocks.now aboves.now loadedpins.now firsts.now loadedsizes.now visited.now
+fn put_desk(out: &mut [u8], at: usize, c: usize, tables: &Tables) -> usize
+    requires { DeskFits (length out.old) at c tables.now.blocks.now tables.now.aboves.now tables.now.loadedpins.now tables.now.firsts.now tables.now.loadedsizes.now tables.now.visited.now }
+    ensures { (a : Sale) → Ended a tables.now.blocks.now tables.now.aboves.now tables.now.loadedpins.now tables.now.firsts.now tables.now.loadedsizes.now tables.now.visited.now
         → at + length (sheets (digits (c + 1) ++ (44 ∷ [])) a) ≤ length out.old
         → Wrote out.old out.new at (sheets (digits (c + 1) ++ (44 ∷ [])) a) result }
 {
     let number = digit(c);
-    put_sale(
-        out,
-        at,
-        &[number, 44],
-        blocks,
-        aboves,
-        loadedpins,
-        firsts,
-        loadedsizes,
-        visited,
-    )
+    put_sale(out, at, &[number, 44], tables)
 }
 
 // Writes the sheets of the first `count` catalogues.
@@ -91,20 +61,16 @@ fn put_desks(
         → Wrote out.old out.new 0 (hall_sheets 1 ds) result }
 {
     let mut p = 0;
-    let mut c = 0;
-    while c < count {
-        p = put_desk(
-            out,
-            p,
-            c,
-            &blocks[c],
-            &aboves[c],
-            &loadedpins[c],
-            &firsts[c],
-            &loadedsizes[c],
-            &visited[c],
-        );
-        c += 1;
+    for c in 0..count {
+        let tables = Tables {
+            blocks: &blocks[c],
+            aboves: &aboves[c],
+            loadedpins: &loadedpins[c],
+            firsts: &firsts[c],
+            loadedsizes: &loadedsizes[c],
+            visited: &visited[c],
+        };
+        p = put_desk(out, p, c, &tables);
     }
     p
 }

@@ -6,6 +6,7 @@ ghost use Rattle.records.specs.Entry.{Answers};
 use crate::{Lot, gather};
 use columns::serve;
 use lines::Limits;
+use refusal::Refusal;
 
 // The engine's answer, and the records of the first n lots: those to write.
 #[derive(Clone, Copy)]
@@ -47,7 +48,7 @@ pub fn core(
         return Answer {
             n: 0,
             lots: none,
-            code: 8,
+            code: Refusal::MemoryTooShort.number(),
             written: 0,
         };
     }
@@ -76,7 +77,7 @@ pub fn core(
     let lots = gather(weights, blocks, aboves, fixed);
     Answer {
         n: served.lots,
-        lots: lots,
+        lots,
         code: served.code,
         written: served.written,
     }

@@ -8,6 +8,7 @@ ghost use Rattle.records.specs.Fields.{bales_of, sessions_of, aboves_of, kept_of
 pub mod answering;
 pub mod limits;
 
+// A lot's record, as C has it.
 #[repr(C)]
 #[derive(Clone, Copy)]
 pub struct Lot {
@@ -22,10 +23,8 @@ pub fn write(lots: &mut [Lot], n: usize, new: [Lot; 1024])
     requires { (n ≤ length lots.old) × (n ≤ 1024) }
     ensures { lots.new ≡ over n new lots.old }
 {
-    let mut i: usize = 0;
-    while i < n {
+    for i in 0..n {
         lots[i] = new[i];
-        i += 1;
     }
 }
 
@@ -45,15 +44,13 @@ fn gather(
         kept: 0,
     };
     let mut lots = [blank; 1024];
-    let mut i: usize = 0;
-    while i < 1024 {
+    for i in 0..1024 {
         lots[i] = Lot {
             bales: weights[i],
             session: blocks[i],
             above: aboves[i],
             kept: fixed[i],
         };
-        i += 1;
     }
     lots
 }

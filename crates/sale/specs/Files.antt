@@ -17,7 +17,9 @@ use Rattle.guarantees.specs.Refusals.{refused-in, engine-fits}
 use Rattle.lines.specs.Line.{Within}
 use Rattle.loader.specs.declared.Sizes.{Sizes}
 use Rattle.loader.specs.declared.Loaded.{Loaded}
-use Rattle.loader.specs.declared.Loaded.TheVariants.{Accepted, Refused}
+use Rattle.std.specs.Prelude.{Result, Ok, Err}
+use Rattle.refusal.specs.declared.Refused.{Refused}
+use Rattle.refusal.specs.Number.{number_of}
 use Rattle.loader.specs.Tables.{LongLists, graph, seen, Loads}
 use Rattle.fields.specs.Wrote.{Wrote}
 use Rattle.call_list.specs.Course.{Listed}
@@ -43,10 +45,16 @@ pub record Long (limits : Limits) (out : List ℕ) (t : Lists) (counts : List �
 
 module _ {limits : Limits} {file out : List ℕ} {old new : Lists} {nw lo calls ops counts : List ℕ} {gains : List ℤ} {index visited : List ℕ} (g : Long limits out old counts gains index visited) where
   -- ---- the two answers of the loader
-  module _ {r : Loaded} (l : Loads limits file r old new nw lo calls ops) where
-    module _ {z : Sizes} {count : ℕ} (e : r ≡ Accepted z count) where
-      here : Loads limits file (Accepted z count) old new nw lo calls ops
-      here = subst (λ (x : Loaded). Loads limits file x old new nw lo calls ops) e l
+  module _ {r : Result Loaded Refused} (l : Loads limits file r old new nw lo calls ops) where
+    module _ {a : Loaded} (e : r ≡ Ok a) where
+      abbrev z : Sizes
+      z = a.sizes
+
+      abbrev count : ℕ
+      count = a.calls
+
+      here : Loads limits file (Ok a) old new nw lo calls ops
+      here = subst (λ (x : Result Loaded Refused). Loads limits file x old new nw lo calls ops) e l
 
       accepted : ModelAccepted limits (graph z new nw lo)
       accepted = record { file = file; book = _; loads = sym here.says; graph_is = refl }
@@ -63,7 +71,7 @@ module _ {limits : Limits} {file out : List ℕ} {old new : Lists} {nw lo calls 
           gains-long = g.gains-long;
           index-long = g.index-long;
           visited-long = g.visited-long;
-          accepts = here.accepts z count refl;
+          accepts = here.accepts a refl;
           valid = reached limits g.within.few _ accepted [];
         };
         lots-are = refl;
@@ -71,7 +79,7 @@ module _ {limits : Limits} {file out : List ℕ} {old new : Lists} {nw lo calls 
       }
 
       pub listed : 1536 ≤ length calls → Listed calls ops count
-      listed q = let a = here.calls-known z count refl in record { count-le = a.calls-le; known = a.known; entries = a.entries; calls-fit = omega (arith, a.calls-le) }
+      listed q = let k = here.calls-known a refl in record { count-le = k.calls-le; known = k.known; entries = k.entries; calls-fit = omega (arith, k.calls-le) }
 
       module _ {new' : Lent} {out' : List ℕ} {bytes n : ℕ} (p : Reported limits (graph z new nw lo) (calls_of ops count calls) (lent old counts gains index visited) new' out out' bytes n) where
         pub worked : Worked limits (parse limits file) (memory out (lent old counts gains index visited)) (memory out' new') 0 bytes
@@ -81,9 +89,15 @@ module _ {limits : Limits} {file out : List ℕ} {old new : Lists} {nw lo calls 
         pub lots-known : n ≡ lots_known limits (parse limits file)
         lots-known = p.lots ∙ ap (lots_known limits) here.says
 
-    module _ {q n : ℕ} (e : r ≡ Refused q n) where
+    module _ {x : Refused} (e : r ≡ Err x) where
+      abbrev q : ℕ
+      q = number_of x.refusal
+
+      abbrev n : ℕ
+      n = x.line
+
       stops : stopped q n ≡ parse limits file
-      stops = ap (λ (x : Loaded). seen l.estimated x new nw lo calls ops) (sym e) ∙ l.says
+      stops = ap (λ (x : Result Loaded Refused). seen l.estimated x new nw lo calls ops) (sym e) ∙ l.says
 
       pub small : (q ≤ 21) × (n ≤ 60001)
       small = let b = refused-in limits file q n (sym stops) in (b.1, b.2)

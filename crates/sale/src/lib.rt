@@ -90,8 +90,8 @@ pub fn sell(
     put_all_right(index, gains, blocks, n, k);
     let start = begin(fixed, n, z.pins, draft);
     let frame = Frame {
-        m: m,
-        k: k,
+        m,
+        k,
         average: z.average as u64,
         lots: lots as usize,
     };
@@ -123,10 +123,10 @@ pub fn sell(
     let stack = course.stack;
     let journal = course.journal;
     Sale {
-        stack: stack,
-        journal: journal,
+        stack,
+        journal,
         n: course.n,
-        draft: draft,
+        draft,
         total: course.total,
         at: course.at,
     }

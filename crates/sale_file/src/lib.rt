@@ -9,7 +9,6 @@ ghost use Rattle.lines.specs.Line.{limits_of};
 ghost use Rattle.sale.specs.Files.{lots_known, Long};
 
 use lines::Limits;
-use loader::Loaded;
 use sale::closing::{refuse, report_sale};
 
 // 0 or the number of the refusal, 1 to 8 or 21, the bytes written, and how many lots are known at the end: 0 where no file was accepted.
@@ -51,7 +50,7 @@ pub fn work_file(
     let mut lows = [0u32; 1024];
     let mut calls = [0u32; 1536];
     let mut operands = [0u32; 30000];
-    match loader::load(
+    let loaded = loader::load(
         file,
         limits,
         weights,
@@ -67,17 +66,14 @@ pub fn work_file(
         &mut lows,
         &mut calls,
         &mut operands,
-    ) {
-        Loaded::Refused(q, line) => {
-            let end = refuse(output, q, line);
-            let number = q as u32;
-            Served {
-                code: number,
-                written: end,
-                lots: 0,
-            }
-        }
-        Loaded::Accepted(z, count) => {
+    );
+    match loaded {
+        Err(q) => Served {
+            code: q.refusal.number(),
+            written: refuse(output, q),
+            lots: 0,
+        },
+        Ok(sale) => {
             let end = report_sale(
                 output,
                 weights,
@@ -96,9 +92,9 @@ pub fn work_file(
                 &netweights,
                 &calls,
                 &operands,
-                count,
+                sale.calls,
                 limits.lots,
-                z,
+                sale.sizes,
             );
             Served {
                 code: 0,

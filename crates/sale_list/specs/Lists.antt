@@ -20,7 +20,9 @@ use Rattle.model.specs.Promises.{Demand3}
 use Rattle.model.specs.ListEntry.{is_letter, is_entry, entries_to, list_refusal, list_calls, Returned, returned, Idle, ListWorked}
 use Rattle.loader.specs.declared.Sizes.{Sizes}
 use Rattle.loader.specs.declared.Loaded.{Loaded}
-use Rattle.loader.specs.declared.Loaded.TheVariants.{Accepted, Refused}
+use Rattle.std.specs.Prelude.{Result, Ok, Err}
+use Rattle.refusal.specs.declared.Refused.{Refused}
+use Rattle.refusal.specs.Number.{number_of}
 use Rattle.loader.specs.Tables.{graph, seen, Loads}
 use Rattle.fields.specs.Wrote.{Wrote}
 use Rattle.operations.specs.Pairs.{Lengthened, long-pairs, zero-past, zero-new}
@@ -129,29 +131,29 @@ pub idle : {code bytes total : ℕ} {S J : Two} → S.len ≡ 0 → S.xs ≡ rep
     → Idle (returned code bytes total S J)
 idle {S = S} {J = J} s sx sy j jx jy t = record { no_joins = s; no-moves = j; zero-total = t; stack-whole = zero-new {S = S} sx sy; journal-whole = zero-new {S = J} jx jy }
 
-module _ (list operands out : List ℕ) (counts : List ℕ) (gains : List ℤ) (index visited : List ℕ) {limits : Limits} {file : List ℕ} {old new : Lists} {nw lo calls ops : List ℕ} {r : Loaded} (l : Loads limits file r old new nw lo calls ops) where
+module _ (list operands out : List ℕ) (counts : List ℕ) (gains : List ℤ) (index visited : List ℕ) {limits : Limits} {file : List ℕ} {old new : Lists} {nw lo calls ops : List ℕ} {r : Result Loaded Refused} (l : Loads limits file r old new nw lo calls ops) where
   -- the catalogue is accepted; the stack and the journal are returned with zeros past their lengths
-  pub list-worked : {z : Sizes} {count : ℕ} (e : r ≡ Accepted z count) {new' : Lent} {out' : List ℕ} {S S' J J' : Two} {n m draft total at : ℕ} → Sold limits (graph z new nw lo) (list_calls list operands) (lent old counts gains index visited) new' out out' S J n m draft total at
+  pub list-worked : {a : Loaded} (e : r ≡ Ok a) {new' : Lent} {out' : List ℕ} {S S' J J' : Two} {n m draft total at : ℕ} → Sold limits (graph a.sizes new nw lo) (list_calls list operands) (lent old counts gains index visited) new' out out' S J n m draft total at
       → Lengthened S.len S.xs S'.xs × Lengthened S.len S.ys S'.ys × (S'.len ≡ S.len)
       → Lengthened J.len J.xs J'.xs × Lengthened J.len J.ys J'.ys × (J'.len ≡ J.len)
       → ListWorked limits (parse limits file) (list_calls list operands) (memory out (lent old counts gains index visited)) (memory out' new') (returned 0 at total S' J')
-  list-worked {z} {count} e {new'} {out'} {S} {S'} {J} {J'} {total = total} {at = at} s zs zj =
+  list-worked {a} e {new'} {out'} {S} {S'} {J} {J'} {total = total} {at = at} s zs zj =
       let stack_same = sym (long-pairs {A = Contraction} (λ u v. record { into = u; gone = v }) {S = S} {S' = S'} zs.0 zs.1 zs.2) in
       let journal-same = sym (long-pairs {A = Move} (λ v b. record { vertex = v; from = b }) {S = J} {S' = J'} zj.0 zj.1 zj.2) in
-      subst (λ (x : Reading). ListWorked limits x (list_calls list operands) (memory out (lent old counts gains index visited)) (memory out' new') (returned 0 at total S' J')) (ap (λ (x : Loaded). seen l.estimated x new nw lo calls ops) (sym e) ∙ l.says)
+      subst (λ (x : Reading). ListWorked limits x (list_calls list operands) (memory out (lent old counts gains index visited)) (memory out' new') (returned 0 at total S' J')) (ap (λ (x : Result Loaded Refused). seen l.estimated x new nw lo calls ops) (sym e) ∙ l.says)
       (record {
         code_is = refl;
         lines = s.lines;
-        demand = subst (λ (x : Standing). Demand3 limits (graph z new nw lo) (list_calls list operands) (lent old counts gains index visited) x s.lines total) (λ k. standing new' (stack_same k) (journal-same k)) s.demand;
+        demand = subst (λ (x : Standing). Demand3 limits (graph a.sizes new nw lo) (list_calls list operands) (lent old counts gains index visited) x s.lines total) (λ k. standing new' (stack_same k) (journal-same k)) s.demand;
         output = written_all s.wrote;
         stack-whole = zero-past {S = S} {S' = S'} zs.0 zs.1 zs.2;
         journal-whole = zero-past {S = J} {S' = J'} zj.0 zj.1 zj.2;
       })
 
   -- it is refused
-  pub list-down : {q n : ℕ} (e : r ≡ Refused q n) (new' : Lent) {out' : List ℕ} {x : Returned} → Idle x → x.code ≡ q → Wrote out out' 0 (row "NO" (digits q ∷ digits n ∷ [])) x.bytes
+  pub list-down : {q : Refused} (e : r ≡ Err q) (new' : Lent) {out' : List ℕ} {x : Returned} → Idle x → x.code ≡ number_of q.refusal → Wrote out out' 0 (row "NO" (digits (number_of q.refusal) ∷ digits q.line ∷ [])) x.bytes
       → ListWorked limits (parse limits file) (list_calls list operands) (memory out (lent old counts gains index visited)) (memory out' new') x
   unfolding outcome
-  list-down {q} {n} e new' {out'} {x} i d w =
-      subst (λ (y : Reading). ListWorked limits y (list_calls list operands) (memory out (lent old counts gains index visited)) (memory out' new') x) (ap (λ (y : Loaded). seen l.estimated y new nw lo calls ops) (sym e) ∙ l.says)
+  list-down {q} e new' {out'} {x} i d w =
+      subst (λ (y : Reading). ListWorked limits y (list_calls list operands) (memory out (lent old counts gains index visited)) (memory out' new') x) (ap (λ (y : Result Loaded Refused). seen l.estimated y new nw lo calls ops) (sym e) ∙ l.says)
       (record { code_is = d; output = written_all w; tables = tt }, i)

@@ -6,13 +6,14 @@ ghost use Rattle.std.specs.Prelude.{◌+◌, ◌*◌, ◌/◌, ◌≤◌, ◌≡
 ghost use Rattle.model.specs.Grammar.{parse, letter_a, letter_x, letter_n};
 ghost use Rattle.model.specs.Lent.{lists, lent, memory, two};
 ghost use Rattle.model.specs.ListEntry.{is_letter, is_entry, entries_to, list_refusal, list_calls, returned, ListWorked};
+ghost use Rattle.refusal.specs.Number.{refused_as};
 ghost use Rattle.lines.specs.Line.{limits_of};
 ghost use Rattle.sale.specs.Files.{Long};
 
 use any_call::kinds::{is_contracting, is_moving};
 use lines::Limits;
-use loader::Loaded;
 use operations::pairs::{LongJournal, LongStack};
+use refusal::Refusal;
 use sale::closing::refuse;
 use sale::sell;
 
@@ -31,49 +32,28 @@ pub struct ListRan {
 fn is_other(letter: u32) -> bool
     ensures { result ≡ (eqb letter letter_a || (eqb letter letter_x || eqb letter letter_n)) }
 {
-    if letter == text::letters::A {
-        return true;
-    }
-    if letter == text::letters::X {
-        return true;
-    }
-    letter == text::letters::N
+    letter == text::letters::A || letter == text::letters::X || letter == text::letters::N
 }
 
 // Is this the letter of a call.
 fn is_letter(letter: u32) -> bool
     ensures { result ≡ is_letter letter }
 {
-    if is_contracting(letter) {
-        return true;
-    }
-    if is_moving(letter) {
-        return true;
-    }
-    is_other(letter)
+    is_contracting(letter) || is_moving(letter) || is_other(letter)
 }
 
 // Are there two numbers at least, and do they lie within so many operands.
 fn is_stretch(operands: usize, x: u32, y: u32) -> bool
     ensures { result ≡ (leb 2 y && leb (x + y) operands) }
 {
-    if y < 2 {
-        return false;
-    }
-    (x as u64) + (y as u64) <= operands as u64
+    2 <= y && u64::from(x) + u64::from(y) <= operands as u64
 }
 
 // Has a call its form, with so many operands.
 fn is_entry(operands: usize, letter: u32, x: u32, y: u32) -> bool
     ensures { result ≡ is_entry operands letter x y }
 {
-    if !is_letter(letter) {
-        return false;
-    }
-    if letter != text::letters::N {
-        return true;
-    }
-    is_stretch(operands, x, y)
+    is_letter(letter) && (letter != text::letters::N || is_stretch(operands, x, y))
 }
 
 // Has each of the first `count` calls its form.
@@ -81,32 +61,30 @@ fn are_entries(list: &[u32], operands: usize, count: usize) -> bool
     requires { (3 * count ≤ length list.now) × (count ≤ 512) }
     ensures { result ≡ entries_to operands count list.now }
 {
-    let mut i = 0;
-    while i < count {
+    for i in 0..count {
         let at = 3 * i;
         if !is_entry(operands, list[at], list[at + 1], list[at + 2]) {
             return false;
         }
-        i += 1;
     }
     true
 }
 
-// The refusal of a list, or 0.
-pub fn list_refusal(list: &[u32], operands: &[u32]) -> u32
-    ensures { result ≡ list_refusal list.now operands.now }
+// Whether a list has at most 512 calls, each in its form.
+pub fn check_list(list: &[u32], operands: &[u32]) -> Result<(), Refusal>
+    ensures { refused_as result ≡ list_refusal list.now operands.now }
 {
     let len = list.len();
     if 1536 < len {
-        return 7;
+        return Err(Refusal::TooManyCalls);
     }
     if len % 3 != 0 {
-        return 2;
+        return Err(Refusal::BadlyWritten);
     }
     if !are_entries(list, operands.len(), len / 3) {
-        return 2;
+        return Err(Refusal::BadlyWritten);
     }
-    0
+    Ok(())
 }
 
 // A list that is not refused, in memory that is long enough for an entry of these limits.
@@ -142,7 +120,7 @@ pub fn work_list(
     let mut lows = [0u32; 1024];
     let mut calls = [0u32; 1536];
     let mut unused = [0u32; 30000];
-    match loader::load(
+    let loaded = loader::load(
         file,
         limits,
         weights,
@@ -158,21 +136,21 @@ pub fn work_list(
         &mut lows,
         &mut calls,
         &mut unused,
-    ) {
-        Loaded::Refused(q, line) => {
-            let end = refuse(output, q, line);
-            let number = q as u32;
+    );
+    match loaded {
+        Err(q) => {
+            let end = refuse(output, q);
             let none = LongStack::new();
             let unmoved = LongJournal::new();
             ListRan {
-                code: number,
+                code: q.refusal.number(),
                 written: end,
                 total: 0,
                 stack: none,
                 journal: unmoved,
             }
         }
-        Loaded::Accepted(z, unasked) => {
+        Ok(catalogue) => {
             let count = list.len() / 3;
             let s = sell(
                 output,
@@ -194,7 +172,7 @@ pub fn work_list(
                 operands,
                 count,
                 limits.lots,
-                z,
+                catalogue.sizes,
             );
             let joins = s.stack;
             let moves = s.journal;
@@ -204,8 +182,8 @@ pub fn work_list(
                 code: 0,
                 written: s.at,
                 total: s.total,
-                stack: stack,
-                journal: journal,
+                stack,
+                journal,
             }
         }
     }

@@ -3,7 +3,7 @@ use Rattle.columns.specs.Entry.{long-is, too_short, served}
 use Rattle.columns.proofs.serve.Goals as goal
 
 pub returns-then-not-is_long : goal.returns-then-not-is_long
-returns-then-not-is_long c = too_short _ _ _ (c.is_long.ensures _ refl) c.if-not-is_long.true
+returns-then-not-is_long c = rw c.number.ensures (too_short _ _ _ (c.is_long.ensures _ refl) c.if-not-is_long.true)
 
 pub work_file-requires : goal.work_file-requires
 work_file-requires c =

@@ -26,12 +26,6 @@ bounds-drafts-c c = omega (arith, c.loop-c.invariant.can.few, c.loop-c-test.true
 pub close_set-p-requires : goal.close_set-p-requires
 close_set-p-requires c = can-next c.loop-c.invariant c.loop-c-test.true
 
-pub overflow_add-c : goal.overflow_add-c
-overflow_add-c c = omega (arith, c.loop-c.invariant.can.few, c.loop-c-test.true)
-
-pub loop-c-smaller : goal.loop-c-smaller
-loop-c-smaller c = omega (arith, c.loop-c-test.true)
-
 pub loop-c-preserved : goal.loop-c-preserved
 loop-c-preserved c = close_more c.loop-c.invariant c.loop-c-test.true c.close_set-p.auto.output c.close_set-p.ensures
 

@@ -5,6 +5,3 @@ use Rattle.hall_closing.proofs.close_sets.Given as goal
 
 abbrev pub invariant-loop-c : goal.invariant-loop-c
 invariant-loop-c l = CloseTo l.initial.output l.at l.count l.blocks l.aboves l.visited l.courses l.sizes l.drafts l.c l.output l.p
-
-abbrev pub decreases-loop-c : goal.decreases-loop-c
-decreases-loop-c l = l.count - l.c

@@ -21,9 +21,6 @@ returns-then-not-is_set_long c =
     let a = c.args in
     one-short a.output.now (hall_tables a.weights.now a.blocks.now a.aboves.now a.fixed.now a.loadedpins.now a.presentpins.now a.firsts.now a.loadedsizes.now a.presentsizes.now a.counts.now a.gains.now a.index.now a.visited.now) _ c.loop-c-test.true (sym c.is_set_long.ensures ∙ c.if-not-is_set_long.true)
 
-pub overflow_add-c : goal.overflow_add-c
-overflow_add-c c = omega (arith, c.loop-c-test.true)
-
 pub loop-c-smaller : goal.loop-c-smaller
 loop-c-smaller c = omega (arith, c.loop-c-test.true)
 

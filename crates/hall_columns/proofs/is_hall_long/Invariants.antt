@@ -6,6 +6,3 @@ use Rattle.hall_columns.proofs.is_hall_long.Given as goal
 
 abbrev pub invariant-loop-c : goal.invariant-loop-c
 invariant-loop-c l = LongTo l.output (hall_tables l.weights l.blocks l.aboves l.fixed l.loadedpins l.presentpins l.firsts l.loadedsizes l.presentsizes l.counts l.gains l.index l.visited) l.c × (l.c ≤ 4)
-
-abbrev pub decreases-loop-c : goal.decreases-loop-c
-decreases-loop-c l = 4 - l.c

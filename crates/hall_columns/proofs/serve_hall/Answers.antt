@@ -6,7 +6,7 @@ use Rattle.hall_columns.specs.Entry.{too_short, served}
 use Rattle.hall_columns.proofs.serve_hall.Goals as goal
 
 pub returns-then-not-is_hall_long : goal.returns-then-not-is_hall_long
-returns-then-not-is_hall_long c = too_short _ _ c.is_hall_long.ensures c.if-not-is_hall_long.true
+returns-then-not-is_hall_long c = rw c.number.ensures (too_short _ _ c.is_hall_long.ensures c.if-not-is_hall_long.true)
 
 pub work_hall-requires : goal.work_hall-requires
 work_hall-requires c =

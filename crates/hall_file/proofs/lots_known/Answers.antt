@@ -17,12 +17,6 @@ offset_bounds-lots-c c = omega (arith, c.requires, c.loop-c-test.true)
 pub bounds-lots-c : goal.bounds-lots-c
 bounds-lots-c c = omega (arith, c.requires, c.loop-c-test.true)
 
-pub overflow_add-c : goal.overflow_add-c
-overflow_add-c c = omega (arith, c.requires, c.loop-c-test.true)
-
-pub loop-c-smaller : goal.loop-c-smaller
-loop-c-smaller c = omega (arith, c.loop-c-test.true)
-
 pub loop-c-preserved : goal.loop-c-preserved
 loop-c-preserved c = (lots-more (omega (arith, c.requires, c.loop-c-test.true)) c.loop-c.invariant.0, omega (arith, c.loop-c-test.true))
 

@@ -5,6 +5,3 @@ use Rattle.hall_file.proofs.lots_known.Given as goal
 
 abbrev pub invariant-loop-c : goal.invariant-loop-c
 invariant-loop-c l = LotsTo l.courses l.c l.lots × (l.c ≤ l.count)
-
-abbrev pub decreases-loop-c : goal.decreases-loop-c
-decreases-loop-c l = l.count - l.c

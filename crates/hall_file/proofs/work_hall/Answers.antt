@@ -10,13 +10,10 @@ load_hall-loaded-requires c =
     let four = c.requires.four in
     (omega (arith, length-replicate {A = ℕ} 2048 0), omega (arith, length-replicate {A = ℕ} 30000 0), record { weights-four = four.weights-four; blocks-four = four.blocks-four; aboves-four = four.aboves-four; fixed-four = four.fixed-four; loaded_pins-four = four.loaded_pins-four; present_pins-four = four.present_pins-four; firsts-four = four.firsts-four; loaded_sizes-four = four.loaded_sizes-four; present_sizes-four = four.present_sizes-four; costs-four = own-four (replicate 1024 0); lows-four = own-four (replicate 1024 0) }, λ d low high. (own-length d high, own-length d high))
 
-pub refuse-end-requires : goal.refuse-end-requires
-refuse-end-requires c =
-    let refused = c.in-Refused.is in
+pub refuse-requires : goal.refuse-requires
+refuse-requires c =
+    let refused = c.in-Err.is in
     ((small c.load_hall-loaded.ensures refused).1, omega (arith, line-fits c.load_hall-loaded.ensures refused, c.requires.spacious))
-
-pub overflow_cast-number : goal.overflow_cast-number
-overflow_cast-number c = omega (arith, (small c.load_hall-loaded.ensures c.in-Refused.is).0)
 
 pub report_hall-end-requires : goal.report_hall-end-requires
 report_hall-end-requires c =
@@ -28,19 +25,19 @@ report_hall-end-requires c =
       estimated = _;
       old = _;
       lows = _;
-      catalogued = catalogued _ loaded.ensures c.in-Accepted.is long.long (record { weights-four = omega (arith, four.weights-four, loaded.auto.weights); blocks-four = omega (arith, four.blocks-four, loaded.auto.blocks); aboves-four = omega (arith, four.aboves-four, loaded.auto.aboves); fixed-four = omega (arith, four.fixed-four, loaded.auto.fixed); loaded_pins-four = omega (arith, four.loaded_pins-four, loaded.auto.loadedpins); present_pins-four = omega (arith, four.present_pins-four, loaded.auto.presentpins); firsts-four = omega (arith, four.firsts-four, loaded.auto.firsts); loaded_sizes-four = omega (arith, four.loaded_sizes-four, loaded.auto.loadedsizes); present_sizes-four = omega (arith, four.present_sizes-four, loaded.auto.presentsizes); counts-four = four.counts-four; gains-four = four.gains-four; index-four = four.index-four; visited-four = four.visited-four }) (omega (arith, own-four (replicate 1024 0), loaded.auto.netweights)) (omega (arith, length-replicate {A = ℕ} 2048 0, loaded.auto.calls));
+      catalogued = catalogued _ loaded.ensures c.in-Ok.is long.long (record { weights-four = omega (arith, four.weights-four, loaded.auto.weights); blocks-four = omega (arith, four.blocks-four, loaded.auto.blocks); aboves-four = omega (arith, four.aboves-four, loaded.auto.aboves); fixed-four = omega (arith, four.fixed-four, loaded.auto.fixed); loaded_pins-four = omega (arith, four.loaded_pins-four, loaded.auto.loadedpins); present_pins-four = omega (arith, four.present_pins-four, loaded.auto.presentpins); firsts-four = omega (arith, four.firsts-four, loaded.auto.firsts); loaded_sizes-four = omega (arith, four.loaded_sizes-four, loaded.auto.loadedsizes); present_sizes-four = omega (arith, four.present_sizes-four, loaded.auto.presentsizes); counts-four = four.counts-four; gains-four = four.gains-four; index-four = four.index-four; visited-four = four.visited-four }) (omega (arith, own-four (replicate 1024 0), loaded.auto.netweights)) (omega (arith, length-replicate {A = ℕ} 2048 0, loaded.auto.calls));
       spacious = long.spacious;
     }
 
-pub returns-in-Refused : goal.returns-in-Refused
-returns-in-Refused c =
-    let refused = c.in-Refused.is in
-    (turned_down c.load_hall-loaded.ensures refused refl c.refuse-end.ensures, no-lots c.load_hall-loaded.ensures refused (λ d l. zeros-get 4 d))
+pub returns-in-Err : goal.returns-in-Err
+returns-in-Err c =
+    let refused = c.in-Err.is in
+    (turned_down c.load_hall-loaded.ensures refused c.number.ensures c.refuse.ensures, no-lots c.load_hall-loaded.ensures refused (λ d l. zeros-get 4 d))
 
-pub returns-in-Accepted : goal.returns-in-Accepted
-returns-in-Accepted c =
+pub returns-in-Ok : goal.returns-in-Ok
+returns-in-Ok c =
     let long = c.requires in
     let four = long.four in
     let loaded = c.load_hall-loaded in
-    let told = c.report_hall-end.ensures _ _ _ _ (catalogued _ loaded.ensures c.in-Accepted.is long.long (record { weights-four = omega (arith, four.weights-four, loaded.auto.weights); blocks-four = omega (arith, four.blocks-four, loaded.auto.blocks); aboves-four = omega (arith, four.aboves-four, loaded.auto.aboves); fixed-four = omega (arith, four.fixed-four, loaded.auto.fixed); loaded_pins-four = omega (arith, four.loaded_pins-four, loaded.auto.loadedpins); present_pins-four = omega (arith, four.present_pins-four, loaded.auto.presentpins); firsts-four = omega (arith, four.firsts-four, loaded.auto.firsts); loaded_sizes-four = omega (arith, four.loaded_sizes-four, loaded.auto.loadedsizes); present_sizes-four = omega (arith, four.present_sizes-four, loaded.auto.presentsizes); counts-four = four.counts-four; gains-four = four.gains-four; index-four = four.index-four; visited-four = four.visited-four }) (omega (arith, own-four (replicate 1024 0), loaded.auto.netweights)) (omega (arith, length-replicate {A = ℕ} 2048 0, loaded.auto.calls))) in
+    let told = c.report_hall-end.ensures _ _ _ _ (catalogued _ loaded.ensures c.in-Ok.is long.long (record { weights-four = omega (arith, four.weights-four, loaded.auto.weights); blocks-four = omega (arith, four.blocks-four, loaded.auto.blocks); aboves-four = omega (arith, four.aboves-four, loaded.auto.aboves); fixed-four = omega (arith, four.fixed-four, loaded.auto.fixed); loaded_pins-four = omega (arith, four.loaded_pins-four, loaded.auto.loadedpins); present_pins-four = omega (arith, four.present_pins-four, loaded.auto.presentpins); firsts-four = omega (arith, four.firsts-four, loaded.auto.firsts); loaded_sizes-four = omega (arith, four.loaded_sizes-four, loaded.auto.loadedsizes); present_sizes-four = omega (arith, four.present_sizes-four, loaded.auto.presentsizes); counts-four = four.counts-four; gains-four = four.gains-four; index-four = four.index-four; visited-four = four.visited-four }) (omega (arith, own-four (replicate 1024 0), loaded.auto.netweights)) (omega (arith, length-replicate {A = ℕ} 2048 0, loaded.auto.calls))) in
     (told.worked, told.lots-are)

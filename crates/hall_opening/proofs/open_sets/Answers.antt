@@ -26,12 +26,6 @@ offset_bounds-courses-c c = omega (arith, c.loop-c.invariant.begun.few, c.loop-c
 pub bounds-courses-c : goal.bounds-courses-c
 bounds-courses-c c = omega (arith, c.loop-c.invariant.begun.few, c.loop-c-test.true)
 
-pub overflow_add-c : goal.overflow_add-c
-overflow_add-c c = omega (arith, c.loop-c.invariant.begun.few, c.loop-c-test.true)
-
-pub loop-c-smaller : goal.loop-c-smaller
-loop-c-smaller c = omega (arith, c.loop-c-test.true)
-
 pub loop-c-preserved : goal.loop-c-preserved
 loop-c-preserved c = open_more c.loop-c.invariant c.loop-c-test.true c.open_set.ensures
 

@@ -5,6 +5,3 @@ use Rattle.hall_records.proofs.write_at.Given as goal
 
 abbrev pub invariant-loop-i : goal.invariant-loop-i
 invariant-loop-i l = (l.i ≤ l.n) × (l.lots ≡ placed l.i l.places l.new l.initial.lots)
-
-abbrev pub decreases-loop-i : goal.decreases-loop-i
-decreases-loop-i l = l.n - l.i

@@ -1,4 +1,4 @@
-use Rattle.std.proofs.Common.{arith, ◌≡◌, sym, ◌∙◌, ap, rules}
+use Rattle.std.proofs.Common.{arith}
 use Rattle.hall_rooms.specs.Rooms.{bears-here, bears-none}
 use Rattle.hall_rooms.proofs.borne.Goals as goal
 

@@ -1,4 +1,3 @@
-use Rattle.std.proofs.Common.{arith, ◌≡◌, sym, ◌∙◌, ap, rules}
 use Rattle.hall_rooms.specs.Rooms.{bearing, besides-own, besides-other}
 use Rattle.hall_rooms.proofs.counted.Goals as goal
 

@@ -2,9 +2,6 @@
 use Rattle.hall_rows.proofs.Desks.{lead_is}
 use Rattle.hall_rows.proofs.put_desk.Goals as goal
 
-pub digit-number-requires : goal.digit-number-requires
-digit-number-requires c = c.requires.few
-
 pub put_sale-requires : goal.put_sale-requires
 put_sale-requires c =
     let k = c.requires in

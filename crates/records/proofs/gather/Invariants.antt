@@ -11,6 +11,3 @@ Made weights blocks aboves fixed lots k = get_or lots k blank ≡ record { bales
 
 abbrev pub invariant-loop-i : goal.invariant-loop-i
 invariant-loop-i l = (l.i ≤ 1024) × (length l.lots ≡ 1024) × ((k : ℕ) → k < l.i → Made l.weights l.blocks l.aboves l.fixed l.lots k)
-
-abbrev pub decreases-loop-i : goal.decreases-loop-i
-decreases-loop-i l = 1024 - l.i

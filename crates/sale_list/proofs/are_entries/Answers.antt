@@ -35,9 +35,6 @@ bounds-list-at-in-loop-i-2 c = omega (arith, c.requires, c.loop-i-test.true)
 pub returns-then-not-is_entry : goal.returns-then-not-is_entry
 returns-then-not-is_entry c = entries-no _ _ _ _ c.loop-i-test.true c.is_entry.ensures c.if-not-is_entry.true
 
-pub overflow_add-i : goal.overflow_add-i
-overflow_add-i c = omega (arith, c.requires, c.loop-i-test.true)
-
 pub loop-i-smaller : goal.loop-i-smaller
 loop-i-smaller c = omega (arith, c.loop-i-test.true)
 

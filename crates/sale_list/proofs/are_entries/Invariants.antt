@@ -4,6 +4,3 @@ use Rattle.sale_list.proofs.are_entries.Given as goal
 
 abbrev pub invariant-loop-i : goal.invariant-loop-i
 invariant-loop-i l = (entries_to l.operands l.i l.list ≡ true) × (l.i ≤ l.count)
-
-abbrev pub decreases-loop-i : goal.decreases-loop-i
-decreases-loop-i l = l.count - l.i

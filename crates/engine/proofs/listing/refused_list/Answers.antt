@@ -6,4 +6,4 @@ pub returns : goal.returns
 returns c =
     let stack = c.new-none.ensures in
     let journal = c.new-unmoved.ensures in
-    (refl, refl, idle stack.2 stack.3 stack.4 journal.2 journal.3 journal.4 refl)
+    (c.number.ensures, refl, idle stack.2 stack.3 stack.4 journal.2 journal.3 journal.4 refl)

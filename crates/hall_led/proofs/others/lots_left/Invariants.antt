@@ -5,6 +5,3 @@ use Rattle.hall_led.proofs.others.lots_left.Given as goal
 
 abbrev pub invariant-loop-d : goal.invariant-loop-d
 invariant-loop-d l = (l.d ≤ l.count) × (l.all ≡ lots_beside l.courses l.d l.c) × (l.all ≤ l.d * 1024)
-
-abbrev pub decreases-loop-d : goal.decreases-loop-d
-decreases-loop-d l = l.count - l.d

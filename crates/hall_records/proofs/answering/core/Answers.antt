@@ -7,7 +7,7 @@ use Rattle.hall_records.proofs.answering.core.Goals as goal
 pub returns-then-room-lt4096 : goal.returns-then-room-lt4096
 returns-then-room-lt4096 c =
     let a = c.args in
-    short-answers a.file.now a.output.now a.room (hall_others a.loadedpins.now a.presentpins.now a.firsts.now a.loadedsizes.now a.presentsizes.now a.counts.now a.gains.now a.index.now a.visited.now) _ c.if-room-lt4096.true refl refl refl
+    short-answers a.file.now a.output.now a.room (hall_others a.loadedpins.now a.presentpins.now a.firsts.now a.loadedsizes.now a.presentsizes.now a.counts.now a.gains.now a.index.now a.visited.now) _ c.if-room-lt4096.true refl c.number.ensures refl
 
 pub returns : goal.returns
 returns c =

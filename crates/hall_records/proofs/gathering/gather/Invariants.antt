@@ -9,6 +9,3 @@ use Rattle.hall_records.proofs.gathering.gather.Given as goal
 abbrev pub invariant-loop-k : goal.invariant-loop-k
 invariant-loop-k l =
     (l.k ≤ 4096) × (length l.places ≡ 4096) × (length l.lots ≡ 4096) × Gathered l.counts l.weights l.blocks l.aboves l.fixed l.k l.n l.places l.lots
-
-abbrev pub decreases-loop-k : goal.decreases-loop-k
-decreases-loop-k l = 4096 - l.k

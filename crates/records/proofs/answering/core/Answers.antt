@@ -12,7 +12,7 @@ use Rattle.records.proofs.answering.core.Goals as goal
 pub returns-then-room-least : goal.returns-then-room-least
 returns-then-room-least c =
     let a = c.args in
-    record { fits = omega arith; small = omega arith; serves = λ lots e. file-serves (limits_of a.limits) c.requires.few c.requires.sessions-few a.file.now _ _ _ _ (no_room (limits_of a.limits) a.file.now a.output.now lots (others a.loadedpins.now a.presentpins.now a.firsts.now a.loadedsizes.now a.presentsizes.now a.counts.now a.gains.now a.index.now a.visited.now) (omega (arith, e, c.if-room-least.true))) }
+    rw c.number.ensures (record { fits = omega arith; small = omega arith; serves = λ lots e. file-serves (limits_of a.limits) c.requires.few c.requires.sessions-few a.file.now _ _ _ _ (no_room (limits_of a.limits) a.file.now a.output.now lots (others a.loadedpins.now a.presentpins.now a.firsts.now a.loadedsizes.now a.presentsizes.now a.counts.now a.gains.now a.index.now a.visited.now) (omega (arith, e, c.if-room-least.true))) })
 
 pub returns : goal.returns
 returns c =

@@ -1,5 +1,5 @@
 use Rattle.sale_list.specs.Lists.{list-long, list-odd, list-strange, list-good}
-use Rattle.sale_list.proofs.list_refusal.Goals as goal
+use Rattle.sale_list.proofs.check_list.Goals as goal
 
 pub returns-then-len-gt1536 : goal.returns-then-len-gt1536
 returns-then-len-gt1536 c = list-long _ _ c.if-len-gt1536.true
