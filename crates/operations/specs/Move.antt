@@ -243,20 +243,20 @@ pub record Shifts (loads : List ℕ) (s t w : ℕ) : Type 0 where
   pub there : w ≤ get_or loads (s - 1) 0
   pub small : get_or (lessened loads s w) (t - 1) 0 + w < 2 ^ 64
 
--- what `carry` asks
+-- what `transfer` asks for its two calls: of the running tables, and of the loads
 pub record Carries (R : Running) (loads weights : List ℕ) (n m k u t : ℕ) : Type 0 where
   pub moves : MoveNeeds R n m k u t
   pub shifts : Shifts loads (get_or R.blocks u 0) t (get_or weights u 0)
   pub in_blocks : u < length R.blocks
   pub in-weights : u < length weights
 
--- `go` has no use for the vertices above and for the loaded sizes: whatever these are
+-- `transfer` has no use for the vertices above and for the loaded sizes: whatever these are
 pub record CanGo (T : List ℕ → List ℕ → Tables) (u t : ℕ) : Type 0 where
   pub aboves : List ℕ
   pub loaded : List ℕ
   pub goes : Goes (T aboves loaded) u t
 
--- ---- what `carry` gives on to its call, and takes from it
+-- ---- what `transfer` gives on to `shift_load`, and takes from it
 module _ (loads : List ℕ) {a b w s t v : ℕ} (qa : a ≡ s) (qb : b ≡ t) (qw : w ≡ v) where
   pub shifts-as : Shifts loads s t v → Shifts loads a b w
   shifts-as h = rw (qa, qb, qw) h
@@ -264,7 +264,7 @@ module _ (loads : List ℕ) {a b w s t v : ℕ} (qa : a ≡ s) (qb : b ≡ t) (q
   pub shifted_as : {l : List ℕ} → l ≡ shifted loads a b w → l ≡ shifted loads s t v
   shifted_as h = rw (← qa, ← qb, ← qw) h
 
--- ---- what the calls of `go` need, and what they return, in the code's own variables
+-- ---- what the calls of `transfer` need, and what they return, in the code's own variables
 module _ {h : Hypergraph} {cs : List Contraction} {block : ℕ → ℕ} {T : Tables} (s : Sound h cs block T) {u t : ℕ} (o : Open T.blocks T.n T.k u t) where
   up-on : above cs (u + 1) ≡ 0
   up-on = on-board s u o.u-in o.on

@@ -1,11 +1,11 @@
 // A vertex moved to another block in all tables, with the blocks' weights and the metric; and a move taken back.
-ghost use Rattle.std.specs.Prelude.{ℕ, ◌≡◌, List, get_or, pos, ◌-ℤ◌};
-ghost use Rattle.levels.specs.Running.{running};
-ghost use Rattle.levels.specs.Operations.{MoveDoes};
+ghost use Rattle.std.specs.Prelude.{ℕ, ◌≡◌, List, pos, ◌-ℤ◌};
 ghost use Rattle.operations.specs.Tables.{tables};
+ghost use Rattle.operations.specs.Lent.{lent_on};
 ghost use Rattle.operations.specs.Total.{Lowers};
-ghost use Rattle.operations.specs.Move.{shifted, Shifts, Carries, CanGo, Went};
+ghost use Rattle.operations.specs.Move.{shifted, Shifts, CanGo, Went};
 
+use crate::board::Board;
 use levels::move_vertex;
 
 // The metric after a move of that gain, which may be negative. The way back has the negated gain, so that the metric rises by what it fell.
@@ -25,59 +25,53 @@ fn shift_load(loads: &mut [u64; 16], s: usize, t: usize, w: u64)
     loads[t - 1] += w;
 }
 
-// Moves the vertex `u` to the block `t` in all tables, with the blocks' weights.
-fn carry(
+// Moves the vertex `u` to the block `t` in all tables, with the blocks' weights, and returns the metric after it.
+pub fn transfer(
     counts: &mut [u16],
     visited: &mut [u16],
     gains: &mut [i32],
     blocks: &mut [u16],
     loads: &mut [u64; 16],
-    presentpins: &[u16],
-    presentsizes: &[u16],
-    bits: &[u64],
-    weights: &[u32],
-    netweights: &[u16],
-    firsts: &[u16],
-    n: usize,
-    m: usize,
-    k: usize,
+    board: Board<'_>,
+    total: u32,
     u: usize,
     t: u16,
-)
-    requires { Carries
-        (running counts.old visited.old gains.old presentpins.now presentsizes.now bits.now blocks.old netweights.now firsts.now)
-        loads.old weights.now n m k u t }
-    ensures move_does { MoveDoes
-        (running counts.old visited.old gains.old presentpins.now presentsizes.now bits.now blocks.old netweights.now firsts.now)
-        (running counts.new visited.new gains.new presentpins.now presentsizes.now bits.now blocks.new netweights.now firsts.now)
-        n m k u t }
-    ensures loads_after { loads.new ≡ shifted loads.old (get_or blocks.old u 0) t (get_or weights.now u 0) }
+) -> u32
+    requires { CanGo
+        (lent_on counts.old visited.old gains.old blocks.old loads.old board total)
+        u t }
+    ensures { (aboves loadedsizes : List ℕ) → Went
+        (lent_on counts.old visited.old gains.old blocks.old loads.old board.entry total aboves loadedsizes)
+        (lent_on counts.new visited.new gains.new blocks.new loads.new board.entry result aboves loadedsizes)
+        u t }
 {
+    let after = lower_total(total, gains[16 * u + (usize::from(t) - 1)]);
     shift_load(
         loads,
         usize::from(blocks[u]),
         usize::from(t),
-        u64::from(weights[u]),
+        u64::from(board.weights[u]),
     );
     move_vertex(
         counts,
         visited,
         gains,
         blocks,
-        netweights,
-        presentpins,
-        firsts,
-        presentsizes,
-        bits,
-        n,
-        m,
-        k,
+        board.netweights,
+        board.presentpins,
+        board.firsts,
+        board.presentsizes,
+        board.bits,
+        board.n,
+        board.m,
+        board.k,
         u,
         t,
     );
+    after
 }
 
-// Moves the vertex `u` to the block `t`, and returns the metric after it.
+// `transfer`, for those who have the tables one by one.
 pub fn go(
     counts: &mut [u16],
     visited: &mut [u16],
@@ -105,13 +99,7 @@ pub fn go(
         (tables counts.new visited.new gains.new presentpins.now presentsizes.now bits.now blocks.new weights.now aboves loads.new netweights.now firsts.now loadedsizes n m k result)
         u t }
 {
-    let after = lower_total(total, gains[16 * u + (usize::from(t) - 1)]);
-    carry(
-        counts,
-        visited,
-        gains,
-        blocks,
-        loads,
+    let board = Board {
         presentpins,
         presentsizes,
         bits,
@@ -121,10 +109,8 @@ pub fn go(
         n,
         m,
         k,
-        u,
-        t,
-    );
-    after
+    };
+    transfer(counts, visited, gains, blocks, loads, board, total, u, t)
 }
 
 // Takes a move of the vertex `u` back, to the block `t` that it left, and returns the metric: a move like any other, since the gain table has

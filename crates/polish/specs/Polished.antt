@@ -1,8 +1,7 @@
 -- P on its way and as a whole: one move leaves the rest of the polish the same, and what is left at the end is model's. Rests on Polishing.
 -- Assumes nothing.
 use Prim.Native.Nat.{ℕ, suc, ◌+◌, ◌-◌, ◌<◌, ◌≤◌, ◌^◌}
-use Rattle.std.proofs.Math.Decide.{ℕ_discrete}
-use Rattle.std.proofs.Common.{arith, sym, ap, ◌∙◌, subst, eq-eqb, ne_eqb, lt-ltb, le-ltb}
+use Rattle.std.proofs.Common.{arith, sym, ap, ◌∙◌, subst, lt-ltb}
 use Rattle.std.proofs.Math.Path.{◌≡◌, refl, ap₂}
 use Rattle.std.specs.Prelude.{Option, None, Bool, not, ◌&&◌, ◌||◌, List, eqb, ltb, ℤ, pos, length, get_or}
 use Rattle.std.proofs.Math.Bool.{true, false, cond}
@@ -15,7 +14,7 @@ use Rattle.model.specs.Search.{Best, none, best, Polish, polish_best, polish_tur
 use Rattle.guarantees.specs.Caps.{CeilingIs}
 use Rattle.fixed.specs.Starting.{FixedIs}
 use Rattle.operations.specs.Tables.{Tables, Sound, Keeps}
-use Rattle.operations.specs.Move.{Open, CanGo, Went, own_block, board-test}
+use Rattle.operations.specs.Move.{Open, CanGo, Went, board-test}
 use Rattle.best_move.specs.declared.open.Move.{Move}
 use Rattle.best_move.specs.Open.{step, best_of, gain_in, open_in, Chosen}
 use Rattle.best_move.specs.OpenLink.{polish-is}

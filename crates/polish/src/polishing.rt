@@ -5,13 +5,14 @@ ghost use Rattle.index.specs.Indexed.{Kept};
 ghost use Rattle.best_move.specs.Open.{SearchOk, IndexOk, Chosen, gain_in};
 ghost use Rattle.best_move.specs.Peak.{Peaked};
 ghost use Rattle.search_moves.specs.Marks.{Marked};
-ghost use Rattle.search_moves.specs.Lent.{lent, lent_on};
+ghost use Rattle.operations.specs.Lent.{lent_on};
+ghost use Rattle.search_moves.specs.Lent.{lent};
 ghost use Rattle.polish.specs.Polishing.{sits, placed, RiseOk, rise_of};
 ghost use Rattle.polish.specs.Polished.{PassOk, Passed, PolishOk, Polishes};
 
 use best_move::open::{Move, best_open};
 use best_move::peaks::survey;
-use search_moves::board::Board;
+use operations::board::Board;
 use search_moves::marks::mark_vertex;
 use search_moves::peaks::shift;
 

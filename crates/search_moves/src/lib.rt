@@ -2,7 +2,6 @@
 // still above all gains.
 #![tactic(auto)]
 
-pub mod board;
 pub mod marks;
 pub mod peaks;
 pub mod rows;

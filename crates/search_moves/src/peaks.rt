@@ -5,14 +5,14 @@ ghost use Rattle.std.specs.Prelude.{◌≡◌, List, ℕ, ◌+◌, ◌*◌, ◌-
 ghost use Rattle.best_move.specs.Open.{RowOk};
 ghost use Rattle.best_move.specs.Peak.{Under, Peaked, Higher};
 ghost use Rattle.operations.specs.Move.{CanGo, Went};
-ghost use Rattle.search_moves.specs.Lent.{lent_on};
+ghost use Rattle.operations.specs.Lent.{lent_on};
 ghost use Rattle.search_moves.specs.Peaks.{Lifted};
 ghost use Rattle.search_moves.specs.Lifting.{PinsIn, NetIn, LiftOk, LastUnder, FirstUnder, NetUnder};
 
-use crate::board::Board;
 use best_move::peaks::{raise_entry, raise_row};
 use incidence::nets_of;
-use operations::moves::go;
+use operations::board::Board;
+use operations::moves::transfer;
 
 // Raises the peak over `x`, of block `own`, to its gains, if that block is `s`.
 fn raise_in_block(peaks: &mut [i32; 1040], gains: &[i32], x: usize, own: u16, s: u16, k: usize)
@@ -148,33 +148,28 @@ fn lift(
     gains: &[i32],
     counts: &[u16],
     blocks: &[u16],
-    bits: &[u64],
-    presentpins: &[u16],
-    firsts: &[u16],
-    presentsizes: &[u16],
-    m: usize,
-    k: usize,
+    board: Board<'_>,
     u: usize,
     s: u16,
     t: u16,
 )
-    requires { (length peaks.old ≡ 1040) × LiftOk (length gains.now) (length counts.now) (length blocks.now) bits.now presentpins.now firsts.now presentsizes.now m k u s t }
-    ensures { Lifted gains.now peaks.old peaks.new counts.now blocks.now presentpins.now firsts.now presentsizes.now bits.now m k u s t }
+    requires { (length peaks.old ≡ 1040) × LiftOk (length gains.now) (length counts.now) (length blocks.now) board.bits.now board.presentpins.now board.firsts.now board.presentsizes.now board.m board.k u s t }
+    ensures { Lifted gains.now peaks.old peaks.new counts.now blocks.now board.entry.presentpins.now board.entry.firsts.now board.entry.presentsizes.now board.entry.bits.now board.entry.m board.entry.k u s t }
 {
-    raise_row(peaks, gains, u, k);
-    for e in nets_of(bits, u, m) {
+    raise_row(peaks, gains, u, board.k);
+    for e in nets_of(board.bits, u, board.m) {
         lift_net(
             peaks,
             gains,
             counts,
             blocks,
-            presentpins,
-            usize::from(firsts[e]),
-            usize::from(presentsizes[e]),
+            board.presentpins,
+            usize::from(board.firsts[e]),
+            usize::from(board.presentsizes[e]),
             e,
             s,
             t,
-            k,
+            board.k,
         );
     }
 }
@@ -203,39 +198,7 @@ pub fn shift(
     ensures peaked_2 { Peaked gains.new peaks.new board.entry.n board.entry.k }
 {
     let s = blocks[u];
-    let after = go(
-        counts,
-        visited,
-        gains,
-        blocks,
-        loads,
-        board.presentpins,
-        board.presentsizes,
-        board.bits,
-        board.weights,
-        board.netweights,
-        board.firsts,
-        board.n,
-        board.m,
-        board.k,
-        total,
-        u,
-        t,
-    );
-    lift(
-        peaks,
-        gains,
-        counts,
-        blocks,
-        board.bits,
-        board.presentpins,
-        board.firsts,
-        board.presentsizes,
-        board.m,
-        board.k,
-        u,
-        s,
-        t,
-    );
+    let after = transfer(counts, visited, gains, blocks, loads, board, total, u, t);
+    lift(peaks, gains, counts, blocks, board, u, s, t);
     after
 }

@@ -2,8 +2,7 @@
 -- tables, and that this is model's. Rests on operations's Tables. Assumes nothing.
 use Rattle.std.specs.Prelude.{ℕ, ◌+◌, ◌-◌, max, ◌≡◌, Bool, true, false, ◌&&◌, ◌||◌, cond, List, eqb, ltb, get_or, Some}
 use Rattle.std.specs.Ordering.{partial_lt, partial_ordering_then, nat_cmp, is_some_and, is_lt}
-use Rattle.std.proofs.Common.{arith, refl, Less, Equal, Greater, sym, ap, ◌∙◌, eq-eqb, ne_eqb, le-ltb}
-use Rattle.std.proofs.Math.Bool.{or-false}
+use Rattle.std.proofs.Common.{arith, refl, Less, Equal, Greater, sym, ap, ◌∙◌}
 use Rattle.laws.specs.Sum.{fold_to, fold_to-zero, fold_to-step, fold_to-ext}
 use Rattle.model.specs.Catalogue.{Hypergraph}
 use Rattle.model.specs.Measure.{Contraction, block_weight, heaviest}

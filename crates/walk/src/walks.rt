@@ -5,15 +5,16 @@ ghost use Rattle.index.specs.Indexed.{Kept};
 ghost use Rattle.best_move.specs.Open.{SearchOk, IndexOk, Chosen, gain_in};
 ghost use Rattle.best_move.specs.Peak.{Peaked};
 ghost use Rattle.walk.specs.Back.{RewindOk, Rewinds};
-ghost use Rattle.search_moves.specs.Lent.{lent, lent_on};
+ghost use Rattle.operations.specs.Lent.{lent_on};
+ghost use Rattle.search_moves.specs.Lent.{lent};
 ghost use Rattle.search_moves.specs.Rows.{RowsPast};
 ghost use Rattle.walk.specs.Steps.{locals, next_of, TakeOk, Took, TurnOk, Turned, WalkOk, Walks};
 
 use crate::kept::{Prefix, heaviest, keep};
 use best_move::open::{Move, best_open};
 use best_move::peaks::survey;
-use operations::moves::back;
-use search_moves::board::Board;
+use operations::board::Board;
+use operations::moves::transfer;
 use search_moves::marks::{mark_vertex, spread};
 use search_moves::peaks::shift;
 
@@ -218,24 +219,8 @@ fn rewind(
     let mut t = total;
     for j in (kept..tried).rev() {
         let x = usize::from(movers[j]) - 1;
-        t = back(
-            counts,
-            visited,
-            gains,
-            blocks,
-            loads,
-            board.presentpins,
-            board.presentsizes,
-            board.bits,
-            board.weights,
-            board.netweights,
-            board.firsts,
-            board.n,
-            board.m,
-            board.k,
-            t,
-            x,
-            origins[j],
+        t = transfer(
+            counts, visited, gains, blocks, loads, board, t, x, origins[j],
         );
     }
     t

@@ -1,4 +1,3 @@
-use Rattle.std.proofs.Common.{rules}
 use Rattle.operations.specs.Join.{sets-above-ok, contract-ok, joined}
 use Rattle.operations.proofs.joins.join.Goals as goal
 

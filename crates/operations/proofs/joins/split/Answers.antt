@@ -1,4 +1,3 @@
-use Rattle.std.proofs.Common.{rules}
 use Rattle.operations.specs.Join.{u-below, v_below, clears-above-ok, uncontract-ok, split_done}
 use Rattle.operations.proofs.joins.split.Goals as goal
 

@@ -1,6 +1,5 @@
 use Rattle.std.proofs.Common.{arith, ◌≡◌, refl, ◌≤◌, ◌-◌}
-use Rattle.search_moves.specs.Marks.{Marked}
-use Rattle.polish.specs.Polishing.{sits, sits-none, sits-more}
+use Rattle.polish.specs.Polishing.{sits-none, sits-more}
 use Rattle.polish.proofs.polishing.mark_board.Goals as goal
 
 pub loop-x-init : goal.loop-x-init

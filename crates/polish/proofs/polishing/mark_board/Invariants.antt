@@ -1,6 +1,6 @@
-use Rattle.std.proofs.Common.{arith, ◌≡◌, refl, ◌≤◌, ◌-◌}
+use Rattle.std.proofs.Common.{◌≡◌, ◌≤◌, ◌-◌}
 use Rattle.search_moves.specs.Marks.{Marked}
-use Rattle.polish.specs.Polishing.{sits, sits-none, sits-more}
+use Rattle.polish.specs.Polishing.{sits}
 use Rattle.polish.proofs.polishing.mark_board.Given as goal
 
 abbrev pub invariant-loop-x : goal.invariant-loop-x

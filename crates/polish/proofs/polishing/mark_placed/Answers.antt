@@ -1,4 +1,3 @@
-use Rattle.std.proofs.Common.{rules}
 use Rattle.polish.specs.Polishing.{placed-yes, placed-no}
 use Rattle.polish.proofs.polishing.mark_placed.Goals as goal
 

@@ -1,4 +1,4 @@
-use Rattle.std.proofs.Common.{sym, ◌∙◌, rules}
+use Rattle.std.proofs.Common.{sym, ◌∙◌}
 use Rattle.best_move.specs.Open.{gain_in}
 use Rattle.polish.specs.Polishing.{rise-none, rise-yes, rise-no, rise-in}
 use Rattle.polish.proofs.polishing.next_rise.Goals as goal

@@ -1,4 +1,4 @@
-use Rattle.std.proofs.Common.{arith, refl, ap, rules, ℕ, ◌-◌}
+use Rattle.std.proofs.Common.{arith, refl, ap, ℕ, ◌-◌}
 use Rattle.search_moves.specs.Tabled.{search-ok, index_ok}
 use Rattle.polish.specs.Polished.{candidate-on, pass-in, pass-goes, pass-none, pass-move}
 use Rattle.polish.proofs.polishing.pass.Goals as goal

@@ -1,9 +1,7 @@
-use Rattle.std.proofs.Common.{arith, ap, ◌∙◌, Bool, true, false, cond, ◌-◌, ◌≡◌, refl, ℕ, ◌≤◌, ◌+◌, List, ℤ, pos, length}
+use Rattle.std.proofs.Common.{arith, ap, ◌∙◌, Bool, true, false, cond, ◌-◌, ◌≡◌, refl, ℕ, ◌≤◌, ◌+◌, ℤ, pos}
 use Rattle.std.proofs.lemmas.List.{length-replicate}
-use Rattle.index.specs.Indexed.{Kept, kept-none, kept_then}
-use Rattle.best_move.specs.Peak.{Peaked}
-use Rattle.search_moves.specs.Lent.{lent}
-use Rattle.polish.specs.Polished.{Passing, passing-none, pass-asks, passing-more, passing-at, polishes-all}
+use Rattle.index.specs.Indexed.{kept-none, kept_then}
+use Rattle.polish.specs.Polished.{passing-none, pass-asks, passing-more, passing-at, polishes-all}
 use Rattle.polish.proofs.polishing.polish.Goals as goal
 
 -- a pass that made a move has made one more, and leaves one less; one that made none leaves none

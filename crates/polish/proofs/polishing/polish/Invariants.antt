@@ -1,9 +1,8 @@
-use Rattle.std.proofs.Common.{arith, ◌≡◌, refl, ℕ, ◌≤◌, ◌-◌, List, ℤ, pos, length}
-use Rattle.std.proofs.lemmas.List.{length-replicate}
-use Rattle.index.specs.Indexed.{Kept, kept-none, kept_then}
+use Rattle.std.proofs.Common.{◌≡◌, ℕ, ◌≤◌, ◌-◌, List}
+use Rattle.index.specs.Indexed.{Kept}
 use Rattle.best_move.specs.Peak.{Peaked}
 use Rattle.search_moves.specs.Lent.{lent}
-use Rattle.polish.specs.Polished.{Passing, passing-none, pass-asks, passing-more, polishes-all}
+use Rattle.polish.specs.Polished.{Passing}
 use Rattle.polish.proofs.polishing.polish.Given as goal
 
 abbrev pub invariant-passes : goal.invariant-passes

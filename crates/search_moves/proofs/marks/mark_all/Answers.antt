@@ -1,4 +1,3 @@
-use Rattle.std.proofs.Common.{rules}
 use Rattle.search_moves.specs.Rows.{marked-by-row}
 use Rattle.search_moves.proofs.marks.mark_all.Goals as goal
 

@@ -1,4 +1,3 @@
-use Rattle.std.proofs.Common.{rules}
 use Rattle.search_moves.specs.Marks.{net-marked, net-covered, net-more}
 use Rattle.search_moves.proofs.marks.mark_net.Goals as goal
 

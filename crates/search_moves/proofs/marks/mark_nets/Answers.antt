@@ -1,5 +1,5 @@
 use Rattle.std.proofs.Common.{◌≤◌, ◌<◌, ◌-◌, ◌%◌, arith, ◌≡◌, refl}
-use Rattle.search_moves.specs.Marks.{Marked, Covered, near, nets-first, nets-all, word-past}
+use Rattle.search_moves.specs.Marks.{nets-first, nets-all, word-past}
 use Rattle.search_moves.proofs.marks.mark_nets.Goals as goal
 
 pub loop-e-init : goal.loop-e-init

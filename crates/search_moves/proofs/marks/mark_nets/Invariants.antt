@@ -1,6 +1,6 @@
 -- `mark_nets`: the nets below e, where a word begins, are marked.
-use Rattle.std.proofs.Common.{◌≤◌, ◌<◌, ◌-◌, ◌%◌, arith, ◌≡◌, refl}
-use Rattle.search_moves.specs.Marks.{Marked, Covered, near, nets-first, nets-all, word-past}
+use Rattle.std.proofs.Common.{◌≤◌, ◌<◌, ◌-◌, ◌%◌, ◌≡◌}
+use Rattle.search_moves.specs.Marks.{Marked, Covered, near}
 use Rattle.search_moves.proofs.marks.mark_nets.Given as goal
 
 abbrev pub invariant-loop-e : goal.invariant-loop-e

@@ -1,6 +1,5 @@
-use Rattle.std.proofs.Common.{arith, ◌≡◌, rules, ◌≤◌, ◌-◌}
-use Rattle.connectivity.specs.Listed.{has}
-use Rattle.search_moves.specs.Marks.{Marked, SameNets, nets-same, nets-then, pins-none, pins-more}
+use Rattle.std.proofs.Common.{arith, ◌≡◌, ◌≤◌, ◌-◌}
+use Rattle.search_moves.specs.Marks.{nets-same, nets-then, pins-none, pins-more}
 use Rattle.search_moves.proofs.marks.mark_pins.Goals as goal
 
 pub loop-j-init : goal.loop-j-init

@@ -1,6 +1,6 @@
-use Rattle.std.proofs.Common.{arith, ◌≡◌, rules, ◌≤◌, ◌-◌}
+use Rattle.std.proofs.Common.{◌≡◌, ◌≤◌, ◌-◌}
 use Rattle.connectivity.specs.Listed.{has}
-use Rattle.search_moves.specs.Marks.{Marked, SameNets, nets-same, nets-then, pins-none, pins-more}
+use Rattle.search_moves.specs.Marks.{Marked, SameNets}
 use Rattle.search_moves.proofs.marks.mark_pins.Given as goal
 
 abbrev pub invariant-loop-j : goal.invariant-loop-j

@@ -1,5 +1,5 @@
 use Rattle.std.proofs.Common.{arith, ◌≡◌, refl, ◌≤◌, ◌-◌}
-use Rattle.search_moves.specs.Rows.{MarkedTo, marked-words-none, marked-words-more, row-marked, row-nets}
+use Rattle.search_moves.specs.Rows.{marked-words-none, marked-words-more, row-marked, row-nets}
 use Rattle.search_moves.proofs.marks.mark_row.Goals as goal
 
 pub loop-c-init : goal.loop-c-init

@@ -1,6 +1,6 @@
 -- `mark_row`: the first c words of row 0 are marked.
-use Rattle.std.proofs.Common.{arith, ◌≡◌, refl, ◌≤◌, ◌-◌}
-use Rattle.search_moves.specs.Rows.{MarkedTo, marked-words-none, marked-words-more, row-marked, row-nets}
+use Rattle.std.proofs.Common.{◌≡◌, ◌≤◌, ◌-◌}
+use Rattle.search_moves.specs.Rows.{MarkedTo}
 use Rattle.search_moves.proofs.marks.mark_row.Given as goal
 
 abbrev pub invariant-loop-c : goal.invariant-loop-c

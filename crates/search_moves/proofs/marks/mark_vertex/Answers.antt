@@ -1,4 +1,4 @@
-use Rattle.std.proofs.Common.{arith, sym, ◌∙◌, rules}
+use Rattle.std.proofs.Common.{arith, sym, ◌∙◌}
 use Rattle.search_moves.specs.Marks.{marked-one, marked-moved, nets-same, nets-beside}
 use Rattle.search_moves.proofs.marks.mark_vertex.Goals as goal
 

@@ -1,7 +1,6 @@
-use Rattle.std.proofs.Common.{◌≤◌, ◌<◌, ◌+◌, ◌-◌, arith, ◌≡◌, refl, rules}
-use Rattle.laws.specs.Bit.{bit}
+use Rattle.std.proofs.Common.{◌≤◌, ◌<◌, ◌+◌, ◌-◌, arith, ◌≡◌, refl}
 use Rattle.incidence.specs.On.{cut_min}
-use Rattle.search_moves.specs.Marks.{Words, words-none, words_more, words-done}
+use Rattle.search_moves.specs.Marks.{words-none, words_more, words-done}
 use Rattle.search_moves.proofs.marks.mark_word.Goals as goal
 
 pub overflow_add-from : goal.overflow_add-from

@@ -1,7 +1,7 @@
 -- `mark_word`: the nets below bit j of the word are marked.
-use Rattle.std.proofs.Common.{◌≤◌, ◌<◌, ◌+◌, ◌-◌, arith, ◌≡◌, refl, rules}
+use Rattle.std.proofs.Common.{◌≤◌, ◌<◌, ◌+◌, ◌-◌, ◌≡◌}
 use Rattle.laws.specs.Bit.{bit}
-use Rattle.search_moves.specs.Marks.{Words, words-none, words_more, words-done}
+use Rattle.search_moves.specs.Marks.{Words}
 use Rattle.search_moves.proofs.marks.mark_word.Given as goal
 
 abbrev pub invariant-loop-j : goal.invariant-loop-j

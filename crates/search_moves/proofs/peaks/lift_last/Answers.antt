@@ -1,4 +1,4 @@
-use Rattle.std.proofs.Common.{ap, ◌∙◌, rules, ℕ, ◌+◌, ◌*◌, ◌-◌, get_or}
+use Rattle.std.proofs.Common.{ap, ◌∙◌, ℕ, ◌+◌, ◌*◌, ◌-◌, get_or}
 use Rattle.search_moves.specs.Lifting.{higher-none}
 use Rattle.search_moves.proofs.peaks.lift_last.Goals as goal
 

@@ -1,4 +1,4 @@
-use Rattle.std.proofs.Common.{◌∙◌, rules}
+use Rattle.std.proofs.Common.{◌∙◌}
 use Rattle.search_moves.specs.Lifting.{higher-then, under-higher, pins-small}
 use Rattle.search_moves.proofs.peaks.lift_net.Goals as goal
 

@@ -1,6 +1,6 @@
-use Rattle.std.proofs.Common.{arith, ◌≡◌, ap, ◌∙◌, rules, ℕ, ◌≤◌, ◌-◌}
+use Rattle.std.proofs.Common.{◌≡◌, ◌∙◌, ◌≤◌, ◌-◌}
 use Rattle.best_move.specs.Peak.{Higher}
-use Rattle.search_moves.specs.Lifting.{FirstUnder, higher-none, higher-then, first-none, first_more}
+use Rattle.search_moves.specs.Lifting.{FirstUnder}
 use Rattle.search_moves.proofs.peaks.raise_first.Given as goal
 
 abbrev pub invariant-loop-j : goal.invariant-loop-j

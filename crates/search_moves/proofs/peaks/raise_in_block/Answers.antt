@@ -1,4 +1,3 @@
-use Rattle.std.proofs.Common.{rules}
 use Rattle.search_moves.specs.Lifting.{higher-none}
 use Rattle.search_moves.proofs.peaks.raise_in_block.Goals as goal
 

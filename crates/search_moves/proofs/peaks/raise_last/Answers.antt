@@ -1,6 +1,5 @@
-use Rattle.std.proofs.Common.{arith, ◌≡◌, ap, ◌∙◌, rules, ℕ, ◌≤◌, ◌-◌}
-use Rattle.best_move.specs.Peak.{Higher}
-use Rattle.search_moves.specs.Lifting.{LastUnder, higher-none, higher-then, last_none, last_more}
+use Rattle.std.proofs.Common.{arith, ◌≡◌, ap, ◌∙◌, ℕ, ◌≤◌, ◌-◌}
+use Rattle.search_moves.specs.Lifting.{higher-none, higher-then, last_none, last_more}
 use Rattle.search_moves.proofs.peaks.raise_last.Goals as goal
 
 pub loop-j-init : goal.loop-j-init

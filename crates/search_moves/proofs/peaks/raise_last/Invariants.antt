@@ -1,6 +1,6 @@
-use Rattle.std.proofs.Common.{arith, ◌≡◌, ap, ◌∙◌, rules, ℕ, ◌≤◌, ◌-◌}
+use Rattle.std.proofs.Common.{◌≡◌, ◌∙◌, ◌≤◌, ◌-◌}
 use Rattle.best_move.specs.Peak.{Higher}
-use Rattle.search_moves.specs.Lifting.{LastUnder, higher-none, higher-then, last_none, last_more}
+use Rattle.search_moves.specs.Lifting.{LastUnder}
 use Rattle.search_moves.proofs.peaks.raise_last.Given as goal
 
 abbrev pub invariant-loop-j : goal.invariant-loop-j

@@ -1,5 +1,5 @@
-use Rattle.std.proofs.Common.{arith, ◌≡◌, rules, ◌≤◌, ◌-◌}
-use Rattle.search_moves.specs.Rows.{FilledTo, filled_none, filled_more}
+use Rattle.std.proofs.Common.{arith, ◌≡◌, ◌≤◌, ◌-◌}
+use Rattle.search_moves.specs.Rows.{filled_none, filled_more}
 use Rattle.search_moves.proofs.rows.fill_row.Goals as goal
 
 pub loop-j-init : goal.loop-j-init

@@ -1,6 +1,6 @@
 -- `fill_row`: the first j pins are in the row.
-use Rattle.std.proofs.Common.{arith, ◌≡◌, rules, ◌≤◌, ◌-◌}
-use Rattle.search_moves.specs.Rows.{FilledTo, filled_none, filled_more}
+use Rattle.std.proofs.Common.{◌≡◌, ◌≤◌, ◌-◌}
+use Rattle.search_moves.specs.Rows.{FilledTo}
 use Rattle.search_moves.proofs.rows.fill_row.Given as goal
 
 abbrev pub invariant-loop-j : goal.invariant-loop-j

@@ -1,5 +1,5 @@
-use Rattle.std.proofs.Common.{arith, rules, ◌≤◌, ◌-◌}
-use Rattle.search_moves.specs.Rows.{RowsTo, rows-to-none, rows-to-more, rows-to-all}
+use Rattle.std.proofs.Common.{arith, ◌≤◌, ◌-◌}
+use Rattle.search_moves.specs.Rows.{rows-to-none, rows-to-more, rows-to-all}
 use Rattle.search_moves.proofs.rows.fill_rows.Goals as goal
 
 pub loop-e-init : goal.loop-e-init

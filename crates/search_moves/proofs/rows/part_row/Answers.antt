@@ -1,4 +1,4 @@
-use Rattle.std.proofs.Common.{sym, ◌∙◌, rules}
+use Rattle.std.proofs.Common.{sym, ◌∙◌}
 use Rattle.search_moves.specs.Parted.{parted-stays, parted-leaves}
 use Rattle.search_moves.proofs.rows.part_row.Goals as goal
 

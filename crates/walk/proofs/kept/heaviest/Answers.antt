@@ -1,4 +1,4 @@
-use Rattle.std.proofs.Common.{arith, ◌≡◌, refl, ap, ◌∙◌, rules, ◌≤◌, ◌-◌}
+use Rattle.std.proofs.Common.{arith, ◌≡◌, refl, ap, ◌∙◌, ◌≤◌, ◌-◌}
 use Rattle.walk.specs.Kept.{heaviest_in, heaviest-none, heaviest-more}
 use Rattle.walk.proofs.kept.heaviest.Goals as goal
 

@@ -1,6 +1,6 @@
 -- `heaviest`: one block more.
-use Rattle.std.proofs.Common.{arith, ◌≡◌, refl, ap, ◌∙◌, rules, ◌≤◌, ◌-◌}
-use Rattle.walk.specs.Kept.{heaviest_in, heaviest-none, heaviest-more}
+use Rattle.std.proofs.Common.{◌≡◌, ◌∙◌, ◌≤◌, ◌-◌}
+use Rattle.walk.specs.Kept.{heaviest_in}
 use Rattle.walk.proofs.kept.heaviest.Given as goal
 
 abbrev pub invariant-loop-j : goal.invariant-loop-j

@@ -1,5 +1,4 @@
 -- `keep`: the test passes, or not.
-use Rattle.std.proofs.Common.{rules}
 use Rattle.walk.specs.Kept.{choice-new, choice-old}
 use Rattle.walk.proofs.kept.keep.Goals as goal
 

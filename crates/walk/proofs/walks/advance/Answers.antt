@@ -1,4 +1,4 @@
-use Rattle.std.proofs.Common.{arith, rules}
+use Rattle.std.proofs.Common.{arith}
 use Rattle.search_moves.specs.Tabled.{search-ok, index_ok}
 use Rattle.walk.specs.Turning.{chosen_on, take-asks, turn-none, turn-move}
 use Rattle.walk.proofs.walks.advance.Goals as goal

@@ -1,4 +1,4 @@
-use Rattle.std.proofs.Common.{arith, refl, ap, rules, ℕ, ◌-◌}
+use Rattle.std.proofs.Common.{arith, refl, ap, ℕ, ◌-◌}
 use Rattle.walk.specs.Taking.{take_open, take-goes, take-nets, take-law}
 use Rattle.walk.proofs.walks.make_move.Goals as goal
 

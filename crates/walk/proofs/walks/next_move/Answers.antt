@@ -1,4 +1,3 @@
-use Rattle.std.proofs.Common.{rules}
 use Rattle.index.specs.Indexed.{kept-none}
 use Rattle.walk.specs.Turning.{next-stop, next-best}
 use Rattle.walk.proofs.walks.next_move.Goals as goal

@@ -1,6 +1,5 @@
-use Rattle.std.proofs.Common.{arith, ◌≡◌, refl, rules, ℕ, ◌≤◌, List, length}
-use Rattle.search_moves.specs.Lent.{lent}
-use Rattle.walk.specs.Back.{Rewinding, rewind-none, rewind-asks, rewind-from, rewind-more, rewind-done}
+use Rattle.std.proofs.Common.{arith, refl}
+use Rattle.walk.specs.Back.{rewind-none, rewind-asks, rewind-from, rewind-more, rewind-done}
 use Rattle.walk.proofs.walks.rewind.Goals as goal
 
 pub loop-j-init : goal.loop-j-init
@@ -26,13 +25,13 @@ pub bounds-origins-j : goal.bounds-origins-j
 bounds-origins-j c =
     omega (arith, c.requires.tried-to, c.loop-j-test, c.loop-j.auto)
 
-pub back-t-requires : goal.back-t-requires
-back-t-requires c =
+pub transfer-t-requires : goal.transfer-t-requires
+transfer-t-requires c =
     rewind-asks _ _ _ _ _ _ c.loop-j.j _ c.requires c.loop-j.invariant.1 (omega (arith, c.loop-j-test)) c.from-x.ensures
 
 pub loop-j-preserved : goal.loop-j-preserved
 loop-j-preserved c =
-    (omega (arith, c.loop-j-test), λ aboves loaded. rewind-more _ _ _ _ c.loop-j.j c.from-x.result refl refl refl refl refl (c.loop-j.invariant.1 aboves loaded) c.loop-j-test.true (omega (arith, c.from-x.ensures, rewind-from _ _ _ _ _ _ c.loop-j.j c.requires c.loop-j.invariant.1 (omega (arith, c.loop-j-test)))) (c.back-t.ensures aboves loaded))
+    (omega (arith, c.loop-j-test), λ aboves loaded. rewind-more _ _ _ _ c.loop-j.j c.from-x.result refl refl refl refl refl (c.loop-j.invariant.1 aboves loaded) c.loop-j-test.true (omega (arith, c.from-x.ensures, rewind-from _ _ _ _ _ _ c.loop-j.j c.requires c.loop-j.invariant.1 (omega (arith, c.loop-j-test)))) (c.transfer-t.ensures aboves loaded))
 
 pub returns : goal.returns
 returns c = λ aboves loaded. rewind-done _ _ _ _ c.loop-j.j (c.loop-j.invariant.1 aboves loaded) c.loop-j.invariant.0 c.loop-j-test.false

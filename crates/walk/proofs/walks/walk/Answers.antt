@@ -1,10 +1,7 @@
-use Rattle.std.proofs.Common.{arith, ap, Bool, true, cond, ◌≡◌, refl, ◌∙◌, ℕ, ◌≤◌, ◌-◌, List, ℤ, pos, length}
+use Rattle.std.proofs.Common.{arith, ap, Bool, true, cond, ◌≡◌, refl, ◌∙◌, ℕ, ◌≤◌, ◌-◌, ℤ, pos}
 use Rattle.std.proofs.lemmas.List.{length-replicate}
-use Rattle.index.specs.Indexed.{Kept, kept-none, kept_then}
-use Rattle.best_move.specs.Peak.{Peaked}
-use Rattle.search_moves.specs.Lent.{lent}
-use Rattle.walk.specs.Steps.{locals, Going}
-use Rattle.walk.specs.Whole.{HasWalk, started, has_first, going-none, turn-asks, going_more, going-at, end-asks, walks-all}
+use Rattle.index.specs.Indexed.{kept-none, kept_then}
+use Rattle.walk.specs.Whole.{started, has_first, going-none, turn-asks, going_more, going-at, end-asks, walks-all}
 use Rattle.walk.proofs.walks.walk.Goals as goal
 use Rattle.walk.proofs.walks.walk.Goals.{then-turns-test+else-advance, else-turns-test}
 

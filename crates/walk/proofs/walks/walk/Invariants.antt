@@ -1,10 +1,9 @@
-use Rattle.std.proofs.Common.{arith, ◌≡◌, refl, ◌∙◌, ℕ, ◌≤◌, ◌-◌, List, ℤ, pos, length}
-use Rattle.std.proofs.lemmas.List.{length-replicate}
-use Rattle.index.specs.Indexed.{Kept, kept-none, kept_then}
+use Rattle.std.proofs.Common.{◌≡◌, ◌∙◌, ℕ, ◌≤◌, ◌-◌, List}
+use Rattle.index.specs.Indexed.{Kept}
 use Rattle.best_move.specs.Peak.{Peaked}
 use Rattle.search_moves.specs.Lent.{lent}
 use Rattle.walk.specs.Steps.{locals, Going}
-use Rattle.walk.specs.Whole.{HasWalk, started, has_first, going-none, turn-asks, going_more, end-asks, walks-all}
+use Rattle.walk.specs.Whole.{HasWalk}
 use Rattle.walk.proofs.walks.walk.Given as goal
 
 abbrev pub invariant-turns : goal.invariant-turns

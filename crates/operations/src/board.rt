@@ -1,4 +1,4 @@
-// What a search only reads of a running sale: the pins on the board net by net, the incidence, the weights, and how many vertices, nets and blocks
+// What a move only reads of a running sale: the pins on the board net by net, the incidence, the weights, and how many vertices, nets and blocks
 // there are.
 #[derive(Clone, Copy)]
 pub struct Board<'a> {
