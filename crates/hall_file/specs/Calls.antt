@@ -15,7 +15,7 @@ use Rattle.model.specs.Hall.{Led}
 use Rattle.reader.proofs.CallTable.{stretch-in, entries-known}
 use Rattle.call_list.specs.Asked.{request_of, request-is}
 use Rattle.hall_lines.specs.LedTable.{led, led_calls_of, led_entries_to, LedCallsKnown}
-use Rattle.hall_calls.specs.Lines.{led_at, leds_to}
+use Rattle.hall_calls.specs.Lines.{leds_to}
 use Rattle.hall_calls.specs.Course.{Listed}
 
 -- ---- one entry

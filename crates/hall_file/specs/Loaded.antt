@@ -3,10 +3,10 @@
 use Rattle.std.specs.Prelude.{ℕ, zero, suc, ◌<◌, ◌≤◌, ◌≡◌, refl, Bool, false, List, [], ◌∷◌, ◌++◌, map, length, get_or}
 use Rattle.std.proofs.Math.Decide.{ℕ_discrete}
 use Rattle.std.proofs.Common.{arith, sym, ap, ◌∙◌, subst, get_or-append-add}
-use Rattle.std.proofs.Math.ListN.{get_or-append, get_or-map}
-use Rattle.laws.specs.Fold.{All, all-get}
+use Rattle.std.proofs.Math.ListN.{get_or-append}
+use Rattle.laws.specs.Fold.{all-get}
 use Rattle.model.specs.Catalogue.{main_limits, Hypergraph}
-use Rattle.model.specs.Sale.{Sale, opened}
+use Rattle.model.specs.Sale.{opened}
 use Rattle.model.specs.Grammar.{Book}
 use Rattle.model.specs.Hall.{no_desk, fresh_desks}
 use Rattle.model.specs.HallText.{HallBook, in_calls, graphs, parse_hall}

@@ -1,14 +1,14 @@
 -- A hall's sets of tables opened and its led calls run: what that needs, and what stands then. Rests on Loaded, Calls, hall_opening and hall_calls. Assumes nothing.
 use Rattle.std.specs.Prelude.{ℕ, zero, suc, ◌+◌, ◌<◌, ◌≤◌, ◌≡◌, refl, Bool, List, [], ◌∷◌, ◌++◌, get_or, replicate}
 use native.Mathlib.Omega.{arith}
-use Rattle.std.proofs.Common.{sym, ap₂, ◌∙◌, subst}
+use Rattle.std.proofs.Common.{sym, ◌∙◌, subst}
 use Rattle.std.proofs.Math.Path.{ap}
 use Rattle.std.proofs.Math.ListN.{length, length-append}
 use Rattle.std.proofs.lemmas.List.{length-replicate, get_or-replicate}
 use Rattle.model.specs.Catalogue.{main_limits, Hypergraph}
 use Rattle.model.specs.Machine.{fresh}
 use Rattle.model.specs.Sale.{Sale, opened}
-use Rattle.model.specs.Engine.{Outcome, draft_total}
+use Rattle.model.specs.Engine.{draft_total}
 use Rattle.model.specs.Memory.{Tables}
 use Rattle.model.specs.Hall.{Led, no_desk, hall_after, hall_answers, fresh_desks, closings, hall_run}
 use Rattle.model.specs.HallText.{HallBook, HallReading, graphs, hall_outcome, hall_engine}
@@ -32,7 +32,7 @@ use Rattle.hall_opening.specs.Standing.{sets_with, set-goes, set-kept, draft-tot
 use Rattle.hall_loader.specs.Sets.{Sets as LoaderSets, set_of as loader_set}
 use Rattle.hall_loader.specs.Books.{no_sizes}
 use Rattle.model.specs.HallLent.{HallTables, tables_at}
-use Rattle.hall_file.specs.Views.{loaded_in, fills_in, reads_in, sets_in, held_in, Four}
+use Rattle.hall_file.specs.Views.{fills_in, reads_in, sets_in, held_in}
 use Rattle.hall_file.specs.Calls.{leds-are, listed-is}
 use Rattle.hall_file.specs.Loaded.{HallCatalogued, book_of, hs, shown, opens, desks, few, graph_at, desk-at, prepared}
 

@@ -1,9 +1,9 @@
 -- A hall's lent tables as loading, opening and the calls name them. Rests on model's HallLent and on the sets of hall_loader, hall_opening and hall_step. Assumes nothing.
-use Rattle.std.specs.Prelude.{ℕ, suc, ◌≤◌, List, [], length, get_or}
+use Rattle.std.specs.Prelude.{ℕ, ◌≤◌, List, [], length, get_or}
 use Rattle.model.specs.Memory.{Tables}
 use Rattle.model.specs.Lent.{lent}
 use Rattle.hall_loader.specs.Sets.{Set as LoaderSet, Sets as LoaderSets, set_of as loader_set}
-use Rattle.hall_step.specs.Sets.{Sets, set_of}
+use Rattle.hall_step.specs.Sets.{Sets}
 use Rattle.hall_opening.specs.Filled.{Fills, Reads}
 use Rattle.model.specs.HallLent.{HallTables}
 

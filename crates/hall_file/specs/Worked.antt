@@ -1,22 +1,22 @@
 -- A hall's file in model's terms: the closing reports behind the answers of an accepted one, or the line of a refused one. Rests on Sold, hall_closing and
 -- hall_guarantees. Assumes nothing.
-use Rattle.std.specs.Prelude.{ℕ, suc, ◌+◌, ◌-◌, ◌<◌, ◌≤◌, ◌≡◌, refl, Bool, true, false, cond, List, [], ◌∷◌, ◌++◌, ltb, get_or, set, replicate}
+use Rattle.std.specs.Prelude.{ℕ, ◌+◌, ◌-◌, ◌<◌, ◌≤◌, ◌≡◌, refl, Bool, true, false, cond, List, [], ◌∷◌, ◌++◌, ltb, get_or, set, replicate}
 use Rattle.std.proofs.Math.Decide.{ℕ_discrete}
 use Rattle.std.proofs.Common.{arith, sym, ◌∙◌, ltb-true, ltb-false, length-set, get_or-set_same, get_or-set_other}
 use Rattle.std.proofs.Math.Path.{ap, subst}
 use Rattle.std.proofs.Math.ListN.{length}
 use Rattle.std.proofs.lemmas.List.{length-replicate, get_or-replicate}
 use Rattle.laws.specs.Fold.{zeros-get}
-use Rattle.model.specs.Catalogue.{main_limits, Hypergraph, vertices}
+use Rattle.model.specs.Catalogue.{main_limits, vertices}
 use Rattle.model.specs.Measure.{Contraction}
 use Rattle.model.specs.Sale.{Sale}
 use Rattle.model.specs.Report.{digits, row}
 use Rattle.model.specs.Memory.{Tables}
 use Rattle.model.specs.Lent.{stack_of, journal_of}
 use Rattle.model.specs.Demand.{Standing, standing, Stands, LoadedSets}
-use Rattle.model.specs.Hall.{no_desk, desk_of, hall_after, hall_answers, fresh_desks, closings, hall_run}
+use Rattle.model.specs.Hall.{no_desk, desk_of, hall_answers, fresh_desks, closings, hall_run}
 use Rattle.model.specs.HallText.{HallBook, HallReading, hall_unread, in_catalogue, in_calls, hall_stopped, graphs, parse_hall, hall_outcome, hall_engine}
-use Rattle.model.specs.HallDemand.{AcceptedHall, Numbered, AllLed, desks_after, HallMemory, SetsLeft, HallWorked}
+use Rattle.model.specs.HallDemand.{Numbered, AllLed, desks_after, HallMemory, SetsLeft, HallWorked}
 use Rattle.hall_guarantees.specs.Half.{hall-length, hall-half}
 use Rattle.hall_guarantees.specs.Promises.{desk-holds}
 use Rattle.hall_guarantees.specs.Fits.{hall-refused-in, hall-engine-fits}

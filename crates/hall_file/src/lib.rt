@@ -24,6 +24,7 @@ use loader::Sizes;
 use sale::closing::refuse;
 
 // 0 or the number of the refusal, 1 to 7, 21 or 24, the bytes written, and how many lots of each catalogue are known at the end: 0 where there is none.
+// C has 0 where nothing is refused.
 #[derive(Clone, Copy)]
 pub struct HallRan {
     pub code: u32,
@@ -302,11 +303,14 @@ pub fn work_hall(
         &mut operands,
     );
     match loaded {
-        Err(q) => HallRan {
-            code: q.refusal.number(),
-            written: refuse(output, q),
-            lots: [0; 4],
-        },
+        Err(q) => {
+            let code = q.refusal.number();
+            HallRan {
+                code,
+                written: refuse(output, code, q.line),
+                lots: [0; 4],
+            }
+        }
         Ok(hall) => {
             let end = report_hall(
                 output,

@@ -9,7 +9,7 @@ use Rattle.model.specs.Grammar.{Reading, unread, reading, stopped, parse}
 use Rattle.model.specs.Report.{digits, row}
 use Rattle.model.specs.Sale.{opened}
 use Rattle.model.specs.Engine.{after, outcome, engine}
-use Rattle.model.specs.Memory.{Tables as Lent, Memory, Worked}
+use Rattle.model.specs.Memory.{Tables as Lent, Worked}
 use Rattle.model.specs.Lent.{calls_of, Lists, lent, memory}
 use Rattle.model.specs.Demand.{Accepted as ModelAccepted}
 use Rattle.guarantees.specs.Reached.{reached}

@@ -4,7 +4,6 @@ ghost use Rattle.model.specs.Catalogue.{Limits};
 ghost use Rattle.model.specs.Report.{digits, row};
 ghost use Rattle.model.specs.Lent.{calls_of, Lists, lists, lent};
 ghost use Rattle.fields.specs.Wrote.{Wrote};
-ghost use Rattle.refusal.specs.Number.{number_of};
 ghost use Rattle.loader.specs.Tables.{graph};
 ghost use Rattle.call_list.specs.Course.{Listed};
 ghost use Rattle.sale.specs.Sale.{Catalogued, CanSell};
@@ -12,16 +11,15 @@ ghost use Rattle.sale.specs.Reported.{Reported};
 
 use crate::sell;
 use loader::Sizes;
-use refusal::Refused;
 use report::answers::put_refusal;
 use report::closing::put_closing;
 
 // Writes the line of a refused file; says where it ends.
-pub fn refuse(output: &mut [u8], q: Refused) -> usize
-    requires { (q.line ≤ 60001) × (length (row "NO" (digits (number_of q.refusal) ∷ digits q.line ∷ [])) ≤ length output.old) }
-    ensures { Wrote output.old output.new 0 (row "NO" (digits (number_of q.refusal) ∷ digits q.line ∷ [])) result }
+pub fn refuse(output: &mut [u8], number: u32, line: usize) -> usize
+    requires { (line ≤ 60001) × (length (row "NO" (digits number ∷ digits line ∷ [])) ≤ length output.old) }
+    ensures { Wrote output.old output.new 0 (row "NO" (digits number ∷ digits line ∷ [])) result }
 {
-    put_refusal(output, 0, q.refusal.number(), q.line as u32)
+    put_refusal(output, 0, number, line as u32)
 }
 
 // The end of a file: where its text ends, and how many vertices are known.

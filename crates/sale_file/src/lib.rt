@@ -11,7 +11,8 @@ ghost use Rattle.sale.specs.Files.{lots_known, Long};
 use lines::Limits;
 use sale::closing::{refuse, report_sale};
 
-// 0 or the number of the refusal, 1 to 8 or 21, the bytes written, and how many lots are known at the end: 0 where no file was accepted.
+// 0 or the number of the refusal, 1 to 8 or 21, the bytes written, and how many lots are known at the end: 0 where no file was accepted. C has 0
+// where nothing is refused.
 #[derive(Clone, Copy)]
 pub struct Served {
     pub code: u32,
@@ -68,11 +69,14 @@ pub fn work_file(
         &mut operands,
     );
     match loaded {
-        Err(q) => Served {
-            code: q.refusal.number(),
-            written: refuse(output, q),
-            lots: 0,
-        },
+        Err(q) => {
+            let code = q.refusal.number();
+            Served {
+                code,
+                written: refuse(output, code, q.line),
+                lots: 0,
+            }
+        }
         Ok(sale) => {
             let end = report_sale(
                 output,

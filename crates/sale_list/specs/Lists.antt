@@ -18,7 +18,6 @@ use Rattle.model.specs.Lent.{Lists, lent, memory, Two}
 use Rattle.model.specs.Demand.{Standing, standing}
 use Rattle.model.specs.Promises.{Demand3}
 use Rattle.model.specs.ListEntry.{is_letter, is_entry, entries_to, list_refusal, list_calls, Returned, returned, Idle, ListWorked}
-use Rattle.loader.specs.declared.Sizes.{Sizes}
 use Rattle.loader.specs.declared.Loaded.{Loaded}
 use Rattle.std.specs.Prelude.{Result, Ok, Err}
 use Rattle.refusal.specs.declared.Refused.{Refused}

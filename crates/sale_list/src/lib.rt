@@ -139,11 +139,12 @@ pub fn work_list(
     );
     match loaded {
         Err(q) => {
-            let end = refuse(output, q);
+            let code = q.refusal.number();
+            let end = refuse(output, code, q.line);
             let none = LongStack::new();
             let unmoved = LongJournal::new();
             ListRan {
-                code: q.refusal.number(),
+                code,
                 written: end,
                 total: 0,
                 stack: none,

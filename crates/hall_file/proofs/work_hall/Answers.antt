@@ -1,5 +1,5 @@
 -- `hall_file::work_hall` meets its contract.
-use Rattle.std.proofs.Common.{ℕ, arith, refl, replicate}
+use Rattle.std.proofs.Common.{ℕ, arith, replicate}
 use Rattle.std.proofs.lemmas.List.{length-replicate}
 use Rattle.laws.specs.Fold.{zeros-get}
 use Rattle.hall_file.specs.Worked.{own-length, own-four, catalogued, small, line-fits, turned_down, no-lots}
@@ -13,7 +13,7 @@ load_hall-loaded-requires c =
 pub refuse-requires : goal.refuse-requires
 refuse-requires c =
     let refused = c.in-Err.is in
-    ((small c.load_hall-loaded.ensures refused).1, omega (arith, line-fits c.load_hall-loaded.ensures refused, c.requires.spacious))
+    ((small c.load_hall-loaded.ensures refused).1, rw c.number-code.ensures (omega (arith, line-fits c.load_hall-loaded.ensures refused, c.requires.spacious)))
 
 pub report_hall-end-requires : goal.report_hall-end-requires
 report_hall-end-requires c =
@@ -32,7 +32,7 @@ report_hall-end-requires c =
 pub returns-in-Err : goal.returns-in-Err
 returns-in-Err c =
     let refused = c.in-Err.is in
-    (turned_down c.load_hall-loaded.ensures refused c.number.ensures c.refuse.ensures, no-lots c.load_hall-loaded.ensures refused (λ d l. zeros-get 4 d))
+    (turned_down c.load_hall-loaded.ensures refused c.number-code.ensures (rw c.number-code.ensures at c.refuse.ensures), no-lots c.load_hall-loaded.ensures refused (λ d l. zeros-get 4 d))
 
 pub returns-in-Ok : goal.returns-in-Ok
 returns-in-Ok c =

@@ -1,4 +1,4 @@
-use Rattle.std.proofs.Common.{ℕ, arith, refl}
+use Rattle.std.proofs.Common.{ℕ, arith}
 use Rattle.std.proofs.lemmas.List.{length-replicate}
 use Rattle.sale.specs.Files.{catalogued, listed, worked, lots-known, small, line-fits, no-lots, turned_down}
 use Rattle.sale_file.proofs.work_file.Goals as goal
@@ -12,7 +12,7 @@ pub refuse-requires : goal.refuse-requires
 refuse-requires c =
     let long = c.requires in
     let refused = c.in-Err.is in
-    ((small long c.load-loaded.ensures refused).1, omega (arith, line-fits long c.load-loaded.ensures refused, long.spacious))
+    ((small long c.load-loaded.ensures refused).1, rw c.number-code.ensures (omega (arith, line-fits long c.load-loaded.ensures refused, long.spacious)))
 
 pub slice_bounds-report_sale-end : goal.slice_bounds-report_sale-end
 slice_bounds-report_sale-end c = omega (arith, (c.load-loaded.ensures.accepts _ c.in-Ok.is).costs)
@@ -34,7 +34,7 @@ pub returns-in-Err : goal.returns-in-Err
 returns-in-Err c =
     let long = c.requires in
     let refused = c.in-Err.is in
-    (turned_down long c.load-loaded.ensures refused c.number.ensures c.refuse.ensures, no-lots long c.load-loaded.ensures refused)
+    (turned_down long c.load-loaded.ensures refused c.number-code.ensures (rw c.number-code.ensures at c.refuse.ensures), no-lots long c.load-loaded.ensures refused)
 
 pub returns-in-Ok : goal.returns-in-Ok
 returns-in-Ok c =

@@ -13,7 +13,7 @@ pub refuse-end-requires : goal.refuse-end-requires
 refuse-end-requires c =
     let long = c.requires.0 in
     let refused = c.in-Err.is in
-    ((small long c.load-loaded.ensures refused).1, omega (arith, line-fits long c.load-loaded.ensures refused, long.spacious))
+    ((small long c.load-loaded.ensures refused).1, rw c.number-code.ensures (omega (arith, line-fits long c.load-loaded.ensures refused, long.spacious)))
 
 pub slice_bounds-sell-end : goal.slice_bounds-sell-end
 slice_bounds-sell-end c = omega (arith, (c.load-loaded.ensures.accepts _ c.in-Ok.is).costs)
@@ -45,7 +45,7 @@ long-journal-requires c =
 pub returns-in-Err : goal.returns-in-Err
 returns-in-Err c =
     list-down c.args.list.now c.args.operands.now _ _ _ _ _ c.load-loaded.ensures c.in-Err.is _
-    (idle c.new-none.ensures.2 c.new-none.ensures.3 c.new-none.ensures.4 c.new-unmoved.ensures.2 c.new-unmoved.ensures.3 c.new-unmoved.ensures.4 refl) c.number.ensures c.refuse-end.ensures
+    (idle c.new-none.ensures.2 c.new-none.ensures.3 c.new-none.ensures.4 c.new-unmoved.ensures.2 c.new-unmoved.ensures.3 c.new-unmoved.ensures.4 refl) c.number-code.ensures (rw c.number-code.ensures at c.refuse-end.ensures)
 
 pub returns-in-Ok : goal.returns-in-Ok
 returns-in-Ok c =
