@@ -1,6 +1,6 @@
 -- What the function of a call beside others needs and promises, and that any_call's `perform` with two tests keeps the promise. Rests on Under and on
 -- edit_calls' Called. Assumes nothing.
-use Rattle.std.specs.Prelude.{ℕ, zero, suc, ◌+◌, ◌-◌, ◌≤◌, ◌<◌, ◌≡◌, Bool, ◌&&◌, ◌||◌, List, [], ◌∷◌, eqb, length}
+use Rattle.std.specs.Prelude.{ℕ, ◌+◌, ◌-◌, ◌≤◌, ◌<◌, ◌≡◌, Bool, ◌&&◌, ◌||◌, List, [], ◌∷◌, eqb, length}
 use Rattle.std.proofs.Math.Decide.{ℕ_discrete}
 use native.Mathlib.Omega.{arith}
 use Rattle.std.proofs.Math.Path.{refl, sym, ap, ap₂}
@@ -15,22 +15,22 @@ use Rattle.refusal.specs.declared.Refusal.{Refusal}
 use Rattle.refusal.specs.declared.Refusal.TheVariants.{AboveCap}
 use Rattle.model.specs.Catalogue.{Hypergraph, vertices, is_vertex, is_block, capacity, capacities}
 use Rattle.model.specs.Measure.{Contraction, above, on_board, weight, block_weight, has_room}
-use Rattle.model.specs.Machine.{Call, call_j, call_s, call_m, call_b, call_w, call_p, call_a, Answer, says_no, Move, State, Step}
+use Rattle.model.specs.Machine.{Call, call_j, call_s, call_m, call_b, call_w, call_p, call_a, Answer, says_no, State, Step}
 use Rattle.model.specs.Search.{call_under}
 use Rattle.model.specs.Report.{refusal}
 use Rattle.model.specs.Grammar.{letter_j, letter_s, letter_m, letter_b, letter_w, letter_p}
-use Rattle.model.specs.Lent.{Two, stack_of, journal_of}
+use Rattle.model.specs.Lent.{Two, journal_of}
 use Rattle.guarantees.specs.Board.{board-top}
 use Rattle.guarantees.specs.Caps.{CeilingIs}
 use Rattle.operations.specs.Pairs.{pairs-none, pairs-some}
 use Rattle.operations.specs.Tables.{Tables, Sound, Keeps}
-use Rattle.operations.specs.Move.{Open, own-weight, on-board}
+use Rattle.operations.specs.Move.{own-weight, on-board}
 use Rattle.operations.specs.Keeping.{keeps-none}
-use Rattle.edit_calls.specs.Steps.{Runs, Ready, Stepped}
+use Rattle.edit_calls.specs.Steps.{Runs, Ready}
 use Rattle.edit_calls.specs.Called.{Called, Roomy, roomy}
 use Rattle.edit_calls.specs.Moving.{last_move, back-open}
 use Rattle.edit_calls.specs.Refusal.{known, room_in}
-use Rattle.any_call.specs.Kinds.{any_call, contracts, moves, contracting_call, moving_call}
+use Rattle.any_call.specs.Kinds.{any_call}
 use Rattle.model.specs.Hall.{Beside, leaves, ceiling_beside, call_beside}
 use Rattle.beside.specs.Under.{by_limit, relayed, beside-M, beside-B-none, beside-B-room, beside-B-over}
 

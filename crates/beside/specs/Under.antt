@@ -1,12 +1,11 @@
 -- A call beside others is the call under both limits, but for what M and B answer by the hall's limit. Rests on model's Hall. Assumes nothing.
-use Rattle.std.specs.Prelude.{ℕ, zero, suc, ◌+◌, ◌≤◌, ◌<◌, ◌≡◌, refl, Bool, not, ◌&&◌, ◌||◌, List, [], ◌∷◌, eqb, leb}
-use Rattle.std.proofs.Common.{arith, ◌∙◌, leb-true, leb-false, le-leb}
+use Rattle.std.specs.Prelude.{ℕ, ◌+◌, ◌≤◌, ◌<◌, ◌≡◌, refl, Bool, not, ◌&&◌, ◌||◌, List, [], ◌∷◌, eqb, leb}
+use Rattle.std.proofs.Common.{arith, ◌∙◌, leb-true, leb-false}
 use Rattle.std.proofs.Math.Path.{sym, ap}
 use Rattle.std.proofs.Math.Bool.{true, false, cond}
-use Rattle.std.proofs.lemmas.Bool.{lt-leb}
 use Rattle.model.specs.Catalogue.{Hypergraph, is_vertex, is_block, capacity, capacities}
 use Rattle.model.specs.Measure.{on_board, is_fixed, block_weight, weight, has_room}
-use Rattle.model.specs.Machine.{Call, call_j, call_s, call_m, call_b, call_w, call_p, call_a, Answer, says_no, Move, State, Step, settle, refuses_m, does_m, does_b}
+use Rattle.model.specs.Machine.{call_m, call_b, Answer, says_no, Move, State, Step, settle, refuses_m, does_m, does_b}
 use Rattle.model.specs.Search.{call_under}
 use Rattle.model.specs.Report.{refusal}
 use Rattle.model.specs.Hall.{Beside, leaves, ceiling_beside, first_of, over_limit, refuses_beside_m, refuses_beside_b, call_beside}

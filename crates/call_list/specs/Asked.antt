@@ -2,7 +2,7 @@
 -- Assumes nothing.
 use Rattle.std.specs.Prelude.{ℕ, zero, suc, ◌+◌, ◌-◌, ◌≤◌, ◌≡◌, refl, Bool, true, false, cond, ◌||◌, List, [], ◌∷◌, eqb, length, get_or, take, drop}
 use Rattle.std.proofs.Math.Decide.{ℕ_discrete}
-use Rattle.std.proofs.Common.{arith, sym, ap, ap₂, ◌∙◌, true≢false, eq-eqb, ne_eqb}
+use Rattle.std.proofs.Common.{arith, sym, ap, ◌∙◌, true≢false, eq-eqb, ne_eqb}
 use Rattle.model.specs.Machine.{call_j, call_s, call_m, call_b, call_w, call_p, call_a}
 use Rattle.model.specs.Grammar.{asks, nothing, call_of, late_of, stretch_of, letter_j, letter_s, letter_m, letter_b, letter_w, letter_p, letter_a, letter_x, letter_n}
 use Rattle.model.specs.Sale.{Request, runs, call_x, call_n}

@@ -1,16 +1,16 @@
 -- A list of call lines on tables as opening left them: what it needs and promises, and the loop over it. Rests on Point, Asked and memory's Prefix, Close and
 -- Short. Assumes nothing.
-use Rattle.std.specs.Prelude.{ℕ, suc, ◌+◌, ◌*◌, ◌<◌, ◌≤◌, ◌≡◌, refl, true, List, [], ◌∷◌, ◌++◌, length, get_or}
+use Rattle.std.specs.Prelude.{ℕ, ◌+◌, ◌*◌, ◌<◌, ◌≤◌, ◌≡◌, refl, true, List, [], ◌∷◌, ◌++◌, length, get_or}
 use Rattle.std.proofs.Common.{arith, sym, ap, ap₂, ◌∙◌, subst, eq-eqb}
 use Rattle.model.specs.Catalogue.{Limits, Hypergraph, capacity, capacities, average_weight}
 use Rattle.model.specs.Measure.{Contraction}
 use Rattle.model.specs.Machine.{Move}
-use Rattle.model.specs.Sale.{Request, runs, call_x, call_n, Sale, opened, space_of, ran, turned, turn_under, turn, does_x, does_n, withdrawn, added, changed_at, refuses_x, refuses_n}
+use Rattle.model.specs.Sale.{Request, runs, call_x, call_n, Sale, opened, space_of, ran, turn_under, turn, does_x, does_n, withdrawn, added, changed_at, refuses_x, refuses_n}
 use Rattle.model.specs.Grammar.{call_of, letter_n}
 use Rattle.model.specs.Report.{answer_row}
 use Rattle.model.specs.Engine.{after, answers}
 use Rattle.model.specs.Memory.{Tables as MemoryTables}
-use Rattle.model.specs.Lent.{calls_of, Two}
+use Rattle.model.specs.Lent.{calls_of}
 use Rattle.model.specs.ListEntry.{entries_to}
 use Rattle.model.specs.Demand.{Accepted}
 use Rattle.guarantees.specs.Ranges.{Few}

@@ -1,6 +1,6 @@
 -- Tables as loading a catalogue left them, a sale's or one of a hall's: they can be opened, and opened they stand for the catalogue as loaded, before any call.
 -- Rests on Point and on memory's Open. Assumes nothing.
-use Rattle.std.specs.Prelude.{ℕ, ◌*◌, ◌<◌, ◌≤◌, ◌≡◌, refl, List, [], length, get_or, replicate, ℤ}
+use Rattle.std.specs.Prelude.{ℕ, ◌*◌, ◌<◌, ◌≤◌, ◌≡◌, List, [], length, get_or, replicate, ℤ}
 use Rattle.std.proofs.Common.{arith, sym, ◌∙◌}
 use Rattle.std.proofs.lemmas.List.{length-replicate}
 use Rattle.laws.specs.Fold.{zeros-get}

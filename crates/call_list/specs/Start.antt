@@ -1,6 +1,6 @@
 -- Where a list stands before its first call: nothing on the stack, on the record or among the free numbers. Rests on fixed's Starting. Assumes nothing.
 use Rattle.std.specs.Prelude.{ℕ, ◌≡◌, List, length}
-use Rattle.model.specs.Lent.{Two, two}
+use Rattle.model.specs.Lent.{two}
 use Rattle.fixed.specs.Starting.{FixedMarked}
 use Rattle.edit_calls.specs.Start.{Empty}
 use Rattle.call_list.specs.declared.course.Course.{Course}

@@ -8,7 +8,6 @@ use Rattle.std.proofs.lemmas.Bool.{not-true, not-false}
 use Rattle.std.proofs.lemmas.List.{length-replicate}
 use Rattle.laws.specs.Choice.{one, one-full, eqb-sym, and_left, and_right}
 use Rattle.laws.specs.Fold.{any, all, zeros-get}
-use Rattle.laws.specs.Sum.{sum, sum-zero, sum_step}
 use Rattle.model.specs.Sale.{named_twice}
 use Rattle.edit_calls.specs.Refusal.{known}
 

@@ -4,13 +4,13 @@ use Rattle.std.proofs.Math.Decide.{dec_lt}
 use Rattle.std.proofs.Common.{arith, sym, ◌∙◌, lt-ltb, le-ltb, le-leb, leb-true, leb-false, ltb-false}
 use Rattle.std.proofs.Math.Path.{ap}
 use Rattle.std.proofs.Math.Bool.{not, cond}
-use Rattle.std.proofs.lemmas.Bool.{lt-leb, not-false, not-true}
+use Rattle.std.proofs.lemmas.Bool.{lt-leb, not-false}
 use Rattle.std.proofs.Math.Dec.{ltb}
 use Rattle.std.proofs.Math.ListN.{length}
 use Rattle.laws.specs.Choice.{cond-zero, and_left, and_right, or-none}
 use Rattle.laws.specs.Fold.{all}
 use Rattle.model.specs.Catalogue.{Limits, Hypergraph, is_vertex, is_block, is_net, capacity, capacities}
-use Rattle.model.specs.Measure.{on_board, block_weight}
+use Rattle.model.specs.Measure.{block_weight}
 use Rattle.model.specs.Machine.{State}
 use Rattle.model.specs.Sale.{Space, space_of, lots_in, marks_in, joins_stand, named_twice, refuses_x, refuses_n}
 use Rattle.guarantees.specs.Caps.{CeilingIs}

@@ -1,5 +1,5 @@
 -- The call N, refused and accepted. Rests on Stands, Named and Refusal. Assumes nothing.
-use Rattle.std.specs.Prelude.{ℕ, suc, ◌+◌, ◌*◌, ◌-◌, ◌<◌, ◌≤◌, ◌≡◌, refl, Bool, true, false, not, cond, ◌&&◌, eqb, ltb, max, get_or, drop, ℤ}
+use Rattle.std.specs.Prelude.{ℕ, suc, ◌+◌, ◌*◌, ◌-◌, ◌<◌, ◌≤◌, ◌≡◌, refl, Bool, not, cond, ◌&&◌, eqb, ltb, max, get_or, drop, ℤ}
 use Rattle.std.proofs.Math.Decide.{dec_lt}
 use Rattle.std.proofs.Common.{arith, ◌∙◌, lt-ltb, le-ltb}
 use Rattle.std.proofs.Math.Path.{sym, ap, subst}
@@ -7,10 +7,10 @@ use mathlib.Core.List.{List, [], ◌∷◌, ◌++◌}
 use borrow.Author.Tests.{lt-ltb, le-ltb, leb-true, not-false}
 use Rattle.std.proofs.Math.Dec.{leb}
 use Rattle.std.proofs.Math.ListN.{length}
-use Rattle.laws.specs.Choice.{one, one-le, cond-zero, and_left, and_right}
+use Rattle.laws.specs.Choice.{one-le, cond-zero, and_left, and_right}
 use Rattle.laws.specs.Fold.{any, all}
 use Rattle.model.specs.Catalogue.{Limits, Net, Hypergraph, vertices, is_block, is_net, capacity, capacities}
-use Rattle.model.specs.Machine.{Answer, says_n, State, fresh}
+use Rattle.model.specs.Machine.{Answer, says_n}
 use Rattle.model.specs.Memory.{no_net, all_pins}
 use Rattle.model.specs.Sale.{Sale, Turn, Space, space_of, call_n, turn_under, does_n, added, changed_at, nets_with, number_for, refuses_n}
 use Rattle.model.specs.Lent.{Two}
@@ -18,12 +18,12 @@ use Rattle.guarantees.specs.Caps.{CeilingIs}
 use Rattle.guarantees.specs.Ranges.{Ranges}
 use Rattle.guarantees.specs.Changed.{vertices-same, vertices-more}
 use Rattle.guarantees.specs.Changes.{with-length}
-use Rattle.guarantees.specs.Reached.{Valid, accepts-N, N-told, number-le}
+use Rattle.guarantees.specs.Reached.{accepts-N, N-told, number-le}
 use Rattle.levels.specs.Running.{net_at}
 use Rattle.operations.specs.Tables.{Tables, tables}
 use Rattle.edit_calls.specs.Steps.{told}
 use Rattle.edit_calls.specs.Start.{Empty}
-use Rattle.renewal.specs.Nets.{Stored, first_of, first-all, changed-length, tail}
+use Rattle.renewal.specs.Nets.{Stored, first-all, changed-length, tail}
 use Rattle.renewal.specs.Nets.{nets_with as put_nets}
 use Rattle.renewal.specs.Putting.{total_with, CanPut, firsts-with}
 use Rattle.renewal.specs.Clearing.{PutIn}
@@ -33,7 +33,6 @@ use Rattle.change_rules.specs.Free.{free_of, free-less, free-length}
 use Rattle.change_rules.specs.Named.{Named}
 use Rattle.change_rules.specs.Refusal.{refusal_n, refusal_n-is, wider-N}
 use Rattle.change_rules.specs.Lot.{LotSet}
-use Rattle.changes.specs.Lot.{Long}
 use Rattle.changes.specs.Stands.{Stock, stock, Stands, Turns, Renewed, joins-length, all-lots, holding, left-reopens, left-can, left-index, left-runs, left-fixed, left-long}
 use Rattle.changes.specs.Spared.{Spared, spared}
 use Rattle.changes.specs.Turning.{nets-left, turned-no, turned-yes}

@@ -1,7 +1,7 @@
 -- The nets that `take_out` and `put_in` leave are those of the model's X and N (without_is, with-is), and the marks in use are the pins of all nets
 -- (marks-is). Rests on renewal's Nets and on model's Sale. Assumes nothing.
 use Rattle.std.specs.Prelude.{ℕ, zero, suc, ◌+◌, ◌<◌, ◌≡◌, refl, Bool, true, false, cond, List, [], ◌∷◌, ◌++◌, eqb, length, get_or}
-use Rattle.std.proofs.Common.{arith, sym, ap, ap₂, ◌∙◌, append-nil, length-append}
+use Rattle.std.proofs.Common.{arith, ap, ap₂, ◌∙◌, append-nil, length-append}
 use Rattle.laws.specs.Choice.{one}
 use Rattle.laws.specs.Fold.{sum_over, any}
 use Rattle.model.specs.Catalogue.{Net, Hypergraph}

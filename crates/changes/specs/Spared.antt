@@ -1,6 +1,6 @@
 -- What an accepted X or N makes of the entries that are not in use: they stand as they stood, or hold 0 behind the last mark. Rests on Stands. Assumes
 -- nothing.
-use Rattle.std.specs.Prelude.{ℕ, ◌+◌, ◌*◌, ◌-◌, ◌<◌, ◌≤◌, ◌≡◌, List, length, get_or, set, ℤ}
+use Rattle.std.specs.Prelude.{ℕ, ◌+◌, ◌*◌, ◌-◌, ◌<◌, ◌≤◌, ◌≡◌, List, length, get_or, set}
 use Rattle.std.proofs.Common.{arith, ap, ◌∙◌, get_or-set_other}
 use Rattle.model.specs.Catalogue.{Hypergraph}
 use Rattle.index.specs.Indexed.{Kept}

@@ -1,12 +1,12 @@
 -- A sale and all its tables, what X and N need and promise, and the sale made anew on the catalogue that they leave. Rests on Lot, Free and guarantees's
 -- Reached. Assumes nothing.
-use Rattle.std.specs.Prelude.{ℕ, suc, ◌+◌, ◌*◌, ◌-◌, ◌<◌, ◌≤◌, ◌≡◌, refl, List, [], length, get_or, replicate, ℤ}
+use Rattle.std.specs.Prelude.{ℕ, suc, ◌+◌, ◌*◌, ◌-◌, ◌<◌, ◌≤◌, ◌≡◌, List, [], length, get_or, replicate, ℤ}
 use Rattle.std.proofs.Common.{arith, sym, ap, ◌∙◌, subst}
 use Rattle.std.proofs.lemmas.List.{length-replicate}
 use Rattle.laws.specs.Fold.{zeros-get}
 use Rattle.model.specs.Catalogue.{Limits, Net, Hypergraph, vertices, fixed_entry, drafted}
 use Rattle.model.specs.Measure.{Contraction}
-use Rattle.model.specs.Machine.{Answer, State, fresh}
+use Rattle.model.specs.Machine.{Answer, fresh}
 use Rattle.model.specs.Memory.{no_net, all_pins}
 use Rattle.model.specs.Sale.{Sale, Turn, changed_at}
 use Rattle.model.specs.Lent.{Two}

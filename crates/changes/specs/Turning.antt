@@ -7,29 +7,28 @@ use Rattle.std.proofs.Math.ListN.{length, length-set}
 use Rattle.refusal.specs.Number.{number_of, number-some}
 use Rattle.refusal.specs.declared.Refusal.{Refusal}
 use Rattle.model.specs.Catalogue.{Limits, Net, Hypergraph, vertices}
-use Rattle.model.specs.Machine.{Answer, says_x, says_no, State, fresh}
+use Rattle.model.specs.Machine.{Answer, says_x, says_no}
 use Rattle.model.specs.Memory.{no_net, all_pins}
 use Rattle.model.specs.Sale.{Sale, Turn, Space, call_x, turn_under, turned, does_x, withdrawn, changed_at, unmarked, nets_without, refuses_x}
-use Rattle.model.specs.Lent.{Two, two}
+use Rattle.model.specs.Lent.{Two}
 use Rattle.guarantees.specs.Ranges.{Ranges}
 use Rattle.guarantees.specs.Changed.{vertices-same}
 use Rattle.guarantees.specs.Changes.{without-length}
-use Rattle.guarantees.specs.Reached.{Valid, accepts-X, X-told}
+use Rattle.guarantees.specs.Reached.{accepts-X, X-told}
 use Rattle.levels.specs.Running.{net_at}
-use Rattle.operations.specs.Tables.{Tables, tables, Sound}
-use Rattle.edit_calls.specs.Steps.{Whole, Runs, told, told_no}
+use Rattle.operations.specs.Tables.{Tables, tables}
+use Rattle.edit_calls.specs.Steps.{told, told_no}
 use Rattle.edit_calls.specs.Start.{Empty}
-use Rattle.renewal.specs.Nets.{Stored, Holding, changed-weight}
+use Rattle.renewal.specs.Nets.{Stored, changed-weight}
 use Rattle.renewal.specs.Nets.{nets_without as taken_nets}
 use Rattle.renewal.specs.Clearing.{TakenOut}
 use Rattle.reopening.specs.Reopening.{CanReopen}
 use Rattle.changes.specs.Nets.{without_is}
-use Rattle.change_rules.specs.Free.{free_of, free_more}
+use Rattle.change_rules.specs.Free.{free_more}
 use Rattle.change_rules.specs.Refusal.{refusal_x, refusal_x-is}
 use Rattle.change_rules.specs.Lot.{LotSet}
-use Rattle.changes.specs.Lot.{Long}
 use Rattle.changes.specs.Spared.{Spared, spared}
-use Rattle.changes.specs.Stands.{Stock, stock, Stands, CanChange, Turns, Renewed, joins-length, all-lots, marks-few, holding, sound-now, left-reopens, left-can, left-index, left-runs, left-fixed, left-long}
+use Rattle.changes.specs.Stands.{Stock, stock, Stands, Turns, Renewed, joins-length, all-lots, left-reopens, left-can, left-index, left-runs, left-fixed, left-long}
 
 pub nets-left : (h : Hypergraph) (p : ℕ → ℕ) (v bales session : ℕ) (nets : List Net) → (changed_at h p v bales session nets).nets ≡ nets
 unfolding changed_at

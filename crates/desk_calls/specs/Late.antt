@@ -13,8 +13,8 @@ use Rattle.laws.specs.Choice.{and_left, and_right}
 use Rattle.laws.specs.Fold.{all}
 use Rattle.model.specs.Catalogue.{main_limits, Hypergraph, is_block, is_net, capacity, capacities}
 use Rattle.model.specs.Measure.{block_weight}
-use Rattle.model.specs.Machine.{Answer, says_x, says_n, says_no, State}
-use Rattle.model.specs.Sale.{Request, call_x, call_n, Sale, Turn, Space, joins_stand, named_twice, lots_in, marks_in, turned, turn_under, turn, does_x, does_n, refuses_x, refuses_n}
+use Rattle.model.specs.Machine.{Answer, says_n, State}
+use Rattle.model.specs.Sale.{Request, call_x, call_n, Sale, Turn, Space, joins_stand, named_twice, lots_in, marks_in, turned, turn_under, does_n, refuses_n}
 use Rattle.model.specs.Report.{refusal, answer_row}
 use Rattle.model.specs.Memory.{Tables as MemoryTables}
 use Rattle.model.specs.Lent.{Two}
@@ -31,7 +31,7 @@ use Rattle.changes.specs.Adding.{AskN}
 use Rattle.beside.specs.Under.{least}
 use Rattle.call_list.specs.Point.{Point, GoesOn, Under}
 use Rattle.call_list.specs.Point.{CanStep as CanStepAlone, Steps as StepsAlone}
-use Rattle.call_list.specs.Late.{Changes, goes-changed, no-N, lot-told, lots-turned, turned-refused}
+use Rattle.call_list.specs.Late.{goes-changed, no-N, lot-told, lots-turned, turned-refused}
 use Rattle.desk_calls.specs.Desk.{Numbers, Stays, CanStep, Went, Steps}
 
 -- ---- X

@@ -20,7 +20,7 @@ use Rattle.renewal.specs.Nets.{Stored}
 use Rattle.changes.specs.Lot.{Long}
 use Rattle.changes.specs.Stands.{stock, Stands, all-lots}
 use Rattle.beside.specs.Called.{BesideCalled}
-use Rattle.call_list.specs.Point.{Point, GoesOn}
+use Rattle.call_list.specs.Point.{Point}
 use Rattle.call_list.specs.Machine.{goes_kept}
 use Rattle.desk_calls.specs.Desk.{Numbers, Stays, CanStep, Went}
 

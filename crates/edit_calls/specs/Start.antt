@@ -1,7 +1,7 @@
 -- Tables that are sound for a loaded catalogue stand, with an empty stack and an empty journal, for a fresh machine: what the first call
 -- of a list needs. Rests on Steps. Assumes nothing.
 use Rattle.std.proofs.Common.{arith, ap, ◌∙◌}
-use Rattle.std.specs.Prelude.{◌≡◌, refl, []}
+use Rattle.std.specs.Prelude.{◌≡◌, []}
 use Rattle.model.specs.Catalogue.{Hypergraph, drafted}
 use Rattle.model.specs.Machine.{fresh}
 use Rattle.model.specs.Lent.{stack_of, journal_of, Two}

@@ -6,7 +6,7 @@ use Rattle.std.proofs.Math.Path.{refl}
 use Rattle.model.specs.Grammar.{letter_n}
 use Rattle.model.specs.Sale.{Sale}
 use Rattle.model.specs.Memory.{Tables as MemoryTables}
-use Rattle.model.specs.Hall.{Led, no_desk, led_to, hall_after, hall_answers}
+use Rattle.model.specs.Hall.{Led, hall_after, hall_answers}
 use Rattle.hall_guarantees.specs.Limit.{HallFine, fine-led, led-length}
 use Rattle.fields.specs.Wrote.{Wrote}
 use Rattle.fields.proofs.Laws.{wrote_none, wrote-append}

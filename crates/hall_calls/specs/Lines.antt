@@ -1,7 +1,7 @@
 -- The led call lines that a table of numbers holds, four numbers each: the catalogue, the letter's byte and two numbers; and what one line more does to the
 -- hall's desks and answers. Rests on hall_led's Led. Assumes nothing.
 use Rattle.std.specs.Prelude.{ℕ, zero, suc, ◌+◌, ◌*◌, ◌-◌, ◌<◌, ◌≤◌, ◌≡◌, length, get_or}
-use Rattle.std.proofs.Common.{arith, ◌∙◌, subst, length-append}
+use Rattle.std.proofs.Common.{arith, ◌∙◌, length-append}
 use Rattle.std.proofs.Math.Path.{refl, sym, ap}
 use mathlib.Core.List.{List, [], ◌∷◌, ◌++◌, append_assoc, append-nil}
 use Rattle.model.specs.Sale.{Sale}

@@ -1,18 +1,18 @@
 -- How many arrays of each table there are, and which sets are long: the tests one by one are model's `long_hall`. Rests on model's HallLent, on hall_file's Views and on
 -- columns' Entry. Assumes nothing.
-use Rattle.std.specs.Prelude.{ℕ, zero, suc, ◌+◌, ◌<◌, ◌≤◌, ◌≡◌, refl, Bool, true, false, ◌&&◌, List, [], ◌∷◌, leb, length, get_or, ℤ}
+use Rattle.std.specs.Prelude.{ℕ, zero, suc, ◌+◌, ◌<◌, ◌≤◌, ◌≡◌, refl, Bool, true, false, ◌&&◌, List, [], ◌∷◌, leb, length, get_or}
 use Rattle.std.proofs.Math.Decide.{ℕ_discrete}
 use Rattle.std.proofs.Common.{arith, sym, ap, ◌∙◌, true≢false, le-leb, leb-true}
 use Rattle.laws.specs.Choice.{and_left, and_right}
 use Rattle.model.specs.Catalogue.{main_limits}
-use Rattle.model.specs.Memory.{Tables, long_tables, long_memory}
+use Rattle.model.specs.Memory.{long_tables, long_memory}
 use Rattle.model.specs.Lent.{memory}
 use Rattle.model.specs.HallDemand.{long_hall}
 use Rattle.lines.specs.Line.{Within}
 use Rattle.sale.specs.Files.{Long}
 use Rattle.columns.specs.Entry.{long-is}
 use Rattle.hall_loader.specs.Sets.{set_of as loader_set}
-use Rattle.model.specs.HallLent.{HallTables, tables_at, tables_of, hall_memory}
+use Rattle.model.specs.HallLent.{HallTables, tables_at, hall_memory}
 use Rattle.hall_file.specs.Views.{loaded_in, Four}
 use Rattle.hall_file.specs.Worked.{LongHall}
 

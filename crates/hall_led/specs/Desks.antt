@@ -8,8 +8,8 @@ use Rattle.std.proofs.Common.{sym, ◌∙◌}
 use Rattle.std.proofs.Math.Bool.{cond}
 use Rattle.laws.specs.Fold.{sum_over}
 use Rattle.laws.specs.Sum.{sum, sum-ext}
-use Rattle.model.specs.Catalogue.{main_limits, Hypergraph, average_weight, capacity}
-use Rattle.model.specs.Sale.{Request, runs, call_x, call_n, Sale, lots_in, marks_in, ran, turned, does_x, does_n, withdrawn, added, changed_at, refuses_x}
+use Rattle.model.specs.Catalogue.{main_limits, average_weight, capacity}
+use Rattle.model.specs.Sale.{Request, runs, call_x, call_n, Sale, lots_in, marks_in, ran, does_x, does_n, withdrawn, added, changed_at, refuses_x}
 use Rattle.model.specs.Memory.{Tables as MemoryTables}
 use Rattle.model.specs.Hall.{Beside, leaves, ceiling_beside, refuses_beside_n, turn_beside, no_desk, desk_of, desk_bales, bales, lots, marks, others, beside}
 use Rattle.guarantees.specs.Caps.{CeilingIs}
@@ -19,9 +19,7 @@ use Rattle.change_rules.specs.Free.{free-length}
 use Rattle.changes.specs.Nets.{marks-in}
 use Rattle.changes.specs.Stands.{all-lots}
 use Rattle.call_list.specs.declared.course.Course.{Course}
-use Rattle.call_list.specs.declared.course.Frame.{Frame}
 use Rattle.call_list.specs.Point.{GoesOn}
-use Rattle.beside.specs.Called.{RoomsAre}
 use Rattle.desk_calls.specs.Desk.{numbers, Fits}
 use Rattle.hall_rooms.specs.Rooms.{bearing, besides, others_bear, Leaves, Least, bears-here, bears-none, sum-others}
 use Rattle.hall_step.specs.Sets.{Sets, Own, set_of, point_in, Whole}

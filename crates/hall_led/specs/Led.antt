@@ -1,9 +1,8 @@
 -- What the function of a led call line needs and promises: whatever desks the sets stood for, they stand for those that the line leaves, and its answer's line
 -- is written behind the catalogue's number. Rests on Desks and Own. Assumes nothing.
-use Rattle.std.specs.Prelude.{ℕ, ◌+◌, ◌-◌, ◌<◌, ◌≤◌, ◌≡◌, refl, List, [], ◌∷◌, ◌++◌, length, get_or, set}
+use Rattle.std.specs.Prelude.{ℕ, ◌+◌, ◌-◌, ◌<◌, ◌≤◌, ◌≡◌, List, [], ◌∷◌, ◌++◌, length, get_or, set}
 use Rattle.std.proofs.Math.Decide.{ℕ_discrete}
 use Rattle.std.proofs.Common.{arith, sym, ap, ◌∙◌, subst, length-set, length-append, get_or-set_same, get_or-set_other}
-use Rattle.laws.specs.Fold.{sum_over}
 use Rattle.model.specs.Sale.{Request, Sale}
 use Rattle.model.specs.Report.{digits, answer_row}
 use Rattle.model.specs.Memory.{Tables as MemoryTables}

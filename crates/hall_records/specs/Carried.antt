@@ -1,7 +1,7 @@
 -- The hall's promise with the lots as records: the engine works on columns of its own, and the records of the lots known at the end are then written, each at its
 -- place; that is model's `HallServes` on the records' fields. Rests on Gathered, on model's HallDemand, and on hall_guarantees for how many catalogues there are.
 -- Assumes nothing.
-use Rattle.std.specs.Prelude.{ℕ, ◌*◌, ◌-◌, ◌<◌, ◌≤◌, ◌≡◌, refl, Bool, true, false, cond, ◌&&◌, List, [], map, ltb, length, get_or}
+use Rattle.std.specs.Prelude.{ℕ, ◌*◌, ◌-◌, ◌<◌, ◌≤◌, ◌≡◌, refl, Bool, true, false, cond, ◌&&◌, List, [], map, length, get_or}
 use Rattle.std.proofs.Common.{lt_irrefl, arith, sym, ap, subst, ◌∙◌, leb-true, le-leb, lt-ltb, le-ltb}
 use Rattle.std.proofs.Math.Dec.{leb}
 use Rattle.std.proofs.lemmas.List.{length-map}

@@ -1,6 +1,6 @@
 -- The tables of a hall's catalogues: each is a slice of arrays, one array for each catalogue. The set of one catalogue, and all sets with one replaced.
 -- All that names the tables one by one is here. Rests on call_list's Point. Assumes nothing.
-use Rattle.std.specs.Prelude.{ℕ, ◌<◌, ◌≤◌, ◌≡◌, refl, List, [], length, get_or, set, ℤ}
+use Rattle.std.specs.Prelude.{ℕ, ◌<◌, ◌≤◌, ◌≡◌, List, [], length, get_or, set, ℤ}
 use Rattle.std.proofs.Common.{arith, ◌∙◌, length-set, get_or-set_same, get_or-set_other}
 use Rattle.call_list.specs.declared.course.Course.{Course}
 use Rattle.call_list.specs.Point.{Point, point_of}

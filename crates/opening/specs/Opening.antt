@@ -7,7 +7,7 @@ use Rattle.std.proofs.Math.Path.{sym, ap, ap₂}
 use mathlib.Core.List.{List, []}
 use Rattle.laws.specs.Choice.{one, one-full, cond_yes}
 use Rattle.laws.specs.Sum.{sum, sum_to, sum-ext, sum_step, sum_mono, sum-const, sum-sum_to, sum-list}
-use Rattle.laws.specs.Fold.{any, any_at, all-get}
+use Rattle.laws.specs.Fold.{any_at, all-get}
 use Rattle.laws.specs.Occurrence.{occ, occ-at, occ-distinct}
 use Rattle.laws.specs.Bit.{bit, bit-lt}
 use Rattle.model.specs.Catalogue.{Hypergraph, loaded, drafted, in_sale}
@@ -27,7 +27,7 @@ use Rattle.report.proofs.Climb.{connected}
 use Rattle.first_tables.specs.Prepare.{Prepares, Prepared}
 use Rattle.first_tables.specs.Load.{Loaded, prepared-follows}
 use Rattle.block_weights.specs.Term.{block_term}
-use Rattle.operations.specs.Tables.{Tables, tables, Fit, Sound}
+use Rattle.operations.specs.Tables.{tables, Fit, Sound}
 
 -- the tables as loading leaves them: those of a catalogue within the ranges, before any call
 pub record Opens (h : Hypergraph) (pins blocks firsts sizes loaded_sizes weights net_weights bits counts visited : List ℕ) (gains : List ℤ) (n m k : ℕ) : Type 0 where

@@ -1,14 +1,14 @@
 -- The tables of a sale made anew from the loaded pins: the present pins are the loaded ones, each net's in order, so are the sizes, the bitset is blank, and
 -- what `open` needs holds. Rests on renewal, on pins's Sorting and on opening. Assumes nothing.
-use Rattle.std.specs.Prelude.{ℕ, suc, ◌+◌, ◌*◌, ◌/◌, ◌%◌, ◌<◌, ◌≤◌, ◌≡◌, refl, true, ◌⊎◌, List, [], eqb, length, get_or, take, drop, ℤ}
+use Rattle.std.specs.Prelude.{ℕ, ◌+◌, ◌*◌, ◌/◌, ◌%◌, ◌<◌, ◌≤◌, ◌≡◌, ◌⊎◌, List, [], length, get_or, drop, ℤ}
 use Rattle.std.proofs.Math.Decide.{dec_lt}
-use Rattle.std.proofs.Common.{zero-add, add-one, arith, sym, ap₂, ◌∙◌, inl, inr, get_or-take, get_or-drop}
+use Rattle.std.proofs.Common.{zero-add, arith, sym, ap₂, ◌∙◌, inl, inr, get_or-take, get_or-drop}
 use Rattle.std.proofs.Math.Path.{ap}
 use Rattle.laws.specs.Choice.{one, one-le}
-use Rattle.laws.specs.Fold.{any, all-get}
+use Rattle.laws.specs.Fold.{all-get}
 use Rattle.laws.specs.Sum.{sum-ext}
 use Rattle.laws.specs.Occurrence.{occ, Distinct, same, distinct-any, occ-distinct}
-use Rattle.model.specs.Catalogue.{Net, Hypergraph, vertices, loaded, drafted}
+use Rattle.model.specs.Catalogue.{Hypergraph, vertices, loaded, drafted}
 use Rattle.model.specs.Memory.{no_net, all_pins}
 use Rattle.incidence.specs.Word.{bit-of-zero}
 use Rattle.incidence.specs.On.{on, on-is}

@@ -4,7 +4,7 @@ use Rattle.std.specs.Prelude.{ℕ, ◌+◌, ◌<◌, ◌≤◌, ◌≡◌, cond,
 use Rattle.laws.specs.Sum.{sum}
 use Rattle.laws.specs.Bit.{bit}
 use Rattle.model.specs.Catalogue.{Hypergraph, vertices}
-use Rattle.model.specs.Measure.{Contraction, above, connectivity}
+use Rattle.model.specs.Measure.{connectivity}
 use Rattle.model.specs.Machine.{State}
 use Rattle.model.specs.Report.{digits, row, lot_rows, buy_rows, closing}
 use Rattle.guarantees.specs.Ends.{Placed}

@@ -1,11 +1,8 @@
-use Rattle.std.proofs.Common.{ℕ, arith, ◌≡◌, refl, sym, List, length}
+use Rattle.std.proofs.Common.{ℕ, arith, ◌≡◌, refl, sym}
 use Rattle.std.proofs.lemmas.List.{length-replicate}
-use Rattle.operations.specs.Tables.{tables}
-use Rattle.best_contraction.specs.Rating.{Blank, score_of}
-use Rattle.best_contraction.specs.Bound.{Bounded}
 use Rattle.best_contraction.specs.BoundLaw.{bounded-begin}
 use Rattle.coarsening.specs.Linked.{blank, tables-ok}
-use Rattle.coarsening.specs.Coarsen.{locals, Going, going-none, going_more, going_on, going_out, going_done, once_asks}
+use Rattle.coarsening.specs.Coarsen.{going-none, going_more, going_on, going_out, going_done, once_asks}
 use Rattle.coarsening.proofs.coarsen.Goals as goal
 
 pub join_blocks-joinblocks-requires : goal.join_blocks-joinblocks-requires

@@ -1,12 +1,9 @@
 -- `coarsen`: what is left to contract leads to model's end, and nothing is left once no vertex has to leave the board; bounds stay bounds.
-use Rattle.std.proofs.Common.{ℕ, ◌-◌, arith, ◌≡◌, refl, sym, List, length}
-use Rattle.std.proofs.lemmas.List.{length-replicate}
+use Rattle.std.proofs.Common.{ℕ, ◌-◌, ◌≡◌, List}
 use Rattle.operations.specs.Tables.{tables}
 use Rattle.best_contraction.specs.Rating.{Blank, score_of}
 use Rattle.best_contraction.specs.Bound.{Bounded}
-use Rattle.best_contraction.specs.BoundLaw.{bounded-begin}
-use Rattle.coarsening.specs.Linked.{blank, tables-ok}
-use Rattle.coarsening.specs.Coarsen.{locals, Going, going-none, going_more, going_done, once_asks}
+use Rattle.coarsening.specs.Coarsen.{locals, Going}
 use Rattle.coarsening.proofs.coarsen.Given as goal
 
 abbrev pub invariant-loop : goal.invariant-loop

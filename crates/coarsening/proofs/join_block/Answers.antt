@@ -1,5 +1,4 @@
 -- `join_block`: the test's two arms.
-use Rattle.std.proofs.Common.{rules}
 use Rattle.coarsening.proofs.join_block.Goals as goal
 
 pub returns-then-fixed : goal.returns-then-fixed

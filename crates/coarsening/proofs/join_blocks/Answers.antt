@@ -1,6 +1,5 @@
-use Rattle.std.proofs.Common.{◌-◌, ◌≤◌, arith, ◌≡◌, rules, eqb, length}
-use Rattle.incidence.specs.On.{on}
-use Rattle.coarsening.specs.Own.{OwnBlocks, own-none, own-more, own-all}
+use Rattle.std.proofs.Common.{◌-◌, ◌≤◌, arith, ◌≡◌}
+use Rattle.coarsening.specs.Own.{own-none, own-more, own-all}
 use Rattle.coarsening.proofs.join_blocks.Goals as goal
 
 pub loop-i-init : goal.loop-i-init

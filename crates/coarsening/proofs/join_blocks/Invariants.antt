@@ -1,7 +1,7 @@
 -- `join_blocks`: entry by entry.
-use Rattle.std.proofs.Common.{◌-◌, ◌≤◌, arith, ◌≡◌, rules, eqb, length}
+use Rattle.std.proofs.Common.{◌-◌, ◌≤◌, ◌≡◌, eqb}
 use Rattle.incidence.specs.On.{on}
-use Rattle.coarsening.specs.Own.{OwnBlocks, own-none, own-more, own-all}
+use Rattle.coarsening.specs.Own.{OwnBlocks}
 use Rattle.coarsening.proofs.join_blocks.Given as goal
 
 abbrev pub invariant-loop-i : goal.invariant-loop-i

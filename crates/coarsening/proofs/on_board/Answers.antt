@@ -1,5 +1,5 @@
-use Rattle.std.proofs.Common.{◌-◌, ◌≤◌, arith, ◌≡◌, refl, rules, length}
-use Rattle.coarsening.specs.Coarsen.{board_in, board-none, board-more, board-all, placed-as}
+use Rattle.std.proofs.Common.{◌-◌, ◌≤◌, arith, ◌≡◌}
+use Rattle.coarsening.specs.Coarsen.{board-none, board-more, board-all, placed-as}
 use Rattle.coarsening.proofs.on_board.Goals as goal
 
 pub loop-i-init : goal.loop-i-init

@@ -1,6 +1,6 @@
-use Rattle.std.proofs.Common.{◌≤◌, ◌-◌, ◌*◌, arith, refl, w32, to_z}
+use Rattle.std.proofs.Common.{◌≤◌, ◌-◌, ◌*◌, arith, refl}
 use Rattle.laws.specs.Integer.{read32, add-at-fits}
-use Rattle.connectivity.specs.Raised.{Raised, raised-none, raised-set, raised-next, raised-done}
+use Rattle.connectivity.specs.Raised.{raised-none, raised-set, raised-next, raised-done}
 use Rattle.connectivity.specs.Moved.{raised-level}
 use Rattle.connectivity.proofs.add_row.Goals as goal
 

@@ -1,8 +1,6 @@
 -- `add_row`: the first j entries of the row are raised.
-use Rattle.std.proofs.Common.{◌≤◌, ◌-◌, ◌*◌, arith, refl, w32, to_z}
-use Rattle.laws.specs.Integer.{read32, add-at-fits}
-use Rattle.connectivity.specs.Raised.{Raised, raised-none, raised-set, raised-next, raised-done}
-use Rattle.connectivity.specs.Moved.{raised-level}
+use Rattle.std.proofs.Common.{◌≤◌, ◌-◌, ◌*◌}
+use Rattle.connectivity.specs.Raised.{Raised}
 use Rattle.connectivity.proofs.add_row.Given as goal
 
 abbrev pub invariant-loop-j : goal.invariant-loop-j

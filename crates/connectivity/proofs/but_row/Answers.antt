@@ -1,7 +1,7 @@
 use Rattle.std.proofs.Common.{ℕ, ◌≤◌, ◌-◌, ◌*◌, pos, arith, ap}
-use Rattle.connectivity.specs.Raised.{Raised, raised-none, raised-next, raised-set, raised-done}
+use Rattle.connectivity.specs.Raised.{raised-none, raised-next, raised-set, raised-done}
 use Rattle.connectivity.specs.Laid.{signed}
-use Rattle.connectivity.specs.Touch.{Rest, amount-is}
+use Rattle.connectivity.specs.Touch.{amount-is}
 use Rattle.connectivity.proofs.but_row.Goals as goal
 
 pub loop-j-init : goal.loop-j-init

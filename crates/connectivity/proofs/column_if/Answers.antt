@@ -1,5 +1,4 @@
 -- `column_if`: nothing where the count is another, else the change.
-use Rattle.std.proofs.Common.{rules}
 use Rattle.laws.specs.Place.{place}
 use Rattle.connectivity.specs.Row.{row}
 use Rattle.connectivity.specs.Touch.{column-stays, column-goes}

@@ -1,6 +1,6 @@
-use Rattle.std.proofs.Common.{◌≤◌, ◌-◌, arith, rules}
+use Rattle.std.proofs.Common.{◌≤◌, ◌-◌, arith}
 use Rattle.connectivity.specs.Laid.{pin-range}
-use Rattle.connectivity.specs.Touch.{Passed, passed_none, passed-more, found_here, found_none}
+use Rattle.connectivity.specs.Touch.{passed_none, passed-more, found_here, found_none}
 use Rattle.connectivity.proofs.find_other.Goals as goal
 
 pub loop-i-init : goal.loop-i-init

@@ -1,7 +1,6 @@
 -- `find_other`: no pin before the place i is another one of the block.
-use Rattle.std.proofs.Common.{◌≤◌, ◌-◌, arith, rules}
-use Rattle.connectivity.specs.Laid.{pin-range}
-use Rattle.connectivity.specs.Touch.{Passed, passed_none, passed-more, found_here, found_none}
+use Rattle.std.proofs.Common.{◌≤◌, ◌-◌}
+use Rattle.connectivity.specs.Touch.{Passed}
 use Rattle.connectivity.proofs.find_other.Given as goal
 
 abbrev pub invariant-loop-i : goal.invariant-loop-i

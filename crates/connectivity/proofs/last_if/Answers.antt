@@ -1,5 +1,4 @@
 -- `last_if`: nothing where the count is another, else the change.
-use Rattle.std.proofs.Common.{rules}
 use Rattle.laws.specs.Place.{place}
 use Rattle.connectivity.specs.Row.{row}
 use Rattle.connectivity.specs.Touch.{last-stays, last_goes}

@@ -1,5 +1,5 @@
 -- `move_pin` by the steps of Steps: the counts, and where one of them is critical the other pins and the row of x.
-use Rattle.std.proofs.Common.{arith, refl, rules}
+use Rattle.std.proofs.Common.{arith, refl}
 use Rattle.connectivity.specs.Set.{set-depart, depart-shows, set-arrive, arrive-shows}
 use Rattle.connectivity.specs.Steps.{count-there, move-others, move-own, move-done, move-idle}
 use Rattle.connectivity.proofs.move_pin.Goals as goal

@@ -1,5 +1,4 @@
 -- `other_in`: the vertex is another one, and its block is tested.
-use Rattle.std.proofs.Common.{rules}
 use Rattle.connectivity.specs.Touch.{other-same, other_test}
 use Rattle.connectivity.proofs.other_in.Goals as goal
 

@@ -1,5 +1,4 @@
 -- `own_moved`: nothing where as much is freed as drawn, else the row raised by the difference.
-use Rattle.std.proofs.Common.{rules}
 use Rattle.connectivity.specs.Moved.{back-even, room_back, raised-back}
 use Rattle.connectivity.specs.Touch.{raised-still}
 use Rattle.connectivity.proofs.own_moved.Goals as goal

@@ -1,5 +1,5 @@
 -- `own_row`: nothing for no pin, else the row of shares.
-use Rattle.std.proofs.Common.{arith, rules}
+use Rattle.std.proofs.Common.{arith}
 use Rattle.connectivity.specs.Steps.{own-none, own-ready, own-some}
 use Rattle.connectivity.proofs.own_row.Goals as goal
 

@@ -1,5 +1,5 @@
 -- `set_pin` by the steps of Steps: the row of x, the counts, the other pins, the row of x again.
-use Rattle.std.proofs.Common.{arith, refl, rules}
+use Rattle.std.proofs.Common.{arith, refl}
 use Rattle.connectivity.specs.Set.{set-depart, depart-shows, set-arrive, arrive-shows}
 use Rattle.connectivity.specs.Steps.{set_same, set_own, set-others, set-own-2, set-done}
 use Rattle.connectivity.proofs.set_pin.Goals as goal

@@ -1,8 +1,5 @@
 use Rattle.std.proofs.Common.{◌≤◌, ◌-◌, arith}
-use Rattle.laws.specs.Place.{place}
-use Rattle.connectivity.specs.Row.{row}
-use Rattle.connectivity.specs.Laid.{Laid}
-use Rattle.connectivity.specs.Touch.{at_column, pin-in, column-start, column-done, column-skip, column-small, column-more}
+use Rattle.connectivity.specs.Touch.{pin-in, column-start, column-done, column-skip, column-small, column-more}
 use Rattle.connectivity.proofs.shift_column.Goals.{then-q-x, else-q-x}
 use Rattle.connectivity.proofs.shift_column.Goals as goal
 

@@ -1,9 +1,9 @@
 -- `shift_column`: the first i pins of the stretch, but x, have had their change.
-use Rattle.std.proofs.Common.{◌≤◌, ◌-◌, ⊎_elim, arith, rules}
+use Rattle.std.proofs.Common.{◌≤◌, ◌-◌}
 use Rattle.laws.specs.Place.{place}
 use Rattle.connectivity.specs.Row.{row}
 use Rattle.connectivity.specs.Laid.{Laid}
-use Rattle.connectivity.specs.Touch.{at_column, pin-in, column-start, column-done, column-skip, column-small, column-more}
+use Rattle.connectivity.specs.Touch.{at_column}
 use Rattle.connectivity.proofs.shift_column.Given as goal
 
 abbrev pub invariant-loop-i : goal.invariant-loop-i

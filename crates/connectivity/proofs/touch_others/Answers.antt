@@ -1,5 +1,4 @@
 -- `touch_others`: the four rules add up to Change's `delta`.
-use Rattle.std.proofs.Common.{rules}
 use Rattle.connectivity.specs.Touch.{rows-0, rows-1, rows-2, rows-3, others-touched}
 use Rattle.connectivity.proofs.touch_others.Goals as goal
 

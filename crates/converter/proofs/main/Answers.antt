@@ -1,5 +1,5 @@
 -- `converter::main` meets its contract: what is written lies within the output.
-use Rattle.std.proofs.Common.{sym, length-take-le, rules}
+use Rattle.std.proofs.Common.{sym, length-take-le}
 use Rattle.conversion.specs.Loads.{bytes-in}
 use Rattle.converter.proofs.main.Goals as goal
 

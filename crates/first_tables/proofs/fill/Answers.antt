@@ -1,5 +1,5 @@
-use Rattle.std.proofs.Common.{◌≤◌, ◌-◌, arith, rules}
-use Rattle.first_tables.specs.Fill.{Filling, filling-none, filling-net, filling-more, filling-done}
+use Rattle.std.proofs.Common.{◌≤◌, ◌-◌, arith}
+use Rattle.first_tables.specs.Fill.{filling-none, filling-net, filling-more, filling-done}
 use Rattle.first_tables.proofs.fill.Goals as goal
 
 pub loop-e-init : goal.loop-e-init

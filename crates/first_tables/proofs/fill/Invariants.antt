@@ -1,6 +1,6 @@
 -- `fill`: the nets below e are filled.
-use Rattle.std.proofs.Common.{◌≤◌, ◌-◌, arith, rules}
-use Rattle.first_tables.specs.Fill.{Filling, filling-none, filling-net, filling-more, filling-done}
+use Rattle.std.proofs.Common.{◌≤◌, ◌-◌}
+use Rattle.first_tables.specs.Fill.{Filling}
 use Rattle.first_tables.proofs.fill.Given as goal
 
 abbrev pub invariant-loop-e : goal.invariant-loop-e

@@ -1,5 +1,5 @@
-use Rattle.std.proofs.Common.{◌≤◌, ◌-◌, arith, rules}
-use Rattle.first_tables.specs.Fill.{MarkedPins, marked-none, marked_more, marked_all, pin-room}
+use Rattle.std.proofs.Common.{◌≤◌, ◌-◌, arith}
+use Rattle.first_tables.specs.Fill.{marked-none, marked_more, marked_all, pin-room}
 use Rattle.first_tables.proofs.mark_pins.Goals as goal
 
 pub loop-i-init : goal.loop-i-init

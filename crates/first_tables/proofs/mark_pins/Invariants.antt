@@ -1,6 +1,6 @@
 -- `mark_pins`: the bitset has the first i pins.
-use Rattle.std.proofs.Common.{◌≤◌, ◌-◌, arith, rules}
-use Rattle.first_tables.specs.Fill.{MarkedPins, marked-none, marked_more, marked_all, pin-room}
+use Rattle.std.proofs.Common.{◌≤◌, ◌-◌}
+use Rattle.first_tables.specs.Fill.{MarkedPins}
 use Rattle.first_tables.proofs.mark_pins.Given as goal
 
 abbrev pub invariant-loop-i : goal.invariant-loop-i

@@ -1,5 +1,4 @@
 -- `prepare`: blank tables, filled.
-use Rattle.std.proofs.Common.{rules}
 use Rattle.first_tables.specs.Prepare.{prepare-fills, prepared}
 use Rattle.first_tables.proofs.prepare.Goals as goal
 

@@ -1,4 +1,4 @@
-use Rattle.std.proofs.Common.{rules, sym, length-take-le}
+use Rattle.std.proofs.Common.{sym, length-take-le}
 use Rattle.hall_columns.specs.Entry.{bytes-in}
 use Rattle.hall.proofs.main.Goals as goal
 

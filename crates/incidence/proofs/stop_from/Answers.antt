@@ -1,5 +1,5 @@
 use Rattle.std.proofs.Common.{arith, sym, div-one, ◌*◌, ◌+◌, ◌≡◌}
-use Rattle.incidence.specs.On.{next-none, clear-word, stop-in}
+use Rattle.incidence.specs.On.{clear-word, stop-in}
 use Rattle.incidence.proofs.stop_from.Goals as goal
 
 pub returns-then-word-ne0 : goal.returns-then-word-ne0

@@ -1,5 +1,5 @@
 -- `contract`: v's block is stored once v is a pin of no net.
-use Rattle.std.proofs.Common.{arith, rules}
+use Rattle.std.proofs.Common.{arith}
 use Rattle.levels.specs.Operations.{contract-needs, contract-does}
 use Rattle.levels.proofs.contract.Goals as goal
 

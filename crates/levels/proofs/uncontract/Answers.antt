@@ -1,5 +1,5 @@
 -- `uncontract`: v's block is stored while v is a pin of no net.
-use Rattle.std.proofs.Common.{refl, rules}
+use Rattle.std.proofs.Common.{refl}
 use Rattle.levels.specs.Operations.{uncontract-needs, uncontract-does}
 use Rattle.levels.proofs.uncontract.Goals as goal
 

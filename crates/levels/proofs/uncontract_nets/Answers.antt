@@ -1,6 +1,5 @@
-use Rattle.std.proofs.Common.{◌≤◌, ◌<◌, ◌-◌, arith, ◌≡◌, rules}
-use Rattle.incidence.specs.On.{on}
-use Rattle.levels.specs.Uncontract.{UncontractingAll, uncontracting-none, uncontracting-splits, uncontracting-more, uncontracting-done}
+use Rattle.std.proofs.Common.{◌≤◌, ◌<◌, ◌-◌, arith, ◌≡◌}
+use Rattle.levels.specs.Uncontract.{uncontracting-none, uncontracting-splits, uncontracting-more, uncontracting-done}
 use Rattle.levels.proofs.uncontract_nets.Goals as goal
 
 pub next_net-e-requires : goal.next_net-e-requires

@@ -1,7 +1,7 @@
 -- `uncontract_nets`: the nets below e are split.
-use Rattle.std.proofs.Common.{◌≤◌, ◌<◌, ◌-◌, arith, ◌≡◌, rules}
+use Rattle.std.proofs.Common.{◌≤◌, ◌<◌, ◌-◌, ◌≡◌}
 use Rattle.incidence.specs.On.{on}
-use Rattle.levels.specs.Uncontract.{UncontractingAll, uncontracting-none, uncontracting-splits, uncontracting-more, uncontracting-done}
+use Rattle.levels.specs.Uncontract.{UncontractingAll}
 use Rattle.levels.proofs.uncontract_nets.Given as goal
 
 abbrev pub invariant-loop-e : goal.invariant-loop-e

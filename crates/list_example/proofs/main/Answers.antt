@@ -1,4 +1,4 @@
-use Rattle.std.proofs.Common.{rules, sym, length-take-le}
+use Rattle.std.proofs.Common.{sym, length-take-le}
 use Rattle.list_example.specs.Lines.{lines-in}
 use Rattle.list_example.proofs.main.Goals as goal
 

@@ -1,7 +1,6 @@
 -- `metric_of` meets its contract: the sum over the nets passed, which is small enough.
-use Rattle.std.proofs.Common.{arith, ◌≡◌, sym, ◌∙◌, ap, ◌≤◌, ◌-◌}
-use Rattle.laws.specs.Sum.{sum-zero}
-use Rattle.opening.specs.Opening.{metric_by, metric-more, metric-le}
+use Rattle.std.proofs.Common.{◌≡◌, ◌∙◌, ◌≤◌, ◌-◌}
+use Rattle.opening.specs.Opening.{metric_by}
 use Rattle.opening.proofs.metric_of.Given as goal
 
 abbrev pub invariant-loop-e : goal.invariant-loop-e

@@ -1,5 +1,4 @@
 -- `open` meets its contract: prepared tables, the blocks' weights and the metric together are sound.
-use Rattle.std.proofs.Common.{rules}
 use Rattle.opening.specs.Opening.{prepare-ok, opened}
 use Rattle.opening.proofs.open.Goals as goal
 

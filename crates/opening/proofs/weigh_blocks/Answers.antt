@@ -1,5 +1,5 @@
-use Rattle.std.proofs.Common.{arith, rules, ◌≤◌, ◌-◌}
-use Rattle.opening.specs.Opening.{WeighedTo, weighed-more}
+use Rattle.std.proofs.Common.{arith, ◌≤◌, ◌-◌}
+use Rattle.opening.specs.Opening.{weighed-more}
 use Rattle.opening.proofs.weigh_blocks.Goals as goal
 
 pub loop-b-init : goal.loop-b-init

@@ -1,6 +1,6 @@
 -- `weigh_blocks` meets its contract: the blocks passed have their weights.
-use Rattle.std.proofs.Common.{arith, rules, ◌≤◌, ◌-◌}
-use Rattle.opening.specs.Opening.{WeighedTo, weighed-more}
+use Rattle.std.proofs.Common.{◌≤◌, ◌-◌}
+use Rattle.opening.specs.Opening.{WeighedTo}
 use Rattle.opening.proofs.weigh_blocks.Given as goal
 
 abbrev pub invariant-loop-b : goal.invariant-loop-b

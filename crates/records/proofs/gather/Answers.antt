@@ -1,4 +1,4 @@
-use Rattle.std.proofs.Common.{◌≡◌, refl, sym, ap, ◌∙◌, List, map, ℕ, ◌-◌, ◌<◌, ◌≤◌, ne_of_lt, arith, length, get_or, set, length-set, replicate, get_or-set_same, get_or-set_other, ext_get_or, rules, below_none, below_more}
+use Rattle.std.proofs.Common.{◌≡◌, refl, sym, ap, ◌∙◌, List, map, ℕ, ◌-◌, ◌<◌, ◌≤◌, ne_of_lt, arith, length, get_or, set, length-set, replicate, get_or-set_same, get_or-set_other, ext_get_or, below_none, below_more}
 use Rattle.std.proofs.Math.ListN.{get_or-map}
 use Rattle.std.proofs.lemmas.List.{length-map, length-replicate}
 use Rattle.records.specs.declared.Lot.{Lot}

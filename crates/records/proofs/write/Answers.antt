@@ -1,4 +1,4 @@
-use Rattle.std.proofs.Common.{◌≡◌, ℕ, suc, ◌+◌, List, length, ap, ◌∙◌, arith, slice_set, slice_index_or}
+use Rattle.std.proofs.Common.{◌≡◌, ℕ, suc, ◌+◌, List, ap, ◌∙◌, arith, slice_set, slice_index_or}
 use Rattle.records.specs.declared.Lot.{Lot}
 use Rattle.records.specs.Over.{over, over-more}
 use Rattle.records.proofs.write.Goals as goal

@@ -1,5 +1,5 @@
 -- `reopen` meets its contract: a blank bitset, two copies, the pins of each net in order, and what `open` makes of them.
-use Rattle.std.proofs.Common.{arith, ◌∙◌, rules}
+use Rattle.std.proofs.Common.{arith, ◌∙◌}
 use Rattle.reopening.specs.Reopening.{in_order, copies-ok, sort-ok, open-ok, reopened}
 use Rattle.reopening.proofs.reopen.Goals as goal
 

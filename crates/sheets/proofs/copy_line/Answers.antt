@@ -1,5 +1,5 @@
 -- `sheets::copy_line` meets its contract.
-use Rattle.std.proofs.Common.{arith, sym, length-take-le, rules}
+use Rattle.std.proofs.Common.{arith, sym, length-take-le}
 use Rattle.sheets.proofs.copy_line.Goals as goal
 
 pub slice_bounds-put_word-end : goal.slice_bounds-put_word-end

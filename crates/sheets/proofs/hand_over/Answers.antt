@@ -1,5 +1,5 @@
 -- `sheets::hand_over` meets its contract: the engine's line, or the sheets of the sale that it left.
-use Rattle.std.proofs.Common.{arith, rules}
+use Rattle.std.proofs.Common.{arith}
 use Rattle.sheets.proofs.Served.{line-in, line-fits, turned_down, ended, sale-ended, sheets-in, served}
 use Rattle.sheets.proofs.hand_over.Goals as goal
 

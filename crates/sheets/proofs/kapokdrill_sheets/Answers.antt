@@ -1,5 +1,5 @@
 -- `sheets::kapokdrill_sheets` meets its contract: 8 is tested first.
-use Rattle.std.proofs.Common.{arith, rules}
+use Rattle.std.proofs.Common.{arith}
 use Rattle.sheets.proofs.Served.{too_short, long-enough}
 use Rattle.sheets.proofs.kapokdrill_sheets.Goals as goal
 

@@ -1,5 +1,5 @@
 -- `sheets::print_sheets` meets its contract: the engine on this crate's own memory, and what it left handed over.
-use Rattle.std.proofs.Common.{refl, rules}
+use Rattle.std.proofs.Common.{refl}
 use Rattle.sheets.proofs.Served.{own, left-of}
 use Rattle.sheets.proofs.print_sheets.Goals as goal
 

@@ -1,4 +1,4 @@
-use Rattle.std.proofs.Common.{rules, sym, length-take-le}
+use Rattle.std.proofs.Common.{sym, length-take-le}
 use Rattle.columns.specs.Entry.{bytes-in}
 use Rattle.splitter.proofs.main.Goals as goal
 

@@ -1,5 +1,5 @@
 -- `stretches::part` meets its contract.
-use Rattle.std.proofs.Common.{arith, ℕ, ◌+◌, ◌-◌, ◌≡◌, ap, take, drop, rules}
+use Rattle.std.proofs.Common.{arith, ℕ, ◌+◌, ◌-◌, ◌≡◌, ap, take, drop}
 use Rattle.stretches.proofs.part.Goals as goal
 
 pub returns : goal.returns

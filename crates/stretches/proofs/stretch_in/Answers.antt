@@ -1,6 +1,5 @@
 -- `stretches::stretch_in` meets its contract.
-use Rattle.std.proofs.Common.{arith, refl, sym, ◌-◌, rules}
-use Rattle.std.proofs.lemmas.Bool.{not-true, not-false}
+use Rattle.std.proofs.Common.{arith, refl, sym, ◌-◌}
 use Rattle.stretches.proofs.Handing.{alike, short_none, zero-none, high-none, past-none, part-some}
 use Rattle.stretches.proofs.stretch_in.Goals as goal
 

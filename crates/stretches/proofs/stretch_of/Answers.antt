@@ -1,5 +1,5 @@
 -- `stretches::stretch_of` meets its contract.
-use Rattle.std.proofs.Common.{sym, ◌∙◌, ap, rules}
+use Rattle.std.proofs.Common.{sym, ◌∙◌, ap}
 use Rattle.model.specs.Memory.{handed_out}
 use Rattle.model.specs.Lent.{net_tables}
 use Rattle.stretches.proofs.Handing.{alike, backed-loaded, backed-present, handed-present, handed-loaded}

@@ -1,7 +1,6 @@
 -- `begin`: one vertex more has the sum of its own terms.
-use Rattle.std.proofs.Common.{ℕ, ◌≤◌, ◌-◌, subst, ◌≡◌, arith}
-use Rattle.best_contraction.specs.RatingLaw.{own-ok}
-use Rattle.best_contraction.specs.BoundLaw.{OwnSums, sums_none, sums-more}
+use Rattle.std.proofs.Common.{◌≤◌, ◌-◌, ◌≡◌}
+use Rattle.best_contraction.specs.BoundLaw.{OwnSums}
 use Rattle.best_contraction.proofs.bounds.begin.Given as goal
 
 abbrev pub invariant-loop-i : goal.invariant-loop-i

@@ -1,7 +1,5 @@
-use Rattle.std.proofs.Common.{arith}
 use Rattle.incidence.specs.On.{along-next, gave}
-use Rattle.best_contraction.specs.Bound.{rise_of, Risen}
-use Rattle.best_contraction.specs.BoundLaw.{nets-none, nets-take, nets-more, lifted}
+use Rattle.best_contraction.specs.BoundLaw.{nets-none, nets-take, nets-more}
 use Rattle.best_contraction.proofs.bounds.lift.Goals as goal
 
 pub loop-e-init : goal.loop-e-init

@@ -1,4 +1,4 @@
-use Rattle.std.proofs.Common.{ℕ, ◌≤◌, ◌-◌, ◌*◌, subst, ◌≡◌, arith, rules}
+use Rattle.std.proofs.Common.{ℕ, ◌≤◌, ◌-◌, ◌*◌, subst, ◌≡◌, arith}
 use Rattle.laws.specs.Occurrence.{occ}
 use Rattle.best_contraction.specs.Bound.{rise_at, Risen}
 use Rattle.best_contraction.specs.BoundLaw.{lift-none, lift-more, lift-still, share-small}

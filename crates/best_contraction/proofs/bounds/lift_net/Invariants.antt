@@ -1,8 +1,7 @@
 -- `lift_net`: nothing is added, or the bounds are raised by what the pins seen so far add.
-use Rattle.std.proofs.Common.{ℕ, ◌≤◌, ◌-◌, ◌*◌, subst, ◌≡◌, arith, rules}
+use Rattle.std.proofs.Common.{◌≤◌, ◌-◌, ◌*◌, ◌≡◌}
 use Rattle.laws.specs.Occurrence.{occ}
 use Rattle.best_contraction.specs.Bound.{rise_at, Risen}
-use Rattle.best_contraction.specs.BoundLaw.{lift-none, lift-more, lift-still, share-small}
 use Rattle.best_contraction.proofs.bounds.lift_net.Given as goal
 
 abbrev pub invariant-loop-i : goal.invariant-loop-i

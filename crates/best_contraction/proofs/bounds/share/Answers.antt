@@ -1,5 +1,5 @@
 -- `share`: one case for each test.
-use Rattle.std.proofs.Common.{arith, rules}
+use Rattle.std.proofs.Common.{arith}
 use Rattle.best_contraction.specs.BoundLaw.{share-late, share-apart, share-near}
 use Rattle.best_contraction.proofs.bounds.share.Goals as goal
 

@@ -1,7 +1,5 @@
 use Rattle.std.proofs.Common.{refl}
-use Rattle.best_contraction.specs.Rating.{Blank, score_of}
-use Rattle.best_contraction.specs.PartTop.{Topped}
-use Rattle.best_contraction.specs.Settling.{Settling, settling, effort, effort-less, settled}
+use Rattle.best_contraction.specs.Settling.{settling, effort-less, settled}
 use Rattle.best_contraction.proofs.join.best_join.Goals as goal
 
 pub set_tops-requires : goal.set_tops-requires

@@ -1,8 +1,7 @@
 -- `best_join`: bounds stay bounds, tops stay tops, and each rating lowers one bound or ends the search.
-use Rattle.std.proofs.Common.{refl}
 use Rattle.best_contraction.specs.Rating.{Blank, score_of}
 use Rattle.best_contraction.specs.PartTop.{Topped}
-use Rattle.best_contraction.specs.Settling.{Settling, settling, effort, effort-less, settled}
+use Rattle.best_contraction.specs.Settling.{Settling, effort}
 use Rattle.best_contraction.proofs.join.best_join.Given as goal
 
 abbrev pub invariant-loop-s : goal.invariant-loop-s

@@ -1,7 +1,6 @@
 -- `clear`: the places up to i are 0.
-use Rattle.std.proofs.Common.{ℕ, ◌≤◌, ◌-◌, subst, ◌≡◌, arith}
+use Rattle.std.proofs.Common.{◌≤◌, ◌-◌, ◌≡◌}
 use Rattle.best_contraction.specs.Rating.{Cleared}
-use Rattle.best_contraction.specs.RatingLaw.{cleared-none, cleared_more}
 use Rattle.best_contraction.proofs.join.clear.Given as goal
 
 abbrev pub invariant-loop-i : goal.invariant-loop-i

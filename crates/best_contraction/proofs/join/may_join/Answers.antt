@@ -1,5 +1,5 @@
 -- `may_join`: one case for each test.
-use Rattle.std.proofs.Common.{arith, rules}
+use Rattle.std.proofs.Common.{arith}
 use Rattle.best_contraction.specs.PartnerLaw.{fits-early, fits-apart, fits-heavy, fits-left}
 use Rattle.best_contraction.proofs.join.may_join.Goals as goal
 

@@ -1,5 +1,5 @@
 -- `weigh_four`: none of the four rates higher, or each is weighed.
-use Rattle.std.proofs.Common.{arith, rules}
+use Rattle.std.proofs.Common.{arith}
 use Rattle.best_contraction.specs.PartnerLaw.{select_kept}
 use Rattle.best_contraction.proofs.join.weigh_four.Goals as goal
 

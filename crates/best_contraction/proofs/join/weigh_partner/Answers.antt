@@ -1,5 +1,5 @@
 -- `weigh_partner`: a vertex that rates no higher, one that passes the tests, and one that fails them.
-use Rattle.std.proofs.Common.{arith, sym, ◌∙◌, rules}
+use Rattle.std.proofs.Common.{arith, sym, ◌∙◌}
 use Rattle.best_contraction.specs.Rating.{fits}
 use Rattle.best_contraction.specs.PartnerLaw.{weighed-low, weighed-fit, weighed-unfit}
 use Rattle.best_contraction.proofs.join.weigh_partner.Goals as goal

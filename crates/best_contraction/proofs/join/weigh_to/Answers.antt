@@ -1,4 +1,4 @@
-use Rattle.std.proofs.Common.{ℕ, ◌≤◌, ◌-◌, ◌≡◌, ap, ◌∙◌, get_or, arith}
+use Rattle.std.proofs.Common.{◌≤◌, ◌-◌, ◌≡◌, ap, ◌∙◌, get_or, arith}
 use Rattle.best_contraction.specs.Rating.{fits, score_in}
 use Rattle.best_contraction.specs.PartnerLaw.{top_to, select-more}
 use Rattle.best_contraction.proofs.join.weigh_to.Goals as goal

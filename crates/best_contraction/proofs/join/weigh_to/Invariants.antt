@@ -1,7 +1,7 @@
 -- `weigh_to`: the best of the vertices up to y.
-use Rattle.std.proofs.Common.{ℕ, ◌≤◌, ◌-◌, ◌≡◌, ap, ◌∙◌, get_or, arith}
+use Rattle.std.proofs.Common.{◌≤◌, ◌-◌, ◌≡◌, ◌∙◌, get_or}
 use Rattle.best_contraction.specs.Rating.{fits, score_in}
-use Rattle.best_contraction.specs.PartnerLaw.{top_to, select-more}
+use Rattle.best_contraction.specs.PartnerLaw.{top_to}
 use Rattle.best_contraction.proofs.join.weigh_to.Given as goal
 
 abbrev pub invariant-loop-y : goal.invariant-loop-y

@@ -1,4 +1,3 @@
-use Rattle.std.proofs.Common.{arith}
 use Rattle.incidence.specs.On.{along-next, gave}
 use Rattle.best_contraction.specs.RatingLaw.{row-first, row-stretch, row_more}
 use Rattle.best_contraction.proofs.rating.accumulate.Goals as goal

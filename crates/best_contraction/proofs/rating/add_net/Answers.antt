@@ -1,4 +1,4 @@
-use Rattle.std.proofs.Common.{ℕ, ◌≤◌, ◌-◌, ◌*◌, subst, ◌≡◌, arith, rules}
+use Rattle.std.proofs.Common.{ℕ, ◌≤◌, ◌-◌, ◌*◌, subst, ◌≡◌, arith}
 use Rattle.laws.specs.Occurrence.{occ}
 use Rattle.best_contraction.specs.Rating.{Raised}
 use Rattle.best_contraction.specs.RatingLaw.{net-none, net-room, net-more}

@@ -1,8 +1,7 @@
 -- `add_net`: the pins seen so far have the term.
-use Rattle.std.proofs.Common.{ℕ, ◌≤◌, ◌-◌, ◌*◌, subst, ◌≡◌, arith, rules}
+use Rattle.std.proofs.Common.{◌≤◌, ◌-◌, ◌*◌, ◌≡◌}
 use Rattle.laws.specs.Occurrence.{occ}
 use Rattle.best_contraction.specs.Rating.{Raised}
-use Rattle.best_contraction.specs.RatingLaw.{net-none, net-room, net-more}
 use Rattle.best_contraction.proofs.rating.add_net.Given as goal
 
 abbrev pub invariant-loop-i : goal.invariant-loop-i

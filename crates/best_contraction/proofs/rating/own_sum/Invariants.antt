@@ -1,7 +1,6 @@
-use Rattle.std.proofs.Common.{arith, ◌≡◌, refl, ◌∙◌, ap, rules, ◌≤◌, ◌<◌, ◌-◌}
+use Rattle.std.proofs.Common.{◌≡◌, ◌∙◌, ◌≤◌, ◌<◌, ◌-◌}
 use Rattle.incidence.specs.On.{Along}
 use Rattle.best_contraction.specs.Rating.{own_sum}
-use Rattle.best_contraction.specs.RatingLaw.{own-none, own-more, own_room}
 use Rattle.best_contraction.proofs.rating.own_sum.Given as goal
 
 abbrev pub invariant-loop-e : goal.invariant-loop-e

@@ -1,4 +1,4 @@
-use Rattle.std.proofs.Common.{arith, rules}
+use Rattle.std.proofs.Common.{arith}
 use Rattle.best_contraction.specs.RatingLaw.{term-none, term-some}
 use Rattle.best_contraction.proofs.rating.term.Goals as goal
 

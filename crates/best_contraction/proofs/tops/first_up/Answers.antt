@@ -1,4 +1,4 @@
-use Rattle.std.proofs.Common.{ℕ, ◌≤◌, ◌<◌, ◌-◌, get_or, arith, refl}
+use Rattle.std.proofs.Common.{◌≤◌, ◌<◌, ◌-◌, arith, refl}
 use Rattle.best_contraction.specs.PartTop.{up_none, up_more, up-last}
 use Rattle.best_contraction.proofs.tops.first_up.Goals as goal
 

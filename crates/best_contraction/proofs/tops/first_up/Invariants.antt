@@ -1,6 +1,5 @@
 -- `first_up`: the bounds passed over are below the top.
-use Rattle.std.proofs.Common.{ℕ, ◌≤◌, ◌<◌, ◌-◌, get_or, arith, refl}
-use Rattle.best_contraction.specs.PartTop.{up_none, up_more, up-last}
+use Rattle.std.proofs.Common.{ℕ, ◌≤◌, ◌<◌, ◌-◌, get_or}
 use Rattle.best_contraction.proofs.tops.first_up.Given as goal
 
 abbrev pub invariant-loop-y : goal.invariant-loop-y

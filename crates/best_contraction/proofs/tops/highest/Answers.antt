@@ -1,5 +1,5 @@
 -- `highest`: in the part of the highest top, the first vertex that is up to it.
-use Rattle.std.proofs.Common.{ℕ, ◌-◌, ◌*◌, ◌<◌, ◌+◌, ◌/◌, ◌≡◌, get_or, arith, refl, sym, subst, rules}
+use Rattle.std.proofs.Common.{ℕ, ◌-◌, ◌*◌, ◌<◌, ◌+◌, ◌/◌, ◌≡◌, get_or, arith, refl, sym, subst}
 use Rattle.best_contraction.specs.PartTop.{TopOf, FirstUp, highest-of}
 use Rattle.best_contraction.proofs.tops.highest.Goals as goal
 

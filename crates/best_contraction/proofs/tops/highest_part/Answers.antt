@@ -1,4 +1,4 @@
-use Rattle.std.proofs.Common.{ℕ, ◌≤◌, ◌-◌, refl, subst, ◌≡◌, get_or, arith, rules}
+use Rattle.std.proofs.Common.{ℕ, ◌≤◌, ◌-◌, refl, subst, ◌≡◌, arith}
 use Rattle.best_contraction.specs.Bound.{Highest}
 use Rattle.best_contraction.specs.PartTop.{highest-one, highest-more}
 use Rattle.best_contraction.proofs.tops.highest_part.Goals as goal

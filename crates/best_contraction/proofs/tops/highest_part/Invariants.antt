@@ -1,7 +1,6 @@
 -- `highest_part`: the first of the highest among the parts seen.
-use Rattle.std.proofs.Common.{ℕ, ◌≤◌, ◌-◌, refl, subst, ◌≡◌, get_or, arith, rules}
+use Rattle.std.proofs.Common.{◌≤◌, ◌-◌, ◌≡◌, get_or}
 use Rattle.best_contraction.specs.Bound.{Highest}
-use Rattle.best_contraction.specs.PartTop.{highest-one, highest-more}
 use Rattle.best_contraction.proofs.tops.highest_part.Given as goal
 
 abbrev pub invariant-loop-i : goal.invariant-loop-i

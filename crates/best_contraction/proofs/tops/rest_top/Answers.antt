@@ -1,4 +1,4 @@
-use Rattle.std.proofs.Common.{ℕ, ◌≤◌, ◌-◌, ◌+◌, arith, ◌≡◌, refl, subst, rules}
+use Rattle.std.proofs.Common.{ℕ, ◌≤◌, ◌-◌, ◌+◌, arith, ◌≡◌, refl, subst}
 use Rattle.best_contraction.specs.PartTop.{TopOf, larger-max, top-none, top_one, top-join}
 use Rattle.best_contraction.proofs.tops.rest_top.Goals as goal
 

@@ -1,6 +1,6 @@
 -- `rest_top`: one entry more.
-use Rattle.std.proofs.Common.{ℕ, ◌≤◌, ◌-◌, ◌+◌, arith, ◌≡◌, refl, subst, rules}
-use Rattle.best_contraction.specs.PartTop.{TopOf, top-none, top_one, top-join}
+use Rattle.std.proofs.Common.{◌≤◌, ◌-◌, ◌+◌, ◌≡◌}
+use Rattle.best_contraction.specs.PartTop.{TopOf}
 use Rattle.best_contraction.proofs.tops.rest_top.Given as goal
 
 abbrev pub invariant-loop-y : goal.invariant-loop-y

@@ -1,5 +1,5 @@
 -- `set_bound`: the tops of the other parts stay.
-use Rattle.std.proofs.Common.{ℕ, ◌-◌, ◌*◌, ◌/◌, set, refl, subst, rules}
+use Rattle.std.proofs.Common.{ℕ, ◌-◌, ◌*◌, ◌/◌, set, refl, subst}
 use Rattle.best_contraction.specs.PartTop.{TopOf, tops-set}
 use Rattle.best_contraction.proofs.tops.set_bound.Goals as goal
 

@@ -1,5 +1,5 @@
 -- `best_in_part`: the part is searched, or its peak is not above the best gain and it is passed over.
-use Rattle.std.proofs.Common.{arith, ◌≡◌, sym, ◌∙◌, ap₂, subst, rules, ℕ, ◌+◌, ◌*◌, ◌-◌, get_or, ℤ, pos}
+use Rattle.std.proofs.Common.{arith, ◌≡◌, sym, ◌∙◌, ap₂, subst, ℕ, ◌+◌, ◌*◌, ◌-◌, ℤ}
 use Rattle.std.specs.Int.Signed.{lt_z}
 use Rattle.index.specs.Indexed.{kept-none, kept-wide}
 use Rattle.laws.specs.Integer.{read32}

@@ -1,10 +1,7 @@
 -- `best_open`: one part more.
-use Rattle.std.proofs.Common.{Option, arith, ◌≡◌, sym, ap, ◌∙◌, subst, rules, ℕ, ◌≤◌, ◌-◌, ◌+◌, ◌*◌}
-use Rattle.model.specs.Search.{best_pair}
-use Rattle.index.specs.Indexed.{Kept, kept-none, kept_then}
-use Rattle.best_move.specs.declared.open.Move.{Move}
-use Rattle.best_move.specs.Open.{Leads, Chosen, best_to, gain_in, open_in}
-use Rattle.best_move.specs.OpenLaw.{no_lead, none_seen, lead-in, all-candidates}
+use Rattle.std.proofs.Common.{◌≡◌, ◌∙◌, ◌≤◌, ◌-◌, ◌+◌, ◌*◌}
+use Rattle.index.specs.Indexed.{Kept}
+use Rattle.best_move.specs.Open.{Leads, best_to, gain_in, open_in}
 use Rattle.best_move.specs.Peak.{lesser}
 use Rattle.best_move.specs.Rising.{Rooms}
 use Rattle.best_move.proofs.open.best_open.Given as goal

@@ -1,5 +1,5 @@
 -- `best_with`: the row is made right, and its first block with room taken.
-use Rattle.std.proofs.Common.{subst, rules, ℕ, ◌-◌, ◌+◌, get_or, arith}
+use Rattle.std.proofs.Common.{subst, ℕ, ◌-◌, ◌+◌, get_or, arith}
 use Rattle.index.specs.Row.{written_as}
 use Rattle.index.specs.Indexed.{row_for, row_on, kept_row}
 use Rattle.best_move.specs.Open.{Leads, best_in_row, gain_in, may_go}

@@ -2,9 +2,7 @@ use Rattle.std.proofs.Common.{arith, refl, subst, ◌∙◌, to_z, of_z, w64}
 use Rattle.laws.specs.Integer.{read32}
 use Rattle.best_move.specs.Open.{Leads}
 use Rattle.best_move.specs.OpenLaw.{read64, le-not-lt}
-use Rattle.guarantees.specs.Ranked.{ranked_by}
-use Rattle.index.specs.Row.{gain_at}
-use Rattle.best_move.specs.First.{Shut, goes, block-other, shut-more, first_found, first-low, first-missing}
+use Rattle.best_move.specs.First.{block-other, shut-more, first_found, first-low, first-missing}
 use Rattle.best_move.proofs.open.first_open.Goals as goal
 
 pub loop-j-init : goal.loop-j-init

@@ -1,12 +1,8 @@
 -- `first_open`: none of the first j blocks has room.
-use Rattle.std.proofs.Common.{arith, ◌≤◌, ◌-◌, refl, subst, rules}
-use Rattle.std.proofs.lemmas.Bool.{not-true}
-use Rattle.laws.specs.Integer.{read32}
-use Rattle.best_move.specs.Open.{Leads}
-use Rattle.best_move.specs.OpenLaw.{read64}
+use Rattle.std.proofs.Common.{◌≤◌, ◌-◌}
 use Rattle.guarantees.specs.Ranked.{ranked_by}
 use Rattle.index.specs.Row.{gain_at}
-use Rattle.best_move.specs.First.{Shut, goes, block-other, shut-more, first_found, first-low, first-missing}
+use Rattle.best_move.specs.First.{Shut, goes}
 use Rattle.best_move.proofs.open.first_open.Given as goal
 
 abbrev pub invariant-loop-j : goal.invariant-loop-j

@@ -1,4 +1,3 @@
-use Rattle.std.proofs.Common.{rules}
 use Rattle.best_move.specs.OpenLaw.{pair-some}
 use Rattle.best_move.proofs.open.pair_at.Goals as goal
 

@@ -1,6 +1,6 @@
-use Rattle.std.proofs.Common.{arith, ◌≡◌, rules, ◌≤◌, ◌-◌, ◌+◌, ◌*◌, w32, to_z}
+use Rattle.std.proofs.Common.{arith, ◌≡◌, ◌≤◌, ◌-◌, ◌+◌, ◌*◌}
 use Rattle.laws.specs.Integer.{read32}
-use Rattle.best_move.specs.Peak.{larger_max, Column, column-begins, column-rises, four-ends}
+use Rattle.best_move.specs.Peak.{larger_max, column-begins, column-rises, four-ends}
 use Rattle.best_move.proofs.peaks.four_peak.Goals as goal
 
 pub loop-x-init : goal.loop-x-init

@@ -1,7 +1,6 @@
 -- `four_peak`: one vertex more, in four columns.
-use Rattle.std.proofs.Common.{arith, ◌≡◌, rules, ◌≤◌, ◌-◌, ◌+◌, ◌*◌, w32, to_z}
-use Rattle.laws.specs.Integer.{read32}
-use Rattle.best_move.specs.Peak.{Column, column-begins, column-rises, four-ends}
+use Rattle.std.proofs.Common.{◌≡◌, ◌≤◌, ◌-◌, ◌+◌, ◌*◌}
+use Rattle.best_move.specs.Peak.{Column}
 use Rattle.best_move.proofs.peaks.four_peak.Given as goal
 
 abbrev pub invariant-loop-x : goal.invariant-loop-x

@@ -1,6 +1,6 @@
 use Rattle.std.proofs.Common.{arith, sym, subst, ◌*◌, ◌+◌, ◌≡◌}
 use Rattle.laws.specs.Integer.{read32}
-use Rattle.best_move.specs.Peak.{larger_max, lesser, PartPeak, fours-begin, fours-rise, fours-end}
+use Rattle.best_move.specs.Peak.{larger_max, PartPeak, fours-begin, fours-rise, fours-end}
 use Rattle.best_move.proofs.peaks.part_peak.Goals as goal
 
 pub returns-then-k-lt4 : goal.returns-then-k-lt4

@@ -1,5 +1,5 @@
 -- `raise`: one peak is raised to one gain.
-use Rattle.std.proofs.Common.{arith, rules}
+use Rattle.std.proofs.Common.{arith}
 use Rattle.laws.specs.Integer.{read32}
 use Rattle.best_move.specs.Peak.{larger_max, raised}
 use Rattle.best_move.proofs.peaks.raise.Goals as goal

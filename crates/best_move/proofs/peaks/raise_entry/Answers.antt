@@ -1,5 +1,5 @@
 -- `raise_entry`: two peaks are raised to one gain.
-use Rattle.std.proofs.Common.{◌≡◌, sym, subst, false, rules, ◌+◌, ◌*◌, get_or, ℤ, pos}
+use Rattle.std.proofs.Common.{◌≡◌, sym, subst, false, ◌+◌, ◌*◌, get_or, ℤ, pos}
 use Rattle.std.specs.Int.Signed.{lt_z}
 use Rattle.laws.specs.Integer.{read32}
 use Rattle.best_move.specs.Peak.{not_itself, both-raised}

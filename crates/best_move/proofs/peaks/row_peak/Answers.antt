@@ -1,4 +1,4 @@
-use Rattle.std.proofs.Common.{arith, ◌≡◌, sym, subst, ℕ, ◌≤◌, ◌-◌, ◌+◌, ℤ, w32, of_z, to_z, to_z-of_z}
+use Rattle.std.proofs.Common.{arith, ◌≡◌, sym, subst, ◌≤◌, ◌-◌, ◌+◌, ℤ, w32, of_z, to_z, to_z-of_z}
 use Rattle.laws.specs.Integer.{read32}
 use Rattle.best_move.specs.Peak.{larger_max, RowPeak, row-begins, row-rises}
 use Rattle.best_move.proofs.peaks.row_peak.Goals as goal

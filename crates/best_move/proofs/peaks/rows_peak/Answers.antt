@@ -1,4 +1,4 @@
-use Rattle.std.proofs.Common.{arith, ◌≡◌, sym, subst, ℕ, ◌≤◌, ◌-◌, ◌+◌, ℤ}
+use Rattle.std.proofs.Common.{arith, ◌≡◌, sym, subst, ◌≤◌, ◌-◌, ◌+◌, ℤ}
 use Rattle.laws.specs.Integer.{read32}
 use Rattle.best_move.specs.Peak.{PartPeak, part-begins, part-rises}
 use Rattle.best_move.proofs.peaks.rows_peak.Goals as goal

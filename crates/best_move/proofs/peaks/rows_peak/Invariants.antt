@@ -1,7 +1,6 @@
 -- `rows_peak`: one vertex more.
-use Rattle.std.proofs.Common.{arith, ◌≡◌, sym, subst, rules, ℕ, ◌≤◌, ◌-◌, ◌+◌, ℤ, w32, to_z}
-use Rattle.laws.specs.Integer.{read32}
-use Rattle.best_move.specs.Peak.{PartPeak, part-begins, part-rises}
+use Rattle.std.proofs.Common.{◌≡◌, ◌≤◌, ◌-◌, ◌+◌}
+use Rattle.best_move.specs.Peak.{PartPeak}
 use Rattle.best_move.proofs.peaks.rows_peak.Given as goal
 
 abbrev pub invariant-loop-x : goal.invariant-loop-x

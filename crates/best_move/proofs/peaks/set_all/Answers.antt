@@ -1,6 +1,6 @@
-use Rattle.std.proofs.Common.{arith, refl, w32, to_z, ◌-◌, ◌≤◌}
+use Rattle.std.proofs.Common.{arith, refl, ◌-◌, ◌≤◌}
 use Rattle.laws.specs.Integer.{read32}
-use Rattle.best_move.specs.Peak.{Levelled, level-begins, level-more, level-ends}
+use Rattle.best_move.specs.Peak.{level-begins, level-more, level-ends}
 use Rattle.best_move.proofs.peaks.set_all.Goals as goal
 
 pub loop-x-init : goal.loop-x-init

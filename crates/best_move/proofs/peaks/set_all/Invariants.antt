@@ -1,7 +1,6 @@
 -- `set_all`: one vertex more.
-use Rattle.std.proofs.Common.{arith, refl, w32, to_z, ◌-◌, ◌≤◌}
-use Rattle.laws.specs.Integer.{read32}
-use Rattle.best_move.specs.Peak.{Levelled, level-begins, level-more, level-ends}
+use Rattle.std.proofs.Common.{◌-◌, ◌≤◌}
+use Rattle.best_move.specs.Peak.{Levelled}
 use Rattle.best_move.proofs.peaks.set_all.Given as goal
 
 abbrev pub invariant-loop-x : goal.invariant-loop-x

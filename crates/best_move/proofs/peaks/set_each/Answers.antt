@@ -1,6 +1,6 @@
-use Rattle.std.proofs.Common.{arith, rules, ◌-◌, ◌≤◌, w32, to_z}
+use Rattle.std.proofs.Common.{arith, ◌-◌, ◌≤◌}
 use Rattle.laws.specs.Integer.{read32}
-use Rattle.best_move.specs.Peak.{larger_max, PartSet, each-begins, each-rises, each-ends}
+use Rattle.best_move.specs.Peak.{larger_max, each-begins, each-rises, each-ends}
 use Rattle.best_move.proofs.peaks.set_each.Goals as goal
 
 pub loop-x-init : goal.loop-x-init

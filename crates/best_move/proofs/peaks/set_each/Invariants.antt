@@ -1,7 +1,6 @@
 -- `set_each`: one vertex more.
-use Rattle.std.proofs.Common.{arith, rules, ◌-◌, ◌≤◌, w32, to_z}
-use Rattle.laws.specs.Integer.{read32}
-use Rattle.best_move.specs.Peak.{PartSet, each-begins, each-rises, each-ends}
+use Rattle.std.proofs.Common.{◌-◌, ◌≤◌}
+use Rattle.best_move.specs.Peak.{PartSet}
 use Rattle.best_move.proofs.peaks.set_each.Given as goal
 
 abbrev pub invariant-loop-x : goal.invariant-loop-x

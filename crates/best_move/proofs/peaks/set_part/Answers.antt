@@ -1,5 +1,5 @@
 -- `set_part`: all get the highest, or each its own.
-use Rattle.std.proofs.Common.{sym, subst, rules, ℤ}
+use Rattle.std.proofs.Common.{sym, subst, ℤ}
 use Rattle.laws.specs.Integer.{read32}
 use Rattle.best_move.specs.Peak.{PartPeak, PartSet, level-set}
 use Rattle.best_move.proofs.peaks.set_part.Goals as goal

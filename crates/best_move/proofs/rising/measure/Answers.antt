@@ -1,4 +1,4 @@
-use Rattle.std.proofs.Common.{arith, ◌≡◌, subst, rules, ℕ, ◌≤◌, ◌-◌}
+use Rattle.std.proofs.Common.{arith, ◌≡◌, subst, ℕ, ◌≤◌, ◌-◌}
 use Rattle.best_move.specs.Rising.{Rooms}
 use Rattle.best_move.specs.RisingLaw.{rooms-none, rooms-more}
 use Rattle.best_move.proofs.rising.measure.Goals as goal

@@ -1,7 +1,6 @@
 -- `measure`: the rooms of the first b blocks are set.
-use Rattle.std.proofs.Common.{arith, ◌≡◌, subst, rules, ℕ, ◌≤◌, ◌-◌}
+use Rattle.std.proofs.Common.{◌≡◌, ◌≤◌, ◌-◌}
 use Rattle.best_move.specs.Rising.{Rooms}
-use Rattle.best_move.specs.RisingLaw.{rooms-none, rooms-more}
 use Rattle.best_move.proofs.rising.measure.Given as goal
 
 abbrev pub invariant-loop-b : goal.invariant-loop-b

@@ -1,4 +1,4 @@
-use Rattle.std.proofs.Common.{arith, ◌≡◌, sym, subst, false, rules, ◌≤◌, ◌-◌, ◌+◌, ◌*◌, get_or, ℤ, pos, w32, to_z}
+use Rattle.std.proofs.Common.{arith, ◌≡◌, sym, subst, false, ◌≤◌, ◌-◌, ◌+◌, ◌*◌, get_or, ℤ, pos}
 use Rattle.std.specs.Int.Signed.{lt_z}
 use Rattle.laws.specs.Integer.{read32}
 use Rattle.best_move.specs.Rising.{Passed}

@@ -1,9 +1,6 @@
 -- `next_rising`: the candidates before bit j have no better pair.
-use Rattle.std.proofs.Common.{arith, ◌≡◌, sym, subst, false, rules, ◌≤◌, ◌-◌, ◌+◌, ◌*◌, get_or, ℤ, pos, w32, to_z}
-use Rattle.std.specs.Int.Signed.{lt_z}
-use Rattle.laws.specs.Integer.{read32}
+use Rattle.std.proofs.Common.{◌≡◌, ◌≤◌, ◌-◌, ◌+◌, ◌*◌}
 use Rattle.best_move.specs.Rising.{Passed}
-use Rattle.best_move.specs.RisingLaw.{passed_none, passed-more}
 use Rattle.best_move.proofs.rising.next_rising.Given as goal
 
 abbrev pub invariant-loop-j : goal.invariant-loop-j

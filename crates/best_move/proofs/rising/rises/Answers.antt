@@ -1,5 +1,5 @@
 -- `rises`: the blocks in use are among those tested.
-use Rattle.std.proofs.Common.{arith, subst, rules, ℤ}
+use Rattle.std.proofs.Common.{arith, subst, ℤ}
 use Rattle.laws.specs.Integer.{read32}
 use Rattle.best_move.specs.Rising.{NotBetter}
 use Rattle.best_move.specs.RisingLaw.{not-better-peak}

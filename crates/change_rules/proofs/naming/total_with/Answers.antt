@@ -1,4 +1,4 @@
-use Rattle.std.proofs.Common.{arith, rules, ◌+◌, ◌-◌, ◌*◌, ◌≤◌, ◌≡◌, refl, sym, ap, ◌∙◌, length, get_or}
+use Rattle.std.proofs.Common.{arith, ◌+◌, ◌-◌, ◌*◌, ◌≤◌, ◌≡◌, sym, ap, ◌∙◌, get_or}
 use Rattle.laws.specs.Sum.{sum-zero, sum_step}
 use Rattle.renewal.specs.Putting.{total_with}
 use Rattle.change_rules.proofs.naming.total_with.Goals as goal

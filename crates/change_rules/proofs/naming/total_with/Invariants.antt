@@ -1,6 +1,5 @@
 -- `total_with` meets its contract: the sum over the buyers below e.
-use Rattle.std.proofs.Common.{arith, rules, ◌+◌, ◌-◌, ◌*◌, ◌≤◌, ◌≡◌, refl, sym, ap, ◌∙◌, length, get_or}
-use Rattle.laws.specs.Sum.{sum-zero, sum_step}
+use Rattle.std.proofs.Common.{◌+◌, ◌-◌, ◌*◌, ◌≤◌, ◌≡◌, ◌∙◌}
 use Rattle.renewal.specs.Putting.{total_with}
 use Rattle.change_rules.proofs.naming.total_with.Given as goal
 

@@ -1,5 +1,5 @@
 -- `refuses_add` meets its contract: each arm is that of N's refusals in their order.
-use Rattle.std.proofs.Common.{arith, rules, refl, sym, ap, ◌∙◌, Bool, cond, not}
+use Rattle.std.proofs.Common.{arith, sym, ap, ◌∙◌, Bool, cond, not}
 use Rattle.change_rules.specs.Named.{all-each}
 use Rattle.change_rules.specs.Refusal.{in-9, in-16, in-known, in-22, in-23, in-last}
 use Rattle.change_rules.proofs.refusals.refuses_add.Goals as goal

@@ -1,5 +1,5 @@
 -- `refuses_withdraw` meets its contract: each arm is that of X's refusals in their order.
-use Rattle.std.proofs.Common.{arith, ◌≡◌, sym, ◌∙◌, ap, rules, not}
+use Rattle.std.proofs.Common.{arith, ◌≡◌, ◌∙◌, ap, not}
 use Rattle.change_rules.specs.Refusal.{known_in, out-9, out-16, out-10, out-0}
 use Rattle.change_rules.proofs.refusals.refuses_withdraw.Goals as goal
 

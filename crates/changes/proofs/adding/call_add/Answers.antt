@@ -1,5 +1,5 @@
 -- `call_add` meets its contract: a refused N leaves all as it was, an accepted one is what `place` makes of the tables, with the number that is next.
-use Rattle.std.proofs.Common.{arith, ◌≡◌, refl, sym, ap, ◌∙◌, rules, length}
+use Rattle.std.proofs.Common.{arith, ◌≡◌, refl, ap, ◌∙◌, length}
 use Rattle.refusal.specs.Number.{number-some, handed_on}
 use Rattle.model.specs.Machine.{says_n}
 use Rattle.change_rules.specs.Free.{next-is}

@@ -1,5 +1,5 @@
 -- `place` meets its contract: the lot's columns, the loaded marks with it, and the sale made anew from them.
-use Rattle.std.proofs.Common.{arith, ◌≡◌, refl, sym, ap, ◌∙◌, rules}
+use Rattle.std.proofs.Common.{arith, ◌≡◌, ◌∙◌}
 use Rattle.changes.specs.Adding.{place_in, seat-in, put-ok, put-can, put-index}
 use Rattle.changes.proofs.adding.place.Goals as goal
 

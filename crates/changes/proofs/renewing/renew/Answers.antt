@@ -1,5 +1,5 @@
 -- `renew` meets its contract: what `reopen` leaves, and all rows of the index made right on it.
-use Rattle.std.proofs.Common.{arith, ◌≡◌, sym, ◌∙◌, ap, rules}
+use Rattle.std.proofs.Common.{◌≡◌, ◌∙◌}
 use Rattle.changes.specs.Stands.{renew-rows}
 use Rattle.changes.proofs.renewing.renew.Goals as goal
 

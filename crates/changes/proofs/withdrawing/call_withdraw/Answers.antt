@@ -1,5 +1,5 @@
 -- `call_withdraw` meets its contract: a refused X leaves all as it was, an accepted one is what `withdraw` makes of the tables.
-use Rattle.std.proofs.Common.{arith, rules, ◌+◌, refl, sym, ap, ◌∙◌, length, set}
+use Rattle.std.proofs.Common.{arith, ◌+◌, refl, ap, ◌∙◌, length, set}
 use Rattle.refusal.specs.Number.{number-some, handed_on}
 use Rattle.model.specs.Machine.{says_x}
 use Rattle.changes.specs.Turning.{turns_refused, take-spares, lot-in, take-stands, accepted-X, refused-X, done-X}

@@ -1,5 +1,5 @@
 -- `withdraw` meets its contract: the lot's columns, the loaded marks without it, and the sale made anew from them.
-use Rattle.std.proofs.Common.{arith, ◌≡◌, sym, ◌∙◌, ap, rules}
+use Rattle.std.proofs.Common.{arith, ◌≡◌, ◌∙◌}
 use Rattle.changes.specs.Stands.{holding}
 use Rattle.changes.specs.Turning.{lot-in, take-can, take-index}
 use Rattle.changes.proofs.withdrawing.withdraw.Goals as goal

@@ -1,5 +1,5 @@
 -- `arrive`: one count rises, and its bit is set where there was none.
-use Rattle.std.proofs.Common.{◌+◌, ◌*◌, ◌-◌, get_or, lt-ltb, arith, ap, ◌∙◌, rules}
+use Rattle.std.proofs.Common.{◌+◌, ◌*◌, ◌-◌, get_or, lt-ltb, arith, ap, ◌∙◌}
 use Rattle.laws.specs.Choice.{one}
 use Rattle.connectivity.specs.Law.{step_set}
 use Rattle.connectivity.proofs.counts.arrive.Goals as goal

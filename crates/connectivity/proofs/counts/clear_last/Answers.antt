@@ -1,5 +1,4 @@
 -- `clear_last` by the law of a bit made by a shift of one or of nothing.
-use Rattle.std.proofs.Common.{arith, rules}
 use Rattle.connectivity.specs.Law.{clear-last}
 use Rattle.connectivity.proofs.counts.clear_last.Goals as goal
 

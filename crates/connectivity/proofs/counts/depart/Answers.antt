@@ -1,5 +1,5 @@
 -- `depart`: one count falls, and its bit is cleared where none is left.
-use Rattle.std.proofs.Common.{◌+◌, ◌*◌, ◌-◌, get_or, lt-ltb, arith, ap, ◌∙◌, rules}
+use Rattle.std.proofs.Common.{◌+◌, ◌*◌, ◌-◌, get_or, lt-ltb, arith, ap, ◌∙◌}
 use Rattle.laws.specs.Choice.{one}
 use Rattle.connectivity.specs.Law.{step_set}
 use Rattle.connectivity.proofs.counts.depart.Goals as goal

@@ -1,5 +1,4 @@
 -- `set_first` by the law of a bit made by a shift of one or of nothing.
-use Rattle.std.proofs.Common.{arith, rules}
 use Rattle.connectivity.specs.Law.{set_first}
 use Rattle.connectivity.proofs.counts.set_first.Goals as goal
 

@@ -1,5 +1,5 @@
 -- `when_none`: the quotient is 1 at 0 and else 0, so that the product is the weight or 0.
-use Rattle.std.proofs.Common.{arith, rules}
+use Rattle.std.proofs.Common.{arith}
 use Rattle.connectivity.specs.Share.{when-none, when-le}
 use Rattle.connectivity.proofs.halves.when_none.Goals as goal
 

@@ -1,5 +1,5 @@
 -- `share_of`: the difference of the halves.
-use Rattle.std.proofs.Common.{◌∙◌, arith, rules, ◌+◌, get_or}
+use Rattle.std.proofs.Common.{◌∙◌, arith, ◌+◌, get_or}
 use Rattle.laws.specs.Integer.{read32}
 use Rattle.connectivity.specs.Share.{share-is, when-le}
 use Rattle.connectivity.proofs.shares.share_of.Goals as goal

@@ -1,5 +1,5 @@
 -- `signed` by its definition, test by test.
-use Rattle.std.proofs.Common.{sym, ap, ◌∙◌, Bool}
+use Rattle.std.proofs.Common.{◌∙◌}
 use Rattle.laws.specs.Integer.{read32, negated_fits, negated-is}
 use Rattle.connectivity.specs.Laid.{signed}
 use Rattle.connectivity.proofs.shares.signed.Goals as goal

@@ -1,6 +1,6 @@
-use Rattle.std.proofs.Common.{◌≤◌, ◌-◌, arith, set, rules}
+use Rattle.std.proofs.Common.{◌≤◌, ◌-◌, arith}
 use Rattle.connectivity.specs.Laid.{pin-range, pin-block}
-use Rattle.connectivity.specs.Whole.{CountedPins, held_none, held-shows, held_more, count_room, count-all}
+use Rattle.connectivity.specs.Whole.{held_none, held-shows, held_more, count_room, count-all}
 use Rattle.connectivity.proofs.whole.count_pins.Goals as goal
 
 pub bounds-visited-e : goal.bounds-visited-e

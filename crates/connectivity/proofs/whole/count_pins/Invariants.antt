@@ -1,7 +1,6 @@
 -- `count_pins`: the first i pins are counted, and the mask shows them.
-use Rattle.std.proofs.Common.{◌≤◌, ◌-◌, arith, set, rules}
-use Rattle.connectivity.specs.Laid.{pin-range, pin-block}
-use Rattle.connectivity.specs.Whole.{CountedPins, held_none, held-shows, held_more, count_room, count-all}
+use Rattle.std.proofs.Common.{◌≤◌, ◌-◌, set}
+use Rattle.connectivity.specs.Whole.{CountedPins}
 use Rattle.connectivity.proofs.whole.count_pins.Given as goal
 
 abbrev pub invariant-loop-i : goal.invariant-loop-i

@@ -1,5 +1,5 @@
 -- `fill_pins`: the counts, then the gains.
-use Rattle.std.proofs.Common.{refl, rules}
+use Rattle.std.proofs.Common.{refl}
 use Rattle.connectivity.specs.Whole.{fill-shares, fill_done}
 use Rattle.connectivity.proofs.whole.fill_pins.Goals as goal
 

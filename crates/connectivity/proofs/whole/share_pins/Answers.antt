@@ -1,6 +1,5 @@
-use Rattle.std.proofs.Common.{◌≤◌, ◌-◌, false, arith, rules}
-use Rattle.connectivity.specs.Row.{row}
-use Rattle.connectivity.specs.Laid.{Laid, given, pin-range, pin-block}
+use Rattle.std.proofs.Common.{◌≤◌, ◌-◌, arith}
+use Rattle.connectivity.specs.Laid.{pin-range, pin-block}
 use Rattle.connectivity.specs.Whole.{share-none, share-all, share-ready, share-more}
 use Rattle.connectivity.proofs.whole.share_pins.Goals as goal
 

@@ -1,8 +1,7 @@
 -- `share_pins`: the first i pins have had their shares.
-use Rattle.std.proofs.Common.{◌≤◌, ◌-◌, false, arith, rules}
+use Rattle.std.proofs.Common.{◌≤◌, ◌-◌, false}
 use Rattle.connectivity.specs.Row.{row}
-use Rattle.connectivity.specs.Laid.{Laid, given, pin-range, pin-block}
-use Rattle.connectivity.specs.Whole.{share-none, share-all, share-ready, share-more}
+use Rattle.connectivity.specs.Laid.{Laid, given}
 use Rattle.connectivity.proofs.whole.share_pins.Given as goal
 
 abbrev pub invariant-loop-i : goal.invariant-loop-i

@@ -1,11 +1,9 @@
-use Rattle.std.proofs.Common.{ℕ, ◌+◌, ◌-◌, ap, ◌*◌, ◌≤◌, arith, ◌≡◌, refl, length}
+use Rattle.std.proofs.Common.{ℕ, ◌+◌, ◌-◌, ap, ◌*◌, ◌≤◌, arith, ◌≡◌, refl}
 use Rattle.std.proofs.lemmas.List.{length-replicate}
-use Rattle.index.specs.Indexed.{Kept, kept-none, kept_then}
+use Rattle.index.specs.Indexed.{kept-none, kept_then}
 use Rattle.incidence.specs.On.{on-blank}
-use Rattle.operations.specs.Tables.{tables}
 use Rattle.search_moves.specs.Tabled.{pins-ok}
-use Rattle.search_moves.specs.Rows.{RowsAre}
-use Rattle.cycle.specs.Refine.{Refining, stack-to, top-asks, part-asks, parts-few, refining-none, refining-more, refining-done}
+use Rattle.cycle.specs.Refine.{stack-to, top-asks, part-asks, parts-few, refining-none, refining-more, refining-done}
 use Rattle.cycle.proofs.refining.refine.Goals as goal
 
 pub fill_rows-requires : goal.fill_rows-requires

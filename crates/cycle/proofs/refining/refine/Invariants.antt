@@ -1,12 +1,9 @@
 -- `refine`: with i contractions left, what is left to undo leads to model's end; a walk's numbers are at most 1,024, so that the sums fit.
-use Rattle.std.proofs.Common.{ℕ, ◌+◌, ◌*◌, ◌≤◌, arith, ◌≡◌, refl, length}
-use Rattle.std.proofs.lemmas.List.{length-replicate}
-use Rattle.index.specs.Indexed.{Kept, kept-none, kept_then}
-use Rattle.incidence.specs.On.{on-blank}
+use Rattle.std.proofs.Common.{◌+◌, ◌*◌, ◌≤◌, ◌≡◌}
+use Rattle.index.specs.Indexed.{Kept}
 use Rattle.operations.specs.Tables.{tables}
-use Rattle.search_moves.specs.Tabled.{pins-ok}
 use Rattle.search_moves.specs.Rows.{RowsAre}
-use Rattle.cycle.specs.Refine.{Refining, stack-to, top-asks, part-asks, parts-few, refining-none, refining-more, refining-done}
+use Rattle.cycle.specs.Refine.{Refining}
 use Rattle.cycle.proofs.refining.refine.Given as goal
 
 abbrev pub invariant-loop-i : goal.invariant-loop-i

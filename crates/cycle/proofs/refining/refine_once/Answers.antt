@@ -1,5 +1,5 @@
 -- `refine_once`: the undo, with the rows of the nets made right, then the walk from the parted pair, which is on the board.
-use Rattle.std.proofs.Common.{arith, refl}
+use Rattle.std.proofs.Common.{refl}
 use Rattle.search_moves.specs.Rows.{rows-past}
 use Rattle.cycle.specs.Refine.{walk-asks, parts, rows-ask, rows-hold}
 use Rattle.cycle.proofs.refining.refine_once.Goals as goal

@@ -1,5 +1,5 @@
 -- `descend`: from the empty stack to the coarsest level, and back.
-use Rattle.std.proofs.Common.{arith, refl, rules}
+use Rattle.std.proofs.Common.{arith, refl}
 use Rattle.cycle.specs.Refine.{stack-to}
 use Rattle.cycle.specs.Whole.{coarsen-asks, refine-asks, levels}
 use Rattle.cycle.proofs.whole.descend.Goals as goal

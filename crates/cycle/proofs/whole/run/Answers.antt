@@ -1,5 +1,5 @@
 -- `run`: the levels, then P on the tables that they leave.
-use Rattle.std.proofs.Common.{arith, refl, rules}
+use Rattle.std.proofs.Common.{arith, refl}
 use Rattle.index.specs.Indexed.{kept_then}
 use Rattle.cycle.specs.Whole.{polish-asks, done}
 use Rattle.cycle.proofs.whole.run.Goals as goal

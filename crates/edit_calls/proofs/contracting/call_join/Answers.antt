@@ -1,5 +1,5 @@
 -- `call_join`: the refusal, or the contraction, after which two rows of the index are put right.
-use Rattle.std.proofs.Common.{arith, refl, sym, rules}
+use Rattle.std.proofs.Common.{arith, refl, sym}
 use Rattle.refusal.specs.Number.{number-some, handed_on}
 use Rattle.index.specs.Indexed.{right-same}
 use Rattle.edit_calls.specs.Called.{roomy, pushed-as, told_refused}

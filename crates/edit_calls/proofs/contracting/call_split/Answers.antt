@@ -1,5 +1,5 @@
 -- `call_split`: the refusal, or the undo, after which two rows of the index are put right.
-use Rattle.std.proofs.Common.{arith, refl, rules}
+use Rattle.std.proofs.Common.{arith, refl}
 use Rattle.index.specs.Indexed.{right-same}
 use Rattle.operations.specs.Join.{u-below, v_below}
 use Rattle.edit_calls.specs.Called.{roomy}

@@ -1,5 +1,5 @@
 -- `put_two_right`: one row after the other.
-use Rattle.std.proofs.Common.{refl, rules}
+use Rattle.std.proofs.Common.{refl}
 use Rattle.edit_calls.specs.Rows.{row_ok, two-right}
 use Rattle.edit_calls.proofs.contracting.put_two_right.Goals as goal
 

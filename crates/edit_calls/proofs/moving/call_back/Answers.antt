@@ -1,5 +1,5 @@
 -- `call_back`: B takes the latest move off the record, makes it back and puts the rows near it right.
-use Rattle.std.proofs.Common.{arith, rules}
+use Rattle.std.proofs.Common.{arith}
 use Rattle.index.specs.Indexed.{right-same}
 use Rattle.near_rows.specs.Still.{near-asks, near-keeps}
 use Rattle.edit_calls.specs.Called.{roomy}

@@ -1,5 +1,5 @@
 -- `call_move`: an accepted M works the halves out, records the move, makes it and puts the rows near it right.
-use Rattle.std.proofs.Common.{arith, refl, sym, rules}
+use Rattle.std.proofs.Common.{arith, refl, sym}
 use Rattle.refusal.specs.Number.{number-some, handed_on}
 use Rattle.index.specs.Indexed.{right-same}
 use Rattle.near_rows.specs.Still.{near-asks, near-keeps}

@@ -1,4 +1,4 @@
-use Rattle.std.proofs.Common.{arith, rules, ap, not}
+use Rattle.std.proofs.Common.{arith, ap, not}
 use Rattle.edit_calls.specs.Refusal.{known-range, join-9, join-11, join-10, join-13, join-0}
 use Rattle.edit_calls.proofs.refusals.refuses_join.Goals as goal
 

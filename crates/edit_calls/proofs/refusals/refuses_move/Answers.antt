@@ -1,4 +1,4 @@
-use Rattle.std.proofs.Common.{arith, rules, ◌-◌, ap, not}
+use Rattle.std.proofs.Common.{arith, ◌-◌, ap, not}
 use Rattle.edit_calls.specs.Refusal.{known-range, move-9, move-10, move-12, move-20, move-14, move-0}
 use Rattle.edit_calls.proofs.refusals.refuses_move.Goals as goal
 

@@ -1,4 +1,4 @@
-use Rattle.std.proofs.Common.{arith, rules, ap, not}
+use Rattle.std.proofs.Common.{arith, ap, not}
 use Rattle.edit_calls.specs.Refusal.{known-range, walk-9, walk-10, walk_0}
 use Rattle.edit_calls.proofs.refusals.refuses_walk.Goals as goal
 

@@ -1,5 +1,4 @@
-use Rattle.std.proofs.Common.{arith, rules, refl, sym, ◌∙◌}
-use Rattle.std.proofs.lemmas.Bool.{not-true, not-false}
+use Rattle.std.proofs.Common.{arith, refl, sym, ◌∙◌}
 use Rattle.model.specs.Catalogue.{main_limits}
 use Rattle.refusal.proofs.Numbers.{never-none}
 use Rattle.columns.specs.Entry.{long-is}

@@ -1,4 +1,4 @@
-use Rattle.std.proofs.Common.{rules, refl}
+use Rattle.std.proofs.Common.{refl}
 use Rattle.sale_list.specs.Lists.{idle}
 use Rattle.engine.proofs.listing.refused_list.Goals as goal
 

@@ -1,5 +1,5 @@
 -- `engine::net_pins::pins_of` meets its contract.
-use Rattle.std.proofs.Common.{arith, sym, ◌∙◌, ap, Bool, cond, length, rules}
+use Rattle.std.proofs.Common.{arith, sym, ◌∙◌, ap, Bool, cond, length}
 use Rattle.model.specs.Lent.{net_tables}
 use Rattle.stretches.specs.Stretch.{handed-fits, handed-part}
 use Rattle.engine.proofs.net_pins.pins_of.Goals as goal

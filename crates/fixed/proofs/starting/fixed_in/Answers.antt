@@ -1,5 +1,4 @@
-use Rattle.std.proofs.Common.{arith, ◌≡◌, ◌∙◌, length, ◌≤◌, ◌-◌}
-use Rattle.fixed.specs.Starting.{FixedIn}
+use Rattle.std.proofs.Common.{arith, ◌≡◌, ◌∙◌, ◌≤◌, ◌-◌}
 use Rattle.fixed.specs.Stacked.{stacked-none, stacked-more}
 use Rattle.fixed.proofs.starting.fixed_in.Goals as goal
 

@@ -1,6 +1,5 @@
-use Rattle.std.proofs.Common.{arith, ◌≡◌, ◌∙◌, length, ◌≤◌, ◌-◌}
+use Rattle.std.proofs.Common.{◌≡◌, ◌∙◌, length, ◌≤◌, ◌-◌}
 use Rattle.fixed.specs.Starting.{FixedIn}
-use Rattle.fixed.specs.Stacked.{stacked-none, stacked-more}
 use Rattle.fixed.proofs.starting.fixed_in.Given as goal
 
 abbrev pub invariant-loop-i : goal.invariant-loop-i

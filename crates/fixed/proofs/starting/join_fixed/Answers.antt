@@ -1,4 +1,4 @@
-use Rattle.std.proofs.Common.{sym, ◌∙◌, ap, rules, ℕ, ◌-◌}
+use Rattle.std.proofs.Common.{sym, ◌∙◌, ap, ℕ, ◌-◌}
 use Rattle.fixed.specs.Stacked.{joined_free, joined-fixed}
 use Rattle.fixed.proofs.starting.join_fixed.Goals as goal
 

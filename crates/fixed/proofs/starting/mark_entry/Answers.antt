@@ -1,4 +1,3 @@
-use Rattle.std.proofs.Common.{rules}
 use Rattle.fixed.specs.Column.{entered-yes, entered-no}
 use Rattle.fixed.proofs.starting.mark_entry.Goals as goal
 

@@ -1,5 +1,5 @@
-use Rattle.std.proofs.Common.{arith, ◌≡◌, refl, rules, ◌≤◌, ◌-◌}
-use Rattle.fixed.specs.Column.{MarkedTo, marked-none, marked_more, marked_all}
+use Rattle.std.proofs.Common.{arith, ◌≡◌, refl, ◌≤◌, ◌-◌}
+use Rattle.fixed.specs.Column.{marked-none, marked_more, marked_all}
 use Rattle.fixed.proofs.starting.mark_fixed.Goals as goal
 
 pub loop-x-init : goal.loop-x-init

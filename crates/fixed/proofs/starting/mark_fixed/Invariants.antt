@@ -1,5 +1,5 @@
-use Rattle.std.proofs.Common.{arith, ◌≡◌, refl, rules, ◌≤◌, ◌-◌}
-use Rattle.fixed.specs.Column.{MarkedTo, marked-none, marked_more, marked_all}
+use Rattle.std.proofs.Common.{◌≡◌, ◌≤◌, ◌-◌}
+use Rattle.fixed.specs.Column.{MarkedTo}
 use Rattle.fixed.proofs.starting.mark_fixed.Given as goal
 
 abbrev pub invariant-loop-x : goal.invariant-loop-x

@@ -1,5 +1,5 @@
 -- `hall_records::answering::core` meets its contract: too few records are 8; else the hall's promise on columns of its own, carried over to the records. Assumes nothing.
-use Rattle.std.proofs.Common.{refl, rules}
+use Rattle.std.proofs.Common.{refl}
 use Rattle.model.specs.HallLent.{hall_others}
 use Rattle.hall_records.specs.Entry.{short-answers, long-answers}
 use Rattle.hall_records.proofs.answering.core.Goals as goal

@@ -1,4 +1,4 @@
-use Rattle.std.proofs.Common.{◌≡◌, refl, subst, ◌∙◌, ℕ, ◌≤◌, ◌<◌, ◌-◌, arith, length, length-set, replicate, rules}
+use Rattle.std.proofs.Common.{◌≡◌, refl, subst, ◌∙◌, ℕ, ◌≤◌, ◌<◌, ◌-◌, arith, length-set, replicate}
 use Rattle.std.proofs.lemmas.List.{length-replicate}
 use Rattle.laws.specs.Choice.{one-le}
 use Rattle.records.specs.Fields.{blank}

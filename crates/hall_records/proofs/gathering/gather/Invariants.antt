@@ -1,9 +1,6 @@
 -- `hall_records::gathering::gather` meets its contract. The invariant: the records of all places below k where a lot stands are gathered. Assumes nothing.
-use Rattle.std.proofs.Common.{◌≡◌, refl, subst, ◌∙◌, ℕ, ◌≤◌, ◌<◌, ◌-◌, arith, length, length-set, replicate, rules}
-use Rattle.std.proofs.lemmas.List.{length-replicate}
-use Rattle.laws.specs.Choice.{one-le}
-use Rattle.records.specs.Fields.{blank}
-use Rattle.hall_records.specs.Gathered.{in_use, Gathered, gathered_none, gathered-more}
+use Rattle.std.proofs.Common.{◌≡◌, ◌∙◌, ◌≤◌, ◌<◌, ◌-◌, length}
+use Rattle.hall_records.specs.Gathered.{Gathered}
 use Rattle.hall_records.proofs.gathering.gather.Given as goal
 
 abbrev pub invariant-loop-k : goal.invariant-loop-k

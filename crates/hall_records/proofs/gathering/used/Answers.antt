@@ -1,5 +1,5 @@
 -- `hall_records::gathering::used` meets its contract. Assumes nothing.
-use Rattle.std.proofs.Common.{rules, lt-ltb, le-ltb, sym, ap}
+use Rattle.std.proofs.Common.{lt-ltb, le-ltb, sym, ap}
 use Rattle.laws.specs.Choice.{one}
 use Rattle.hall_records.proofs.gathering.used.Goals as goal
 

@@ -1,7 +1,6 @@
-use Rattle.std.proofs.Common.{arith, ◌≡◌, sym, ◌∙◌, ap, ◌-◌, ◌<◌, subst, true≢false, eqb-true, rules}
-use Rattle.std.proofs.lemmas.Bool.{not-false}
+use Rattle.std.proofs.Common.{arith, ◌≡◌, sym, ◌∙◌, ◌-◌, ◌<◌, subst, true≢false, eqb-true}
 use Rattle.index.specs.Row.{gain_at, row_at}
-use Rattle.index.specs.Checked.{OrderedTo, Last, ordered-none, ordered-more, last_none, last_more, last-ahead, row-right}
+use Rattle.index.specs.Checked.{OrderedTo, ordered-none, ordered-more, last_none, last_more, last-ahead, row-right}
 use Rattle.index.proofs.order.in_order.Goals as goal
 
 pub loop-j-init : goal.loop-j-init

@@ -1,8 +1,7 @@
 -- `in_order`: the first j places hold other blocks in order, and `last` is the number of the last of them.
-use Rattle.std.proofs.Common.{arith, ◌≡◌, sym, ◌∙◌, ap, ◌-◌, ◌<◌, subst, true≢false, eqb-true, rules}
-use Rattle.std.proofs.lemmas.Bool.{not-false}
-use Rattle.index.specs.Row.{gain_at, row_at}
-use Rattle.index.specs.Checked.{OrderedTo, Last, ordered-none, ordered-more, last_none, last_more, last-ahead, row-right}
+use Rattle.std.proofs.Common.{◌≡◌, ◌∙◌, ◌-◌, ◌<◌}
+use Rattle.index.specs.Row.{gain_at}
+use Rattle.index.specs.Checked.{OrderedTo, Last}
 use Rattle.index.proofs.order.in_order.Given as goal
 
 abbrev pub invariant-loop-j : goal.invariant-loop-j

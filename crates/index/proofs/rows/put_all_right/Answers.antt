@@ -1,5 +1,5 @@
-use Rattle.std.proofs.Common.{arith, ◌+◌, ◌-◌, rules}
-use Rattle.index.specs.Indexed.{RightTo, right-none, right-more, right-all}
+use Rattle.std.proofs.Common.{arith, ◌+◌, ◌-◌}
+use Rattle.index.specs.Indexed.{right-none, right-more, right-all}
 use Rattle.index.proofs.rows.put_all_right.Goals as goal
 
 pub loop-x-init : goal.loop-x-init

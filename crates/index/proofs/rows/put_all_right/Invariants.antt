@@ -1,6 +1,6 @@
 -- `put_all_right`: the rows of the vertices below x are right.
-use Rattle.std.proofs.Common.{arith, ◌+◌, ◌-◌, rules}
-use Rattle.index.specs.Indexed.{RightTo, right-none, right-more, right-on, right-all}
+use Rattle.std.proofs.Common.{◌+◌, ◌-◌}
+use Rattle.index.specs.Indexed.{RightTo}
 use Rattle.index.proofs.rows.put_all_right.Given as goal
 
 abbrev pub invariant-loop-x : goal.invariant-loop-x

@@ -1,5 +1,4 @@
 -- `put_right`: nothing to do, or a row set.
-use Rattle.std.proofs.Common.{rules}
 use Rattle.index.specs.Row.{rewritten-none}
 use Rattle.index.proofs.rows.put_right.Goals as goal
 

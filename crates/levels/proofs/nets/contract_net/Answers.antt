@@ -1,5 +1,5 @@
 -- `contract_net`: v goes, the list is relinked, and u comes where it was no pin.
-use Rattle.std.proofs.Common.{arith, ◌∙◌, rules}
+use Rattle.std.proofs.Common.{arith, ◌∙◌}
 use Rattle.levels.specs.ContractNet.{contract-sets, contract-sets-2, contract-both, contract-new, linked_of, linked-le, was-pin, was-none, distinct, in-v, both}
 use Rattle.connectivity.specs.Listed.{has-occ}
 use Rattle.levels.proofs.nets.contract_net.Goals as goal

@@ -1,5 +1,5 @@
 -- `split_net`: v comes with the list before the undo, and u goes with the list after it where it was no pin.
-use Rattle.std.proofs.Common.{arith, rules}
+use Rattle.std.proofs.Common.{arith}
 use Rattle.levels.specs.SplitNet.{split-sets, split-sets-2, split-both, split-new}
 use Rattle.levels.proofs.nets.split_net.Goals as goal
 

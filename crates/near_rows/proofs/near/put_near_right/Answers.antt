@@ -1,5 +1,5 @@
-use Rattle.std.proofs.Common.{arith, refl, ◌∙◌, rules, ◌≤◌, ◌-◌}
-use Rattle.near_rows.specs.Near.{Right, Mended, Done, NetDone, row-asks, tables-as, net-in, mended-none, mended-then, mended-row, nets-none, nets-more, near-right}
+use Rattle.std.proofs.Common.{arith, refl, ◌∙◌, ◌≤◌, ◌-◌}
+use Rattle.near_rows.specs.Near.{row-asks, tables-as, net-in, mended-none, mended-then, mended-row, nets-none, nets-more, near-right}
 use Rattle.incidence.specs.On.{along-next, gave}
 use Rattle.near_rows.proofs.near.put_near_right.Goals as goal
 

@@ -1,5 +1,4 @@
 -- `put_net_right`: nothing is asked of a net that has more pins in both blocks.
-use Rattle.std.proofs.Common.{rules}
 use Rattle.near_rows.specs.Near.{mended-none, net-calm}
 use Rattle.near_rows.proofs.near.put_net_right.Goals as goal
 

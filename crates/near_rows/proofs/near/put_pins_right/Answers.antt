@@ -1,5 +1,5 @@
-use Rattle.std.proofs.Common.{arith, ◌≡◌, ap, rules, ℕ, ◌-◌, ◌≤◌}
-use Rattle.near_rows.specs.Near.{Mended, PinsRight, row-asks, mended-none, mended-then, mended-row, pins-none, pins-more}
+use Rattle.std.proofs.Common.{arith, ◌≡◌, ap, ℕ, ◌-◌, ◌≤◌}
+use Rattle.near_rows.specs.Near.{row-asks, mended-none, mended-then, mended-row, pins-none, pins-more}
 use Rattle.near_rows.proofs.near.put_pins_right.Goals as goal
 
 pub loop-j-init : goal.loop-j-init

@@ -1,6 +1,6 @@
 -- `put_pins_right`: the rows of the first j pins are right, and rows that were right still are.
-use Rattle.std.proofs.Common.{arith, ◌≡◌, ap, rules, ℕ, ◌-◌, ◌≤◌}
-use Rattle.near_rows.specs.Near.{Mended, PinsRight, row-asks, mended-none, mended-then, mended-row, pins-none, pins-more}
+use Rattle.std.proofs.Common.{◌≡◌, ◌-◌, ◌≤◌}
+use Rattle.near_rows.specs.Near.{Mended, PinsRight}
 use Rattle.near_rows.proofs.near.put_pins_right.Given as goal
 
 abbrev pub invariant-loop-j : goal.invariant-loop-j

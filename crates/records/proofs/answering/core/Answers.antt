@@ -1,5 +1,5 @@
 -- `records::answering::core` meets its contract: too few records are 8; else the engine's promise on its own four tables, carried over to the records. Assumes nothing.
-use Rattle.std.proofs.Common.{arith, rules, ℕ, ◌≤◌, List, length, replicate}
+use Rattle.std.proofs.Common.{arith, ℕ, ◌≤◌, List, length, replicate}
 use Rattle.std.proofs.lemmas.List.{length-replicate}
 use Rattle.lines.specs.Line.{limits_of}
 use Rattle.model.specs.Memory.{long_memory}

@@ -1,5 +1,5 @@
 -- `call_all`: the refusal while a contraction stands, or the cycle.
-use Rattle.std.proofs.Common.{arith, rules}
+use Rattle.std.proofs.Common.{arith}
 use Rattle.index.specs.Indexed.{right-same, indexed-right, indexed-then}
 use Rattle.search_calls.specs.Cycling.{cycle-rows, refused-A, cycle-asks, accepted-A}
 use Rattle.search_calls.proofs.cycling.call_all.Goals as goal

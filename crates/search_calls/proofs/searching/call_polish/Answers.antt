@@ -1,5 +1,5 @@
 -- `call_polish`: a polish, and no move on the journal.
-use Rattle.std.proofs.Common.{arith, rules}
+use Rattle.std.proofs.Common.{arith}
 use Rattle.index.specs.Indexed.{indexed-right, indexed-then}
 use Rattle.search_calls.specs.Searching.{polish-rows, polish-asks, accepted-P}
 use Rattle.search_calls.proofs.searching.call_polish.Goals as goal

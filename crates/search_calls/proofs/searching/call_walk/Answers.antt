@@ -1,5 +1,5 @@
 -- `call_walk`: the refusal, or a walk, whose numbers are small.
-use Rattle.std.proofs.Common.{arith, refl, sym, ◌∙◌, rules}
+use Rattle.std.proofs.Common.{arith, refl, sym, ◌∙◌}
 use Rattle.refusal.specs.Number.{number-some, handed_on}
 use Rattle.index.specs.Indexed.{right-same, indexed-right, indexed-then}
 use Rattle.search_moves.specs.Rows.{rows_none}

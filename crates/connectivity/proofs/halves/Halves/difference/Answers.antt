@@ -1,5 +1,5 @@
 -- `difference`: both halves are read as signed numbers, and their difference is as small as the larger of them.
-use Rattle.std.proofs.Common.{ℕ, ◌^◌, ◌<◌, ◌≡◌, ap, ap₂, ◌∙◌, arith, rules, ℤ, pos, ◌-ℤ◌, w32, SFits, of_z, to_z, to_z-of_z}
+use Rattle.std.proofs.Common.{ℕ, ◌^◌, ◌<◌, ◌≡◌, ap, ap₂, ◌∙◌, arith, ℤ, pos, ◌-ℤ◌, w32, SFits, of_z, to_z, to_z-of_z}
 use Rattle.laws.specs.Integer.{read32, fits32, nat_abs-diff}
 use Rattle.connectivity.proofs.halves.Halves.difference.Goals as goal
 
