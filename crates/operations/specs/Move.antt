@@ -1,5 +1,5 @@
 -- A vertex goes to another block: what `go` needs and promises, and the proof that sound tables stay sound. Rests on Tables. Assumes nothing.
-use Rattle.std.specs.Prelude.{ℕ, ◌+◌, ◌*◌, ◌-◌, ◌<◌, ◌≤◌, ◌^◌, ◌≡◌, refl, Bool, true, false, ◌&&◌, ltb, set, ℤ, pos, nat_abs, ◌-ℤ◌}
+use Rattle.std.specs.Prelude.{ℕ, ◌+◌, ◌*◌, ◌-◌, ◌<◌, ◌≤◌, ◌^◌, ◌≡◌, refl, Bool, true, false, ◌&&◌, ltb, set, ℤ, pos, nat_abs, neg_ℤ, ◌+ℤ◌, ◌-ℤ◌}
 use Rattle.std.proofs.Math.Decide.{ℕ_discrete}
 use native.Mathlib.Omega.{arith}
 use Rattle.std.proofs.Math.Path.{sym, ap}
@@ -10,7 +10,7 @@ use Rattle.std.proofs.Math.Dec.{eqb}
 use Rattle.std.proofs.Math.ListN.{length, get_or, length-set}
 use Rattle.std.specs.Int.{w32}
 use Rattle.std.specs.Int.Signed.{mag}
-use Rattle.laws.specs.Integer.{abs_is, read32}
+use Rattle.laws.specs.Integer.{neg_is, abs_is, read32}
 use Rattle.laws.specs.Choice.{cond_yes, cond_no}
 use Rattle.laws.specs.Sum.{sum_to-term}
 use Rattle.laws.specs.Place.{place}
@@ -29,7 +29,7 @@ use Rattle.levels.specs.Running.{Running, running}
 use Rattle.levels.specs.Operations.{MoveNeeds, MoveDoes}
 use Rattle.levels.specs.Reading.{reads}
 use Rattle.operations.specs.Tables.{Tables, tables, running_of, Sound, Past, Keeps}
-use Rattle.operations.specs.Total.{Lowers}
+use Rattle.operations.specs.Total.{Lowers, Raises}
 
 -- a vertex's number from its place, which counts from 0
 pub back : (v : ℕ) → 1 ≤ v → v - 1 + 1 ≡ v
@@ -243,20 +243,20 @@ pub record Shifts (loads : List ℕ) (s t w : ℕ) : Type 0 where
   pub there : w ≤ get_or loads (s - 1) 0
   pub small : get_or (lessened loads s w) (t - 1) 0 + w < 2 ^ 64
 
--- what `transfer` asks for its two calls: of the running tables, and of the loads
+-- what `carry` asks for its two calls: of the running tables, and of the loads
 pub record Carries (R : Running) (loads weights : List ℕ) (n m k u t : ℕ) : Type 0 where
   pub moves : MoveNeeds R n m k u t
   pub shifts : Shifts loads (get_or R.blocks u 0) t (get_or weights u 0)
   pub in_blocks : u < length R.blocks
   pub in-weights : u < length weights
 
--- `transfer` has no use for the vertices above and for the loaded sizes: whatever these are
+-- `transfer` and `take_back` have no use for the vertices above and for the loaded sizes: whatever these are
 pub record CanGo (T : List ℕ → List ℕ → Tables) (u t : ℕ) : Type 0 where
   pub aboves : List ℕ
   pub loaded : List ℕ
   pub goes : Goes (T aboves loaded) u t
 
--- ---- what `transfer` gives on to `shift_load`, and takes from it
+-- ---- what `carry` gives on to `shift_load`, and takes from it
 module _ (loads : List ℕ) {a b w s t v : ℕ} (qa : a ≡ s) (qb : b ≡ t) (qw : w ≡ v) where
   pub shifts-as : Shifts loads s t v → Shifts loads a b w
   shifts-as h = rw (qa, qb, qw) h
@@ -264,7 +264,7 @@ module _ (loads : List ℕ) {a b w s t v : ℕ} (qa : a ≡ s) (qb : b ≡ t) (q
   pub shifted_as : {l : List ℕ} → l ≡ shifted loads a b w → l ≡ shifted loads s t v
   shifted_as h = rw (← qa, ← qb, ← qw) h
 
--- ---- what the calls of `transfer` need, and what they return, in the code's own variables
+-- ---- what the calls of `transfer` and `take_back` need, and what they return, in the code's own variables
 module _ {h : Hypergraph} {cs : List Contraction} {block : ℕ → ℕ} {T : Tables} (s : Sound h cs block T) {u t : ℕ} (o : Open T.blocks T.n T.k u t) where
   up-on : above cs (u + 1) ≡ 0
   up-on = on-board s u o.u-in o.on
@@ -280,6 +280,22 @@ module _ {h : Hypergraph} {cs : List Contraction} {block : ℕ → ℕ} {T : Tab
 
   pub lowered : {b total : ℕ} → b ≡ t → pos total ≡ pos T.total -ℤ to_z w32 (of_z w32 (at T.gains (16 * u + (b - 1)))) → pos total ≡ pos T.total -ℤ at T.gains (16 * u + (t - 1))
   lowered q d = rw (q, read32 (at T.gains (16 * u + (t - 1))) gain-small) at d
+
+  pub negated-needs : (b : ℕ) → b ≡ t → nat_abs (to_z w32 (of_z w32 (at T.gains (16 * u + (b - 1))))) < 2 ^ 31
+  negated-needs b q = rw (q, read32 (at T.gains (16 * u + (t - 1))) gain-small) (omega (arith, gain-bound))
+
+  -- g is the negated gain of the way back
+  module _ {b : ℕ} (g : ℤ) (q : b ≡ t) (e : g ≡ neg_ℤ (to_z w32 (of_z w32 (at T.gains (16 * u + (b - 1)))))) where
+    is-negated : to_z w32 (of_z w32 g) ≡ neg_ℤ (at T.gains (16 * u + (t - 1)))
+    is-negated =
+        let z : g ≡ neg_ℤ (at T.gains (16 * u + (t - 1))) = rw (q, read32 (at T.gains (16 * u + (t - 1))) gain-small) at e in
+        ap (λ (y : ℤ). to_z w32 (of_z w32 y)) z ∙ read32 (neg_ℤ (at T.gains (16 * u + (t - 1)))) (omega (arith, abs_is (neg_ℤ (at T.gains (16 * u + (t - 1)))), abs_is (at T.gains (16 * u + (t - 1))), neg_is (at T.gains (16 * u + (t - 1))), gain-bound))
+
+    pub raise-needs : Raises T.total (to_z w32 (of_z w32 g))
+    raise-needs = let l = lower-ok s u t o in rw is-negated (record { after = l.after; is = l.is; small = l.small })
+
+    pub raised : {total : ℕ} → pos total ≡ pos T.total +ℤ to_z w32 (of_z w32 g) → pos total ≡ pos T.total -ℤ at T.gains (16 * u + (t - 1))
+    raised d = rw is-negated at d
 
   pub carries : Carries (running_of T) T.loads T.weights T.n T.m T.k u t
   carries =

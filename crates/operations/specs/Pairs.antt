@@ -1,7 +1,8 @@
 -- The contraction stack and the move journal as two arrays and a length: one pair more or less, and zeros from the length on. Rests on
 -- model's Lent. Assumes nothing.
 use Rattle.std.specs.Prelude.{ℕ, zero, suc, ◌+◌, ◌-◌, ◌<◌, ◌≤◌, ◌≡◌, refl, List, [], ◌∷◌, ◌++◌, length, get_or, set, replicate}
-use Rattle.std.proofs.Common.{add-one, arith, ap, ap₂, ◌∙◌, get_or-set_same, get_or-set_other}
+use Rattle.std.proofs.Math.Decide.{ℕ_discrete}
+use Rattle.std.proofs.Common.{add-one, arith, sym, ap, ap₂, ◌∙◌, length-set, get_or-set_same, get_or-set_other}
 use Rattle.std.proofs.lemmas.List.{length-replicate, length-append, length-drop, length-take-le, get_or-take, get_or-drop, get_or-append_right}
 use Rattle.std.proofs.Math.ListN.{take, drop, get_or-append}
 use Rattle.laws.specs.Fold.{zeros-get}
@@ -48,6 +49,20 @@ pub record Lengthened (n : ℕ) (l l' : List ℕ) : Type 0 where
   pub len : length l' ≡ 1024
   pub kept : (i : ℕ) → i < n → get_or l' i 0 ≡ get_or l i 0
   pub zeros : (i : ℕ) → n ≤ i → get_or l' i 0 ≡ 0
+
+pub lengthened-none : (l : List ℕ) → Lengthened 0 l (replicate 1024 0)
+lengthened-none l = record { len = length-replicate {A = ℕ} 1024 0; kept = λ i q. absurd (omega arith); zeros = λ i q. zeros-get 1024 i }
+
+pub lengthened-more : {n : ℕ} {l l' : List ℕ} (x : ℕ) → n < 1024 → x ≡ get_or l n 0 → Lengthened n l l' → Lengthened (n + 1) l (set l' n x)
+lengthened-more {n} {l} {l'} x q e z = record {
+  len = length-set l' n x ∙ z.len;
+  kept = λ i r. go i r (ℕ_discrete i n);
+  zeros = λ i r. get_or-set_other l' n i x 0 (λ d. omega arith) ∙ z.zeros i (omega arith);
+}
+  where
+    go : (i : ℕ) → i < n + 1 → Dec (i ≡ n) → get_or (set l' n x) i 0 ≡ get_or l i 0
+    go i r (yes d) = ap (λ (k : ℕ). get_or (set l' n x) k 0) d ∙ get_or-set_same l' n x 0 (omega (arith, z.len)) ∙ e ∙ ap (λ (k : ℕ). get_or l k 0) (sym d)
+    go i r (no d) = get_or-set_other l' n i x 0 d ∙ z.kept i (omega arith)
 
 -- the first n entries before the zeros that stood from n on
 pub lengthened-by : {n : ℕ} {l h : List ℕ} → n ≤ length l → n ≤ 1024 → h ≡ take n l → Lengthened n l (h ++ drop n (replicate 1024 0))

@@ -3,3 +3,4 @@ pub mod Compare
 pub mod Lines
 pub mod Numbers
 pub mod Digits
+pub mod Signs

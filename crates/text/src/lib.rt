@@ -8,13 +8,20 @@ ghost use Rattle.std.proofs.Math.Seq.{slice};
 ghost use Rattle.model.specs.Grammar.{same, parts, fields, within, at as field_at};
 ghost use Rattle.model.specs.Report.{digits};
 ghost use Rattle.text.specs.Field.{FirstAt, Without, NineDigits, DigitsRead, NumberEnd, NumberSeen, FieldRead, Keeps, Kept, counted, form_of, Numbered};
-ghost use Rattle.text.specs.Output.{written, last_three};
+ghost use Rattle.text.specs.Output.{written, last_three, sign_of};
 
 // A number, and where its field ends.
 #[derive(Clone, Copy)]
 pub struct Number {
     pub value: u32,
     pub end: usize,
+}
+
+// A number's size, and on which side of 0 it lies.
+#[derive(Clone, Copy)]
+pub enum Sign {
+    Plus(u32),
+    Minus(u32),
 }
 
 // The first `sep` at or after `at` and before `end`, or `end`: a field ends there either way, so that callers have one case and no Option.
@@ -256,4 +263,15 @@ pub fn put_number(out: &mut [u8], at: usize, x: u32) -> usize
     }
     let n = put_number(out, at, x / 1000);
     put_three(out, n, x)
+}
+
+// A number's size and its side of 0.
+pub fn side(x: i32) -> Sign
+    ensures { result ≡ sign_of x }
+{
+    if x < 0 {
+        let m = (-1 - x) as u32;
+        return Sign::Minus(m + 1);
+    }
+    Sign::Plus(x as u32)
 }

@@ -14,7 +14,7 @@ use crate::kept::{Prefix, heaviest, keep};
 use best_move::open::{Move, best_open};
 use best_move::peaks::survey;
 use operations::board::Board;
-use operations::moves::transfer;
+use operations::moves::take_back;
 use search_moves::marks::{mark_vertex, spread};
 use search_moves::peaks::shift;
 
@@ -219,7 +219,7 @@ fn rewind(
     let mut t = total;
     for j in (kept..tried).rev() {
         let x = usize::from(movers[j]) - 1;
-        t = transfer(
+        t = take_back(
             counts, visited, gains, blocks, loads, board, t, x, origins[j],
         );
     }

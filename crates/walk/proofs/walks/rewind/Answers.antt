@@ -25,13 +25,13 @@ pub bounds-origins-j : goal.bounds-origins-j
 bounds-origins-j c =
     omega (arith, c.requires.tried-to, c.loop-j-test, c.loop-j.auto)
 
-pub transfer-t-requires : goal.transfer-t-requires
-transfer-t-requires c =
+pub take_back-t-requires : goal.take_back-t-requires
+take_back-t-requires c =
     rewind-asks _ _ _ _ _ _ c.loop-j.j _ c.requires c.loop-j.invariant.1 (omega (arith, c.loop-j-test)) c.from-x.ensures
 
 pub loop-j-preserved : goal.loop-j-preserved
 loop-j-preserved c =
-    (omega (arith, c.loop-j-test), λ aboves loaded. rewind-more _ _ _ _ c.loop-j.j c.from-x.result refl refl refl refl refl (c.loop-j.invariant.1 aboves loaded) c.loop-j-test.true (omega (arith, c.from-x.ensures, rewind-from _ _ _ _ _ _ c.loop-j.j c.requires c.loop-j.invariant.1 (omega (arith, c.loop-j-test)))) (c.transfer-t.ensures aboves loaded))
+    (omega (arith, c.loop-j-test), λ aboves loaded. rewind-more _ _ _ _ c.loop-j.j c.from-x.result refl refl refl refl refl (c.loop-j.invariant.1 aboves loaded) c.loop-j-test.true (omega (arith, c.from-x.ensures, rewind-from _ _ _ _ _ _ c.loop-j.j c.requires c.loop-j.invariant.1 (omega (arith, c.loop-j-test)))) (c.take_back-t.ensures aboves loaded))
 
 pub returns : goal.returns
 returns c = λ aboves loaded. rewind-done _ _ _ _ c.loop-j.j (c.loop-j.invariant.1 aboves loaded) c.loop-j.invariant.0 c.loop-j-test.false
