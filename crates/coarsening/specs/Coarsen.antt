@@ -333,3 +333,9 @@ board-all blocks i n c e l q = (q ∙ ap (board_in blocks) e, omega (arith, coun
 pub placed-as : (b : Bool) {w : ℕ} → w ≡ from_bool b → (w ≡ one b) × (w ≤ 1)
 placed-as true e = (e, omega (arith, e))
 placed-as false e = (e, omega (arith, e))
+
+pub placed-none : (b : ℕ) → b ≡ 0 → 0 ≡ one (ltb 0 b)
+placed-none b e = sym (ap one (le-ltb 0 b (omega arith)))
+
+pub placed-some : (b : ℕ) → (b ≡ 0 → ⊥) → 1 ≡ one (ltb 0 b)
+placed-some b n = sym (ap one (lt-ltb 0 b (omega (arith, n))))

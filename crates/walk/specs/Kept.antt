@@ -2,7 +2,8 @@
 -- tables, and that this is model's. Rests on operations's Tables. Assumes nothing.
 use Rattle.std.specs.Prelude.{ℕ, ◌+◌, ◌-◌, max, ◌≡◌, Bool, true, false, ◌&&◌, ◌||◌, cond, List, eqb, ltb, get_or, Some}
 use Rattle.std.specs.Ordering.{partial_lt, partial_ordering_then, nat_cmp, is_some_and, is_lt}
-use Rattle.std.proofs.Common.{arith, refl, Less, Equal, Greater, sym, ap, ◌∙◌}
+use Rattle.std.proofs.Common.{arith, refl, Less, Equal, Greater, sym, ap, ◌∙◌, eq-eqb, ne_eqb, le-ltb}
+use Rattle.std.proofs.Math.Bool.{or-false}
 use Rattle.laws.specs.Sum.{fold_to, fold_to-zero, fold_to-step, fold_to-ext}
 use Rattle.model.specs.Catalogue.{Hypergraph}
 use Rattle.model.specs.Measure.{Contraction, block_weight, heaviest}
@@ -48,6 +49,16 @@ before false false r s = refl
 pub order-is : (total heavy low most : ℕ) → partial_lt {X = ℕ × ℕ} (λ x y. partial_ordering_then (Some (nat_cmp x.0 y.0)) (Some (nat_cmp x.1 y.1))) (total, heavy) (low, most) ≡ is_kept (worth total heavy) (worth low most)
 unfolding is_kept
 order-is total heavy low most = before (ltb total low) (eqb total low) (ltb heavy most) (eqb heavy most)
+
+-- ---- the order, by one test for each number
+pub tie-is : (total heavy low most : ℕ) → total ≡ low → ltb heavy most ≡ is_kept (worth total heavy) (worth low most)
+unfolding is_kept
+tie-is total heavy low most e = sym (
+    ap (λ (t : Bool). t || (eqb total low && ltb heavy most)) (le-ltb total low (omega arith)) ∙ ap (λ (t : Bool). t && ltb heavy most) (eq-eqb total low e))
+
+pub apart-is : (total heavy low most : ℕ) → (total ≡ low → ⊥) → ltb total low ≡ is_kept (worth total heavy) (worth low most)
+unfolding is_kept
+apart-is total heavy low most n = sym (ap (λ (t : Bool). ltb total low || (t && ltb heavy most)) (ne_eqb total low n) ∙ or-false (ltb total low))
 
 -- what is kept, by the test's answer
 pub choice-new : {X : Type 0} {x : X} (y : X) {q r : Bool} → r ≡ q → r ≡ true → x ≡ cond q x y
