@@ -59,9 +59,11 @@ pub fn share_row(
     requires q_bound { (16 * q < 2 ^ 64) × (16 * e < 2 ^ 64) }
     ensures { Raised (λ j. signed take (share counts.now (16 * e) own w j)) (16 * q) k gains.old gains.new }
 {
-    let freed = when_is(counts[16 * e + own], 1, w);
+    let row = 16 * q;
+    let crow = 16 * e;
+    let freed = when_is(counts[crow + own], 1, w);
     for x in 0..k {
-        let share = share_of(counts, 16 * e, own, w, x, freed);
-        add_at(gains, 16 * q + x, signed(take, share));
+        let share = share_of(counts, crow, own, w, x, freed);
+        add_at(gains, row + x, signed(take, share));
     }
 }
