@@ -95,7 +95,9 @@ fn raise(pins: &mut [u16], from: usize, p: usize, to: usize)
     requires { (from ≤ to) × (to + p ≤ length pins.old) }
     ensures { Raised from p to 0 pins.old pins.new }
 {
-    pins.copy_within(from..from + p, to);
+    for i in (0..p).rev() {
+        pins[to + i] = pins[from + i];
+    }
 }
 
 // A net's `p` pins from `from` on moved to `to` on, and `v` behind them where `b` is 1.
