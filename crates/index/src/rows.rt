@@ -46,12 +46,15 @@ pub fn put_right(index: &mut [u16], gains: &[i32], blocks: &[u16], x: usize, k: 
     set_row(index, gains, blocks, x, k);
 }
 
-// Makes the rows of the `n` vertices right.
+// Makes the rows of the `n` vertices right. Most are: so the test stands in the loop, and not in `put_right`, which the compiler calls for each row.
 pub fn put_all_right(index: &mut [u16], gains: &[i32], blocks: &[u16], n: usize, k: usize)
     requires { TablesOk (length index.old) (length gains.now) blocks.now n k }
     ensures { Indexed gains.now blocks.now n k index.old index.new }
 {
     for x in 0..n {
-        put_right(index, gains, blocks, x, k);
+        if is_right(index, gains, blocks, x, k) {
+            continue;
+        }
+        set_row(index, gains, blocks, x, k);
     }
 }
