@@ -86,8 +86,8 @@ pub fn run_machine(
                 ..course
             }
         }
-        Err(refusal) => Course {
-            at: put_answer(output, course.at, Err(refusal.number())),
+        Err(refused) => Course {
+            at: put_answer(output, course.at, Err(refused.number())),
             ..course
         },
     }

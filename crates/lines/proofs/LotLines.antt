@@ -7,6 +7,7 @@ use native.Mathlib.Omega.{arith}
 use lib.Dec.{eqb, leb, ltb}
 use lib.ListN.{get_or, drop}
 use lib.Seq.{slice}
+use Rattle.std.proofs.Math.Decide.{ℕ_discrete}
 use borrow.Author.Tests.{eq-eqb, ne_eqb, leb-true}
 use Rattle.laws.specs.Choice.{and_right}
 use Rattle.model.specs.Catalogue.{is_block}
@@ -14,10 +15,11 @@ use Rattle.model.specs.Grammar.{Fields, Book, Reading, stopped, at as field_at, 
 use Rattle.text.specs.Field.{form_of, Kept}
 use Rattle.text.proofs.Lines.{kept_at, line-yes, line-no}
 use Rattle.lines.specs.Line.{book, FieldsEnd, numbers_of, bales_refusal, session_refusal, first_of, LotRead}
-use Rattle.std.specs.Prelude.{Ok, Err}
+use Rattle.std.specs.Prelude.{Result, Ok, Err}
+use Rattle.std.specs.Result.{result_and}
 use Rattle.refusal.specs.declared.Refusal.{Refusal}
 use Rattle.refusal.specs.declared.Refusal.TheVariants.{BadlyWritten}
-use Rattle.refusal.specs.Number.{number_of}
+use Rattle.refusal.specs.Number.{number_of, refused_as}
 use Rattle.refusal.proofs.Numbers.{never-none}
 use Rattle.lines.proofs.Asks.{word-LOT}
 
@@ -89,6 +91,18 @@ first-refused one other r e = ap (λ (t : Bool). cond t other one) (ne_eqb one 0
 
 pub second-refused : (one other : ℕ) → one ≡ 0 → first_of one other ≡ other
 second-refused one other e = ap (λ (t : Bool). cond t other one) (eq-eqb one 0 e)
+
+pub both-pass : (one other : ℕ) → ◌≡◌ {A = ℕ} 0 (first_of one other) → ◌≡◌ {A = ℕ} 0 other
+both-pass one other z = go (ℕ_discrete one 0)
+  where
+    go : Dec (one ≡ 0) → ◌≡◌ {A = ℕ} 0 other
+    go (yes e) = z ∙ second-refused one other e
+    go (no n) = absurd (n (sym (z ∙ ap (λ (t : Bool). cond t other one) (ne_eqb one 0 n))))
+
+-- two checks, of which the first that refuses is told
+pub checks-in-turn : {A : Type 0} (one other : Result A Refusal) {r : Result A Refusal} → r ≡ result_and one other → refused_as r ≡ first_of (refused_as one) (refused_as other)
+checks-in-turn (Ok a) other e = ap refused_as e ∙ sym (second-refused 0 (refused_as other) refl)
+checks-in-turn (Err q) other e = ap refused_as e ∙ sym (first-refused (number_of q) (refused_as other) q refl)
 
 -- ---- where the fields end at `last`, and the form is told
 pub numbers-low : (estimated : Bool) → 2 ≤ numbers_of estimated

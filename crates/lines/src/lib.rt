@@ -307,8 +307,9 @@ pub fn lot_line(
     let low = values[0];
     let high = values[numbers - 2];
     let block = values[numbers - 1];
-    check_bales(low, high)?;
-    check_session(block, blocks)?;
+    let bales = check_bales(low, high);
+    let session = check_session(block, blocks);
+    bales.and(session)?;
     Ok(Lot {
         low,
         high,

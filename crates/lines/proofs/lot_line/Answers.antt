@@ -1,7 +1,9 @@
 -- `lines::lot_line` meets its contract.
-use Rattle.std.proofs.Common.{arith, sym, ◌∙◌}
+use Rattle.std.proofs.Common.{◌-◌, arith, sym, ap₂, ◌∙◌, get_or}
 use Rattle.std.proofs.lemmas.Result.{err_from_is_err_and}
-use Rattle.lines.proofs.LotLines.{numbers-low, numbers-high, lot-form, lot-refused, lot-read, lot-block, first-refused, second-refused}
+use Rattle.refusal.specs.Number.{refused_as}
+use Rattle.lines.specs.Line.{first_of}
+use Rattle.lines.proofs.LotLines.{numbers-low, numbers-high, lot-form, lot-refused, lot-read, lot-block, both-pass, checks-in-turn}
 use Rattle.lines.proofs.lot_line.Goals as goal
 
 pub overflow_add-numbers : goal.overflow_add-numbers
@@ -40,29 +42,19 @@ pub bounds-values-numbers-2 : goal.bounds-values-numbers-2
 bounds-values-numbers-2 c =
     omega (arith, numbers-high c.args.estimated, c.numbers_of-numbers.ensures)
 
-pub returns-in_err-check_bales : goal.returns-in_err-check_bales
-returns-in_err-check_bales c =
+pub returns-in_err-and : goal.returns-in_err-and
+returns-in_err-and c =
     let a = c.args in
     let last = c.before_k-last in
     let m = c.numbers_of-numbers in
     let r = c.read_line in
     let p = err_from_is_err_and c.from_residual.result c.from_residual.ensures.1 in
     rw (p.1, p.2) (lot-refused a.s.now a.at a.end last.result m.result r.result a.blocks a.estimated last.ensures m.ensures r.ensures.0 c.if-read_line-numbers.false r.new.values r.ensures.1 _
-    (first-refused _ _ _ (sym c.in_err-check_bales.ensures)))
-
-pub returns-in_err-check_session : goal.returns-in_err-check_session
-returns-in_err-check_session c =
-    let a = c.args in
-    let last = c.before_k-last in
-    let m = c.numbers_of-numbers in
-    let r = c.read_line in
-    let p = err_from_is_err_and c.from_residual-in_err-check_session.result c.from_residual-in_err-check_session.ensures.1 in
-    rw (p.1, p.2) (lot-refused a.s.now a.at a.end last.result m.result r.result a.blocks a.estimated last.ensures m.ensures r.ensures.0 c.if-read_line-numbers.false r.new.values r.ensures.1 _
-    (second-refused _ _ (sym c.in_ok-check_bales.ensures) ∙ sym c.in_err-check_session.ensures))
+    (ap₂ first_of (sym c.check_bales-bales.ensures) (sym c.check_session-session.ensures) ∙ sym (checks-in-turn c.check_bales-bales.result c.check_session-session.result c.in_err-and.ensures)))
 
 pub overflow_cast-result : goal.overflow_cast-result
 overflow_cast-result c =
-    omega (arith, c.ranges.blocks, lot-block _ c.args.blocks c.in_ok-check_session.ensures)
+    omega (arith, c.ranges.blocks, lot-block (get_or c.read_line.new.values (c.numbers_of-numbers.result - 1) 0) c.args.blocks (both-pass (refused_as c.check_bales-bales.result) (refused_as c.check_session-session.result) (checks-in-turn c.check_bales-bales.result c.check_session-session.result c.in_ok-and.ensures) ∙ c.check_session-session.ensures))
 
 pub returns : goal.returns
 returns c =
@@ -71,4 +63,4 @@ returns c =
     let m = c.numbers_of-numbers in
     let r = c.read_line in
     lot-read a.s.now a.at a.end last.result m.result r.result a.blocks a.estimated last.ensures m.ensures r.ensures.0 c.if-read_line-numbers.false r.new.values r.ensures.1
-    (second-refused _ _ (sym c.in_ok-check_bales.ensures) ∙ sym c.in_ok-check_session.ensures)
+    (ap₂ first_of (sym c.check_bales-bales.ensures) (sym c.check_session-session.ensures) ∙ sym (checks-in-turn c.check_bales-bales.result c.check_session-session.result c.in_ok-and.ensures))
