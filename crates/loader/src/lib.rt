@@ -41,6 +41,16 @@ pub struct Loaded {
     pub calls: usize,
 }
 
+// The first n entries become those of `from`.
+fn copy(from: &[u16], to: &mut [u16], n: usize)
+    requires { (n ≤ length from.now) × (n ≤ length to.old) }
+    ensures { Filled 0 (λ i. ltb i n) (λ i. get_or from.now i 0) to.old to.new }
+{
+    for i in 0..n {
+        to[i] = from[i];
+    }
+}
+
 // No lot is joined into another, and the present marks are the loaded ones, each buyer's in order.
 fn start(
     vertices: usize,
@@ -59,9 +69,9 @@ fn start(
         × Filled 0 (λ i. ltb i nets) (λ i. get_or loadedsizes.now i 0) presentsizes.old presentsizes.new }
 {
     aboves[..vertices].fill(0);
-    presentpins[..m].copy_from_slice(&loadedpins[..m]);
+    copy(loadedpins, presentpins, m);
     sort_nets(presentpins, loadedsizes, nets);
-    presentsizes[..nets].copy_from_slice(&loadedsizes[..nets]);
+    copy(loadedsizes, presentsizes, nets);
 }
 
 // The sizes of an accepted catalogue, with ⌈W/k⌉ and the cap, which are of the lows.

@@ -157,7 +157,9 @@ pub fn copy(from: &[u16], to: &mut [u16], n: usize)
     requires { (n ≤ length from.now) × (n ≤ length to.old) }
     ensures { Wrote 0 n (λ i. get_or from.now i 0) to.old to.new }
 {
-    to[..n].copy_from_slice(&from[..n]);
+    for i in 0..n {
+        to[i] = from[i];
+    }
 }
 
 // The first `n` words become 0.
