@@ -1,4 +1,5 @@
-// One call line of a list: a call of the machine, X or N; the line of its answer goes to the output.
+// One call line of a list: a call of the machine, X or N; the line of its answer goes to the output. X and N return at once when refused, with a
+// copy of the course: a course made anew in both arms, with some 5 KB of tables, would be copied once more on either way.
 ghost use Rattle.std.specs.Prelude.{length};
 ghost use Rattle.model.specs.Sale.{runs, call_x, call_n};
 ghost use Rattle.any_call.specs.Kinds.{any_call};
@@ -124,7 +125,7 @@ pub fn withdraw(
         (point_of counts.new visited.new gains.new index.new presentpins.new presentsizes.new bits.new blocks.new weights.new aboves.new fixed.new loads.new loadedpins.new firsts.new loadedsizes.new netweights.now frame.m frame.k result)
         output.old output.new course.at result.at }
 {
-    match call_withdraw(
+    let turn = match call_withdraw(
         counts,
         visited,
         gains,
@@ -151,27 +152,27 @@ pub fn withdraw(
         course.journal,
         v,
     ) {
-        Ok(turn) => {
-            let end = put_answer(
-                output,
-                course.at,
-                Ok(Answer::Withdrawn { total: turn.total }),
-            );
-            let fixedmarks = mark_fixed(fixed, course.n);
-            Course {
-                journal: turn.journal,
-                free: turn.free,
-                fixedmarks,
-                marks: turn.marks,
-                total: turn.total,
-                at: end,
-                ..course
-            }
+        Ok(turn) => turn,
+        Err(refusal) => {
+            let mut kept = course;
+            kept.at = put_answer(output, course.at, Err(refusal.number()));
+            return kept;
         }
-        Err(refusal) => Course {
-            at: put_answer(output, course.at, Err(refusal.number())),
-            ..course
-        },
+    };
+    let end = put_answer(
+        output,
+        course.at,
+        Ok(Answer::Withdrawn { total: turn.total }),
+    );
+    let fixedmarks = mark_fixed(fixed, course.n);
+    Course {
+        journal: turn.journal,
+        free: turn.free,
+        fixedmarks,
+        marks: turn.marks,
+        total: turn.total,
+        at: end,
+        ..course
     }
 }
 
@@ -208,7 +209,7 @@ pub fn add(
         (point_of counts.new visited.new gains.new index.new presentpins.new presentsizes.new bits.new blocks.new weights.new aboves.new fixed.new loads.new loadedpins.new firsts.new loadedsizes.new netweights.now frame.m frame.k result)
         output.old output.new course.at result.at }
 {
-    match call_add(
+    let turn = match call_add(
         counts,
         visited,
         gains,
@@ -240,31 +241,31 @@ pub fn add(
         bales,
         session,
     ) {
-        Ok(turn) => {
-            let lot = turn.lot as u32;
-            let end = put_answer(
-                output,
-                course.at,
-                Ok(Answer::Added {
-                    lot,
-                    total: turn.total,
-                }),
-            );
-            let fixedmarks = mark_fixed(fixed, turn.n);
-            Course {
-                journal: turn.journal,
-                free: turn.free,
-                fixedmarks,
-                n: turn.n,
-                marks: turn.marks,
-                total: turn.total,
-                at: end,
-                ..course
-            }
+        Ok(turn) => turn,
+        Err(refusal) => {
+            let mut kept = course;
+            kept.at = put_answer(output, course.at, Err(refusal.number()));
+            return kept;
         }
-        Err(refusal) => Course {
-            at: put_answer(output, course.at, Err(refusal.number())),
-            ..course
-        },
+    };
+    let lot = turn.lot as u32;
+    let end = put_answer(
+        output,
+        course.at,
+        Ok(Answer::Added {
+            lot,
+            total: turn.total,
+        }),
+    );
+    let fixedmarks = mark_fixed(fixed, turn.n);
+    Course {
+        journal: turn.journal,
+        free: turn.free,
+        fixedmarks,
+        n: turn.n,
+        marks: turn.marks,
+        total: turn.total,
+        at: end,
+        ..course
     }
 }

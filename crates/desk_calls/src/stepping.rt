@@ -202,7 +202,7 @@ fn relay(
     }
 }
 
-// N.
+// N; refused, it returns at once with a copy of the course, as a sale's does.
 pub fn put_lot(
     output: &mut [u8],
     counts: &mut [u16],
@@ -238,7 +238,7 @@ pub fn put_lot(
         (point_of counts.new visited.new gains.new index.new presentpins.new presentsizes.new bits.new blocks.new weights.new aboves.new fixed.new loads.new loadedpins.new firsts.new loadedsizes.new netweights.now frame.m frame.k result)
         output.old output.new course.at result.at }
 {
-    match call_add(
+    let turn = match call_add(
         counts,
         visited,
         gains,
@@ -270,34 +270,32 @@ pub fn put_lot(
         bales,
         session,
     ) {
-        Ok(turn) => {
-            let lot = turn.lot as u32;
-            let end = put_answer(
-                output,
-                course.at,
-                Ok(Answer::Added {
-                    lot,
-                    total: turn.total,
-                }),
-            );
-            let fixedmarks = mark_fixed(fixed, turn.n);
-            Course {
-                journal: turn.journal,
-                free: turn.free,
-                fixedmarks,
-                n: turn.n,
-                marks: turn.marks,
-                total: turn.total,
-                at: end,
-                ..course
-            }
-        }
+        Ok(turn) => turn,
         Err(refusal) => {
             let told = relay(loads, cap, frame.k, refusal, bales, session);
-            Course {
-                at: put_answer(output, course.at, Err(told.number())),
-                ..course
-            }
+            let mut kept = course;
+            kept.at = put_answer(output, course.at, Err(told.number()));
+            return kept;
         }
+    };
+    let lot = turn.lot as u32;
+    let end = put_answer(
+        output,
+        course.at,
+        Ok(Answer::Added {
+            lot,
+            total: turn.total,
+        }),
+    );
+    let fixedmarks = mark_fixed(fixed, turn.n);
+    Course {
+        journal: turn.journal,
+        free: turn.free,
+        fixedmarks,
+        n: turn.n,
+        marks: turn.marks,
+        total: turn.total,
+        at: end,
+        ..course
     }
 }

@@ -31,8 +31,8 @@ put_answer-requires c =
     let can = c.requires in
     rw c.number.ensures (late-fits can (at-limit can.a (call_n _ _ _) can.under.lots-are (c.in-Err.ensures.turns can.limits can.a _ (capacities can.a.graph) (asks-add can.goes can.under))).says)
 
-pub returns-in-Ok : goal.returns-in-Ok
-returns-in-Ok c = record {
+pub returns : goal.returns
+returns c = record {
   went = λ limits a old g u.
       let turns = (at-limit a (call_n _ _ _) u.lots-are (c.in-Ok.ensures.turns limits a _ (capacities a.graph) (asks-add g u))) in
       went-add {no = 0} g

@@ -26,8 +26,8 @@ put_answer-requires c =
     let can = c.requires in
     rw c.number.ensures (late-fits can (c.in-Err.ensures.turns can.limits can.a _ (space_of can.limits) (capacities can.a.graph) refl can.goes.stands).says)
 
-pub returns-in-Ok : goal.returns-in-Ok
-returns-in-Ok c = record {
+pub returns : goal.returns
+returns c = record {
   went = λ limits a old g u. went-withdraw {no = 0} g
       (record {
         turns = c.in-Ok.ensures.turns limits a _ (space_of limits) (capacities a.graph) refl g.stands;

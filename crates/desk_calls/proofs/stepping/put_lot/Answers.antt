@@ -41,8 +41,8 @@ put_answer-requires c =
     let can = c.requires in
     rw c.number.ensures (add-fits can (told-by _ c.relay-told.ensures (sym (told_no _ (says_n 0 0) (number-some _))) ∙ add-says can.stays _ _ _ _ 0 0 (turns_told _ (says_n 0 0) (c.in-Err.ensures.turns main_limits can.a _ (ceiling_beside can.o can.a.graph) (asks-add can.stays))) (λ _. c.in-Err.ensures.len_after)))
 
-pub returns-in-Ok : goal.returns-in-Ok
-returns-in-Ok c = record {
+pub returns : goal.returns
+returns c = record {
   went = λ o a old y. went-add y _ _ _ 0 _ _ (c.in-Ok.ensures.turns main_limits a _ (ceiling_beside o a.graph) (asks-add y)) (λ l. absurd (omega (arith, l))) (λ _. c.in-Ok.ensures.spared) refl refl c.in-Ok.ensures.all_right c.mark_fixed-fixedmarks.ensures
       (told-by _ (sym (by-none _)) refl) c.put_answer-end.ensures;
 }
